@@ -1,0 +1,2 @@
+-- The laws of document 01's definitions.
+pub mod Cases

@@ -1,0 +1,141 @@
+-- Document 01, "Numbers for refused work": a definition for each row of the table, and the outcome of a call as the
+-- first of its order. A row says, for each place, whether the refusal is given there. Where it speaks of tokens,
+-- expressions or records, what these are is a parameter: the crate that reads texts or files says it.
+use Prim.Native.Nat.{ℕ, _-_, _/_, _<_, _≤_}
+use mathlib.Core.Bool.{true}
+use mathlib.Core.Logic.{_⊎_}
+use mathlib.Core.Path.{_≡_}
+use mathlib.Core.List.{List, [], _∷_}
+use lib.ListN.{length, getD}
+use Rattle.alf.specs.declared.Outcome.{Outcome}
+use Rattle.alf.specs.declared.Outcome.the-variants.{Done, Refused}
+use Rattle.alf.specs.Names.{GoodSlot}
+use Rattle.alf.specs.Alternatives.{Alternative, overLimit}
+
+abbrev pub Row : Type 1
+Row = ℕ → Type 0
+
+-- at one place, if something is so
+pub record At (place : ℕ) (so : Type 0) (p : ℕ) : Type 0 where
+  pub given : so
+  pub there : p ≡ place
+
+-- at the first place where something is so
+pub record First (so : ℕ → Type 0) (p : ℕ) : Type 0 where
+  pub given : so p
+  pub before : (i : ℕ) → i < p → so i → ⊥
+
+-- at the place of the first of some things, in their order, of which something is so
+pub record FirstOf (so : ℕ → Type 0) (place : ℕ → ℕ) (p : ℕ) : Type 0 where
+  pub which : ℕ
+  pub first : First so which
+  pub there : p ≡ place which
+
+-- 1: text over 4,096 bytes, read or to be written; 4,096
+abbrev pub too-long : ℕ → Row
+too-long bytes = At 4096 (4096 < bytes)
+
+-- 2: bytes that form no token; byte
+abbrev pub no-token : (ℕ → Type 0) → Row
+no-token formsNone = First formsNone
+
+-- 3: brackets open more than 32 deep; byte. `depth` is how many are open behind the token at a byte.
+abbrev pub too-deep : (ℕ → ℕ) → Row
+too-deep depth = First (λ p. 32 < depth p)
+
+-- 4: more than 256 tokens, brackets and `:` not counted; byte. `counted` is how many there are up to a token's byte.
+abbrev pub too-many-tokens : (ℕ → ℕ) → Row
+too-many-tokens counted = First (λ p. 256 < counted p)
+
+-- 5: grammar; the first token with which no expression goes on; byte, or text length
+abbrev pub no-grammar : (ℕ → Type 0) → Row
+no-grammar stuck = First stuck
+
+-- 6: name not in the list handed in; byte
+abbrev pub unknown-name : (ℕ → Type 0) → Row
+unknown-name unknown = First unknown
+
+-- 7: sort; byte. The first faulty operator, operands before operator, left before right: counted in that order.
+abbrev pub wrong-sort : (ℕ → Type 0) → (ℕ → ℕ) → Row
+wrong-sort faulty byte = FirstOf faulty byte
+
+-- 8: over 64 alternatives, 16 steps, or 64 tests in one alternative; 0
+abbrev pub over-limits : List Alternative → Row
+over-limits xs = At 0 (overLimit xs ≡ true)
+
+-- 9: output longer than the lent buffer; length needed. Of several outputs, the first short one.
+abbrev pub no-room : ℕ → ℕ → Row
+no-room needed room = At needed (room < needed)
+
+-- 10: handed-in tree that no text gives, alternatives or a queue that cannot be; 0
+abbrev pub cannot-be : Type 0 → Row
+cannot-be bad = At 0 bad
+
+-- 11: wrong mark at this place, 33rd name, or 65,536th row; byte. 12: name empty, over 32, not a name, or a repeat;
+-- byte. 13: time not above the last row's; byte. 15: state code above 7; byte. At the first such record, in file order.
+abbrev pub in-record : (ℕ → Type 0) → (ℕ → ℕ) → Row
+in-record faulty byte = FirstOf faulty byte
+
+-- 12, of a list of names: index. The first slot that is not good.
+abbrev pub bad-slot : List ℕ → Row
+bad-slot names = First (λ k. (k < length names / 32) × (GoodSlot names k → ⊥))
+
+-- 13, of a list of times: index
+abbrev pub not-above : List ℕ → ℕ → Row
+not-above times r = At r ((0 < r) × (getD times r 0 ≤ getD times (r - 1) 0))
+
+-- 14: file ends inside a record or before `EN`; file length
+abbrev pub cut-short : ℕ → Type 0 → Row
+cut-short bytes ends = At bytes ends
+
+-- 15, of a list of states: index
+abbrev pub bad-code : List ℕ → Row
+bad-code states = First (λ i. (i < length states) × (7 < getD states i 0))
+
+-- 16: `EN` count wrong; byte. 17: bytes after `EN`; byte
+abbrev pub at-end : ℕ → Type 0 → Row
+at-end byte bad = At byte bad
+
+-- 18: not 1 to 32 names, or, where rows or answers are lent, lists not of exactly n entries, n from 1 to 65,535; 0
+abbrev pub NameCount : ℕ → Type 0
+NameCount k = (1 ≤ k) × (k ≤ 32)
+
+abbrev pub RowCount : ℕ → Type 0
+RowCount n = (1 ≤ n) × (n ≤ 65535)
+
+abbrev pub bad-lists : Type 0 → Row
+bad-lists good = At 0 (good → ⊥)
+
+-- 19: row number not below n; 0
+abbrev pub no-such-row : ℕ → ℕ → Row
+no-such-row row n = At 0 (n ≤ row)
+
+-- A call's order: its rows with their numbers, one after the other.
+pub record Check : Type 1 where
+  pub number : ℕ
+  pub row : Row
+
+abbrev pub Order : Type 1
+Order = List Check
+
+abbrev pub check : ℕ → Row → Check
+check n r = record { number = n; row = r }
+
+-- nothing of the row holds anywhere
+abbrev pub Never : Check → Type 0
+Never c = (p : ℕ) → c .row p → ⊥
+
+-- refused with number n at place p: the row of that number holds there, and no earlier row of the order holds anywhere
+unfoldable pub RefusedWith : Order → ℕ → ℕ → Type 0
+RefusedWith [] n p = ⊥
+RefusedWith (c ∷ cs) n p = ((n ≡ c .number) × c .row p) ⊎ (Never c × RefusedWith cs n p)
+
+-- not refused
+unfoldable pub Passed : Order → Type 0
+Passed [] = Unit {0}
+Passed (c ∷ cs) = Never c × Passed cs
+
+-- the outcome of a call: done where no row of its order holds, with the count that is made; else refused
+unfoldable pub Comes : Order → (ℕ → Type 0) → Outcome → Type 0
+Comes order made (Done k) = Passed order × made k
+Comes order made (Refused r) = RefusedWith order (r .number) (r .place)

@@ -1,0 +1,118 @@
+-- Document 01, "Table T and its answers": the trace, and the cases 1 to 12 as a table.
+use Prim.Native.Nat.{ℕ, zero, suc, _+_, _-_, _*_, min}
+use mathlib.Core.Bool.{Bool, true, false, _&&_}
+use mathlib.Core.List.{List, [], _∷_, _++_}
+use lib.Dec.{eqb}
+use lib.ListN.{length}
+use Rattle.alf.specs.States.{X, H, Z}
+use Rattle.alf.specs.Expressions.{Boolean, name, literal, binary, choice, and, or, equals}
+use Rattle.alf.specs.Expressions.{the, Edge, pair, changes}
+use Rattle.alf.specs.Expressions.{Vector, edge, join, while, on-right, followed-by, any-order, with}
+use Rattle.alf.specs.Values.{stateAt, valueAt}
+use Rattle.alf.specs.Windows.{rowAnswer, numberOf}
+use Rattle.alf.specs.Alternatives.{stepsOf}
+use Rattle.alf.specs.Traces.{corrected, lastRewritten}
+
+-- Names A B C; times 0, 10, 20, 35, 40, 55; rows 011 111 10X X01 1Z1 10H
+abbrev pub names : ℕ
+names = 3
+
+abbrev pub rows : ℕ
+rows = 6
+
+abbrev pub A : Boolean
+A = name 0
+
+abbrev pub B : Boolean
+B = name 1
+
+abbrev pub C : Boolean
+C = name 2
+
+unfoldable pub times : List ℕ
+times = 0 ∷ 10 ∷ 20 ∷ 35 ∷ 40 ∷ 55 ∷ []
+
+unfoldable pub states : List ℕ
+states =
+    (0 ∷ 1 ∷ 1 ∷ [])
+    ++ ((1 ∷ 1 ∷ 1 ∷ [])
+    ++ ((1 ∷ 0 ∷ X ∷ [])
+    ++ ((X ∷ 0 ∷ 1 ∷ [])
+    ++ ((1 ∷ Z ∷ 1 ∷ [])
+    ++ (1 ∷ 0 ∷ H ∷ [])))))
+
+-- the edges 01, 10 and 'bX'b1
+abbrev pub rise : Edge
+rise = pair (the 0) (the 1)
+
+abbrev pub fall : Edge
+fall = pair (the 1) (the 0)
+
+abbrev pub settle : Edge
+settle = pair (the X) (the 1)
+
+-- an expression with its answers at rows 0 to 5; with its values; with a row to correct, that row's new states, the
+-- answers then, and the entries rewritten
+pub data Case : Type 0 where
+  answers : Vector → List ℕ → Case
+  values : Boolean → List ℕ → Case
+  correction : Vector → ℕ → List ℕ → List ℕ → List ℕ → Case
+
+-- 01 A -> 10 B
+abbrev pub pulse : Vector
+pulse = join followed-by (edge rise A) (edge fall B)
+
+unfoldable pub cases : List Case
+cases =
+    -- 1: 01 A
+    answers (edge rise A) (3 ∷ 1 ∷ 0 ∷ 0 ∷ 2 ∷ 0 ∷ [])
+    -- 2: 01 A -> 10 B
+    ∷ answers pulse (3 ∷ 0 ∷ 1 ∷ 0 ∷ 0 ∷ 2 ∷ [])
+    -- 3: ( 01 A -> 10 B ) & C
+    ∷ answers (while on-right pulse C) (3 ∷ 0 ∷ 2 ∷ 0 ∷ 0 ∷ 2 ∷ [])
+    -- 4: 01 ( A & B )
+    ∷ answers (edge rise (binary and A B)) (3 ∷ 1 ∷ 0 ∷ 0 ∷ 2 ∷ 0 ∷ [])
+    -- 5: 'bX'b1 A
+    ∷ answers (edge settle A) (3 ∷ 0 ∷ 0 ∷ 0 ∷ 1 ∷ 0 ∷ [])
+    -- 6: ?! B
+    ∷ answers (edge changes B) (3 ∷ 0 ∷ 1 ∷ 0 ∷ 1 ∷ 1 ∷ [])
+    -- 7: 01 A <&> 10 B
+    ∷ answers (join any-order (edge rise A) (edge fall B)) (3 ∷ 0 ∷ 1 ∷ 0 ∷ 0 ∷ 2 ∷ [])
+    -- 8: A ? C : 'bZ
+    ∷ values (choice A C (literal Z)) (Z ∷ 1 ∷ X ∷ X ∷ 1 ∷ 1 ∷ [])
+    -- 9: C == 'bH
+    ∷ values (binary equals C (literal H)) (0 ∷ 0 ∷ 0 ∷ 0 ∷ 0 ∷ 1 ∷ [])
+    -- 10: A | B
+    ∷ values (binary or A B) (1 ∷ 1 ∷ 1 ∷ X ∷ 1 ∷ 1 ∷ [])
+    -- 11: 10 C & ( 01 A -> 10 B )
+    ∷ answers (join with (edge fall C) pulse) (3 ∷ 0 ∷ 2 ∷ 0 ∷ 0 ∷ 0 ∷ [])
+    -- 12: case 1, row 3 corrected to 001; entries 3 and 4 rewritten
+    ∷ correction (edge rise A) 3 (0 ∷ 0 ∷ 1 ∷ []) (3 ∷ 1 ∷ 0 ∷ 0 ∷ 1 ∷ 0 ∷ []) (3 ∷ 4 ∷ [])
+    ∷ []
+
+-- f a, f (a+1), .., n of them
+unfoldable pub list : ℕ → ℕ → (ℕ → ℕ) → List ℕ
+list a zero f = []
+list a (suc n) f = f a ∷ list (a + 1) n f
+
+unfoldable pub same : List ℕ → List ℕ → Bool
+same [] [] = true
+same [] (y ∷ ys) = false
+same (x ∷ xs) [] = false
+same (x ∷ xs) (y ∷ ys) = eqb x y && same xs ys
+
+-- the numbers that a vector expression answers on a trace of six rows, and the entries that a correction rewrites
+abbrev pub numbers : List ℕ → Vector → List ℕ
+numbers trace p = list 0 rows (λ i. numberOf (rowAnswer (stateAt names trace) p i))
+
+abbrev pub entries : Vector → ℕ → List ℕ
+entries p r = list r (lastRewritten (stepsOf p) rows r + 1 - r) (λ i. i)
+
+unfoldable pub holds : Case → Bool
+holds (answers p ns) = same (numbers states p) ns
+holds (values c vs) = same (list 0 rows (valueAt names states c)) vs
+holds (correction p r new ns es) = same (numbers (corrected names states r new) p) ns && same (entries p r) es
+
+unfoldable pub allHold : List Case → Bool
+allHold [] = true
+allHold (c ∷ cs) = holds c && allHold cs
