@@ -1,2 +1,6 @@
 -- The laws of document 01's definitions.
+pub mod Bools
+pub mod Tables
+pub mod Masks
+pub mod EdgeNumbers
 pub mod Cases
