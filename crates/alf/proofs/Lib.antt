@@ -1,5 +1,7 @@
 -- The laws of document 01's definitions.
 pub mod Bools
+pub mod Extremes
+pub mod Steps
 pub mod Tables
 pub mod Masks
 pub mod EdgeNumbers
