@@ -2,6 +2,8 @@
 pub mod Bools
 pub mod Extremes
 pub mod Steps
+pub mod Lifting
+pub mod Joins
 pub mod Tables
 pub mod Masks
 pub mod EdgeNumbers
