@@ -11,17 +11,8 @@ use mathlib.Core.List.{List, [], _∷_, _++_, map}
 use mathlib.Core.Logic.{_⊎_, inl, inr}
 use Prim.Native.Nat.{ℕ, zero, suc, _+_, _<_, _≤_, min, max}
 use native.Mathlib.Omega.{arith}
-use lib.Dec.{eqb}
-use borrow.Author.Tests.{eqb-true, eqb-false}
 use Rattle.alf.specs.Words.{greatest, least, greatestOf, leastOf}
-
--- two numbers are equal or not
-pub equal? : (m n : ℕ) → (m ≡ n) ⊎ (m ≡ n → ⊥)
-equal? m n = go (eqb m n) refl
-  where
-    go : (q : Bool) → eqb m n ≡ q → (m ≡ n) ⊎ (m ≡ n → ⊥)
-    go true e = inl (eqb-true m n e)
-    go false e = inr (eqb-false m n e)
+use Rattle.alf.proofs.Bools.{equal?}
 
 pub greatest-same : (n : ℕ) (f g : ℕ → ℕ) → ((i : ℕ) → i < n → f i ≡ g i) → greatest n f ≡ greatest n g
 unfolding greatest

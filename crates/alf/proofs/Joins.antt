@@ -12,7 +12,8 @@ use Rattle.alf.specs.Words.{greatest}
 use Rattle.alf.specs.Expressions.{Boolean}
 use Rattle.alf.specs.Windows.{Window, followedBy, either, together}
 use Rattle.alf.specs.Alternatives.{Alternative, overlaid, stepsFrom}
-use Rattle.alf.proofs.Extremes.{equal?, greatest-same, greatest-zero, greatest-one, greatest-max}
+use Rattle.alf.proofs.Bools.{equal?}
+use Rattle.alf.proofs.Extremes.{greatest-same, greatest-zero, greatest-one, greatest-max}
 use Rattle.alf.proofs.Steps.{steps-append, steps-overlaid, overlaid-length}
 use Rattle.alf.proofs.Lifting.{win, win-on, win-off, Lifts}
 

@@ -4,6 +4,7 @@ pub mod Extremes
 pub mod Steps
 pub mod Lifting
 pub mod Joins
+pub mod Overlays
 pub mod Tables
 pub mod Masks
 pub mod EdgeNumbers

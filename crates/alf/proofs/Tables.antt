@@ -4,14 +4,15 @@
 use mathlib.Core.Path.{_≡_, refl}
 use mathlib.Core.Bool.{Bool, true, false, _&&_}
 use mathlib.Core.List.{List, [], _∷_}
-use Prim.Native.Nat.{ℕ, zero, suc, _+_, _<_}
+use mathlib.Core.Logic.{_⊎_, inl, inr}
+use Prim.Native.Nat.{ℕ, zero, suc, _+_, _<_, _≤_}
 use native.Mathlib.Nat.{add-zero, zero-add}
 use native.Mathlib.Omega.{arith}
 use lib.Dec.{ltb}
 use lib.ListN.{length, getD}
-use borrow.Author.Tests.{ltb-true, ltb-false}
+use borrow.Author.Tests.{ltb-true}
 use Rattle.alf.specs.Words.{listed}
-use Rattle.alf.proofs.Bools.{and-left, and-right}
+use Rattle.alf.proofs.Bools.{and-left, and-right, below?}
 
 listed-from : {A : Type 0} (a n k : ℕ) (f : ℕ → A) (d : A) → k < n → getD (listed a n f) k d ≡ f (a + k)
 unfolding listed
@@ -32,11 +33,11 @@ every (suc n) p = p n && every n p
 pub every-at : (n k : ℕ) (p : ℕ → Bool) → every n p ≡ true → k < n → p k ≡ true
 unfolding every
 every-at zero k p t h = absurd (omega arith)
-every-at (suc n) k p t h = go (every-at n k p (and-right (p n) _ t)) (ltb k n) refl
+every-at (suc n) k p t h = go (every-at n k p (and-right (p n) _ t)) (below? k n)
   where
-    go : (k < n → p k ≡ true) → (q : Bool) → ltb k n ≡ q → p k ≡ true
-    go r true e = r (ltb-true k n e)
-    go r false e = let l = ltb-false k n e in let s : k ≡ n = omega arith in rw s (and-left (p n) _ t)
+    go : (k < n → p k ≡ true) → (k < n) ⊎ (n ≤ k) → p k ≡ true
+    go r (inl l) = r l
+    go r (inr l) = let e : k ≡ n = omega arith in rw e (and-left (p n) _ t)
 
 abbrev pub table : (ℕ → ℕ) → List ℕ
 table g = listed 0 8 g
