@@ -3,7 +3,7 @@
 --   greatest-zero, greatest-one   of entries that are no, and all but one
 --   greatest-max                  of the greater of two
 --   least-first                   the first entry apart
---   greatestOf-append, -map, -max, -swap, leastOf-append
+--   greatestOf-append, -map, -same, -swap, leastOf-append, -small
 -- Assumes nothing.
 use mathlib.Core.Path.{_≡_, refl, ap, _∙_}
 use mathlib.Core.Bool.{Bool, true, false}
@@ -85,6 +85,11 @@ module _ {A : Type 0} where
   unfolding greatestOf
   greatestOf-map f g [] = refl
   greatestOf-map f g (x ∷ xs) = let e = greatestOf-map f g xs in omega arith
+
+  pub greatestOf-same : (f g : A → ℕ) (xs : List A) → ((x : A) → f x ≡ g x) → greatestOf f xs ≡ greatestOf g xs
+  unfolding greatestOf
+  greatestOf-same f g [] h = refl
+  greatestOf-same f g (x ∷ xs) h = let e = greatestOf-same f g xs h in let d = h x in omega arith
 
   -- the greatest over a range of the greatest over a list, the other way round
   pub greatestOf-swap : (n : ℕ) (f : ℕ → A → ℕ) (xs : List A)

@@ -2,9 +2,11 @@
 pub mod Bools
 pub mod Extremes
 pub mod Steps
+pub mod Lists
 pub mod Lifting
 pub mod Joins
 pub mod Overlays
+pub mod WindowsAreAlternatives
 pub mod Tables
 pub mod Masks
 pub mod EdgeNumbers

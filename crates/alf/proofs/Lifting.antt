@@ -12,28 +12,12 @@ use Rattle.alf.specs.Words.{greatestOf}
 use Rattle.alf.specs.Expressions.{Boolean}
 use Rattle.alf.specs.Windows.{Window, either}
 use Rattle.alf.specs.Alternatives.{Alternative, each, stepsFrom, onWindow}
+use Rattle.alf.proofs.Lists.{All, none, more}
 use Rattle.alf.proofs.Extremes.{greatestOf-append}
 
 -- every alternative of a list has a step
 abbrev pub Steps : List Alternative → Type 0
-Steps [] = Unit {0}
-Steps (x ∷ xs) = (0 < length x) × Steps xs
-
-pub steps-append : (xs ys : List Alternative) → Steps xs → Steps ys → Steps (xs ++ ys)
-steps-append [] ys s t = t
-steps-append (x ∷ xs) ys s t = (s .0, steps-append xs ys (s .1) t)
-
-pub steps-map : (f : Alternative → Alternative) (xs : List Alternative)
-    → ((x : Alternative) → 0 < length x → 0 < length (f x)) → Steps xs → Steps (map f xs)
-steps-map f [] h s = tt
-steps-map f (x ∷ xs) h s = (h x (s .0), steps-map f xs h (s .1))
-
-pub steps-each : (f : Alternative → Alternative → Alternative) (xs ys : List Alternative)
-    → ((x y : Alternative) → 0 < length x → 0 < length y → 0 < length (f x y)) → Steps xs → Steps ys → Steps (each f xs ys)
-unfolding each
-steps-each f [] ys h s t = tt
-steps-each f (x ∷ xs) ys h s t =
-    steps-append (map (f x) ys) (each f xs ys) (steps-map (f x) ys (λ y k. h x y (s .0) k) t) (steps-each f xs ys h (s .1) t)
+Steps = All (λ x. 0 < length x)
 
 module _ (st : Boolean → ℕ → ℕ) where
   -- what an alternative, and the greatest of some, answers on windows
@@ -64,20 +48,20 @@ module _ (st : Boolean → ℕ → ℕ) where
     one-all : (x : Alternative) (ys : List Alternative) (a b : ℕ) → 0 < length x → Steps ys
         → Op (win x) (most ys) a b ≡ most (map (f x) ys) a b
     unfolding greatestOf either
-    one-all x [] a b h s = L .no-right (win x) a b
-    one-all x (y ∷ ys) a b h s =
+    one-all x [] a b h none = L .no-right (win x) a b
+    one-all x (y ∷ ys) a b h (more k s) =
         let e = L .right (win x) (win y) (most ys) a b in
-        let g = L .one x y a b h (s .0) in
-        let r = one-all x ys a b h (s .1) in
+        let g = L .one x y a b h k in
+        let r = one-all x ys a b h s in
         omega arith
 
     all-all : (xs ys : List Alternative) (a b : ℕ) → Steps xs → Steps ys → Op (most xs) (most ys) a b ≡ most (each f xs ys) a b
     unfolding greatestOf either each
-    all-all [] ys a b s t = L .no-left (most ys) a b
-    all-all (x ∷ xs) ys a b s t =
+    all-all [] ys a b none t = L .no-left (most ys) a b
+    all-all (x ∷ xs) ys a b (more h s) t =
         let e = L .left (win x) (most xs) (most ys) a b in
-        let g = one-all x ys a b (s .0) t in
-        let r = all-all xs ys a b (s .1) t in
+        let g = one-all x ys a b h t in
+        let r = all-all xs ys a b s t in
         let m = greatestOf-append (onWindow st a b) (map (f x) ys) (each f xs ys) in
         omega arith
 

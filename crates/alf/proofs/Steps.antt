@@ -1,5 +1,5 @@
 -- The answers of an alternative, by how it was made. Over any states `st` of the boolean expressions at the rows.
---   steps-small         no answer is above yes
+--   edge-small, step-small, steps-small   no answer is above yes
 --   steps-append        `->`: the steps of one, then of the other
 --   steps-overlaid      `&`: both end together
 --   steps-conditioned   `P & c`: the steps, and the condition at each row
@@ -12,13 +12,18 @@ use Prim.Native.Nat.{ℕ, zero, suc, _+_, _-_, _<_, _≤_, min, max}
 use native.Mathlib.Nat.{add-zero}
 use native.Mathlib.Omega.{arith}
 use lib.ListN.{length, replicate, length-append, length-replicate, length-map}
-use Rattle.alf.specs.Words.{greatest, least, leastOf}
-use Rattle.alf.specs.States.{reduce}
-use Rattle.alf.specs.Expressions.{Boolean, the, pair}
-use Rattle.alf.specs.Windows.{asked, digitAsked, edgeOn, certainty, held}
+use lib.Dec.{eqb}
+use Rattle.alf.specs.Words.{if_then_else_, least, leastOf}
+use Rattle.alf.specs.States.{X, reduce}
+use Rattle.alf.specs.Expressions.{Boolean, Half, any, the, Edge, pair, changes, stays}
+use Rattle.alf.specs.Windows.{isDigit, asked, digitAsked, letterAsked, edgeOn, certainty, held}
 use Rattle.alf.specs.Alternatives.{Test, test, Step, Alternative, padded, zipped, overlaid, conditioned}
 use Rattle.alf.specs.Alternatives.{testAt, stepAt, stepsFrom}
 use Rattle.alf.proofs.Extremes.{least-same, least-first, leastOf-append, leastOf-small}
+
+pick-small : (q : Bool) (x y : ℕ) → x ≤ 2 → y ≤ 2 → (if q then x else y) ≤ 2
+pick-small true x y h k = h
+pick-small false x y h k = k
 
 -- a digit 1 asked of a state is the condition's answer there
 pub asked-one : (s : ℕ) → asked (the 1) s ≡ certainty s
@@ -32,6 +37,21 @@ asked-one (suc (suc (suc (suc (suc zero))))) = refl
 asked-one (suc (suc (suc (suc (suc (suc zero)))))) = refl
 asked-one (suc (suc (suc (suc (suc (suc (suc zero))))))) = refl
 asked-one (suc (suc (suc (suc (suc (suc (suc (suc s)))))))) = refl
+
+-- no literal's and no edge's answer is above yes
+asked-small : (h : Half) (s : ℕ) → asked h s ≤ 2
+unfolding asked digitAsked letterAsked
+asked-small any s = omega arith
+asked-small (the l) s =
+    pick-small (isDigit l) _ _
+    (pick-small (eqb (reduce s) l) _ _ (omega arith) (pick-small (eqb (reduce s) X) _ _ (omega arith) (omega arith)))
+    (pick-small (eqb s l) _ _ (omega arith) (omega arith))
+
+pub edge-small : (e : Edge) (x y : ℕ) → edgeOn e x y ≤ 2
+unfolding edgeOn
+edge-small (pair f t) x y = let h = asked-small f x in omega arith
+edge-small changes x y = pick-small (eqb x y) _ _ (omega arith) (omega arith)
+edge-small stays x y = pick-small (eqb x y) _ _ (omega arith) (omega arith)
 
 padded-length : (k : ℕ) (x : Alternative) → length (padded k x) ≡ k + length x
 unfolding padded
