@@ -7,6 +7,7 @@ pub mod Lifting
 pub mod Joins
 pub mod Overlays
 pub mod WindowsAreAlternatives
+pub mod RowsAreAlternatives
 pub mod Tables
 pub mod Masks
 pub mod EdgeNumbers
