@@ -8,6 +8,8 @@ pub mod Joins
 pub mod Overlays
 pub mod WindowsAreAlternatives
 pub mod RowsAreAlternatives
+pub mod Conditions
+pub mod Nearness
 pub mod Tables
 pub mod Masks
 pub mod EdgeNumbers
