@@ -10,6 +10,7 @@ pub mod WindowsAreAlternatives
 pub mod RowsAreAlternatives
 pub mod Conditions
 pub mod Nearness
+pub mod Growth
 pub mod Tables
 pub mod Masks
 pub mod EdgeNumbers
