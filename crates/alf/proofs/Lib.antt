@@ -11,6 +11,7 @@ pub mod RowsAreAlternatives
 pub mod Conditions
 pub mod Nearness
 pub mod Growth
+pub mod TraceNearness
 pub mod Tables
 pub mod Masks
 pub mod EdgeNumbers
