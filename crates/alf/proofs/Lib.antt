@@ -12,6 +12,8 @@ pub mod Conditions
 pub mod Nearness
 pub mod Growth
 pub mod TraceNearness
+pub mod Cuts
+pub mod Contradictions
 pub mod Tables
 pub mod Masks
 pub mod EdgeNumbers

@@ -39,7 +39,7 @@ asked-one (suc (suc (suc (suc (suc (suc (suc zero))))))) = refl
 asked-one (suc (suc (suc (suc (suc (suc (suc (suc s)))))))) = refl
 
 -- no literal's and no edge's answer is above yes
-asked-small : (h : Half) (s : ℕ) → asked h s ≤ 2
+pub asked-small : (h : Half) (s : ℕ) → asked h s ≤ 2
 unfolding asked digitAsked letterAsked
 asked-small any s = omega arith
 asked-small (the l) s =

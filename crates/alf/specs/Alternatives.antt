@@ -100,7 +100,7 @@ tries st xs zero = 0
 tries st xs (suc i) = tried (map (atRow st (suc i)) xs)
 
 -- Contradictory: for some name and row of its window, no state answers yes to all literals asked there of the name
--- itself. The literals that a step asks of name n at its first row, and at its second row:
+-- itself. `?!` and `?-` aside, a step asks the first halves of its edges at its first row, the second ones at its second.
 unfoldable pub isName : ℕ → Boolean → Bool
 isName n (name i) = eqb i n
 isName n (literal s) = false
@@ -108,17 +108,17 @@ isName n (negated a) = false
 isName n (binary o a b) = false
 isName n (choice c a b) = false
 
-unfoldable pub first : ℕ → Step → List Half
-first n [] = []
-first n (test (pair f t) c ∷ s) = (if isName n c then f ∷ [] else []) ++ first n s
-first n (test changes c ∷ s) = first n s
-first n (test stays c ∷ s) = first n s
+unfoldable pub halves : (Half → Half → Half) → ℕ → Step → List Half
+halves which n [] = []
+halves which n (test (pair f t) c ∷ s) = (if isName n c then which f t ∷ [] else []) ++ halves which n s
+halves which n (test changes c ∷ s) = halves which n s
+halves which n (test stays c ∷ s) = halves which n s
 
-unfoldable pub second : ℕ → Step → List Half
-second n [] = []
-second n (test (pair f t) c ∷ s) = (if isName n c then t ∷ [] else []) ++ second n s
-second n (test changes c ∷ s) = second n s
-second n (test stays c ∷ s) = second n s
+abbrev pub first : ℕ → Step → List Half
+first = halves (λ f t. f)
+
+abbrev pub second : ℕ → Step → List Half
+second = halves (λ f t. t)
 
 -- those asked of name n at row j of the window
 unfoldable pub literalsAt : ℕ → Alternative → ℕ → List Half
