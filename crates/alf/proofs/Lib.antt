@@ -14,6 +14,9 @@ pub mod Growth
 pub mod TraceNearness
 pub mod Cuts
 pub mod Contradictions
+pub mod Outcomes
+pub mod Totals
+pub mod Readings
 pub mod Tables
 pub mod Masks
 pub mod EdgeNumbers
