@@ -17,6 +17,7 @@ pub mod Contradictions
 pub mod Outcomes
 pub mod Totals
 pub mod Readings
+pub mod Tries
 pub mod Tables
 pub mod Masks
 pub mod EdgeNumbers

@@ -1,9 +1,11 @@
 -- A set of numbers below n as the bits of one number.
 -- mask-below: nothing stands above bit n-1. mask-bit: bit i says whether i is in the set. mask-only: no other number does.
--- mask-ones: the number of ones is the number of members. mask-set, mask-keep: one place more. Assumes nothing.
+-- mask-ones: the number of ones is the number of members. mask-set, mask-keep: one place more. changes-ones,
+-- changes-first: of the variables that change at a row. Assumes nothing.
 use mathlib.Core.Path.{_≡_, refl, _∙_, sym, ap, ap₂}
 use mathlib.Core.Bool.{Bool, true, false}
 use mathlib.Core.Logic.{_⊎_, inl, inr}
+use mathlib.Core.List.{List}
 use Prim.Native.Nat.{ℕ, zero, suc, _+_, _-_, _*_, _/_, _%_, _^_, _≤_, _<_}
 use native.Mathlib.Numerals.{add-one, one-add}
 use native.Mathlib.Nat.{eq-or-lt-of-le, le-of-suc-le-suc, pow-suc, mod-lt}
@@ -14,7 +16,7 @@ use lib.Count.{ones, ones-cat}
 use lib.Dec.{lit<}
 use lib.Pow.{pow-pos, split, shr-mod, field, mod-mod-pow, high, low, shl-exact}
 use Rattle.alf.specs.Words.{if_then_else_, count}
-use Rattle.alf.specs.Traces.{mask}
+use Rattle.alf.specs.Traces.{mask, changed, changeMask, changeCount}
 
 -- 1 for a member, 0 for any other
 abbrev pub bit : Bool → ℕ
@@ -98,3 +100,17 @@ mask-set i m p h e t =
 
 pub mask-keep : (i m : ℕ) (p : ℕ → Bool) → m ≡ mask i p → p i ≡ false → m ≡ mask (i + 1) p
 mask-keep i m p e t = rw (add-one, mask-suc, t) (e ∙ omega arith)
+
+-- The set of changed variables of a row: its ones are as many as the states that differ; row 0 has none.
+pub changes-ones : (names : ℕ) (states : List ℕ) (r : ℕ) → ones (changeMask names states r) ≡ changeCount names states r
+unfolding changeMask changeCount
+changes-ones names states r = mask-ones names (changed names states r)
+
+empty-mask : (n : ℕ) (p : ℕ → Bool) → ((i : ℕ) → p i ≡ false) → mask n p ≡ 0
+unfolding mask
+empty-mask zero p h = refl
+empty-mask (suc n) p h = let e = empty-mask n p h in rw (h n) (omega arith)
+
+pub changes-first : (names : ℕ) (states : List ℕ) → changeMask names states 0 ≡ 0
+unfolding changeMask changed
+changes-first names states = empty-mask names _ (λ i. refl)
