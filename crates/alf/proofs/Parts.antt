@@ -1,5 +1,7 @@
--- The stack before a place in a tree, from its last byte: how many expressions that byte takes, and what is under them.
--- Main names: last, made-last, deep, unders, back, deep-le; the arity of each class of byte. Assumes nothing.
+-- The stack before a place in a tree, from its last byte: how many expressions that byte takes, what is under them, and
+-- how many bytes they have.
+-- Main names: last, made-last, deep, unders, size, Has, back, deep-le; the arity of each class of byte.
+-- Assumes nothing.
 use Prim.Native.Nat.{ℕ, zero, suc, _+_, _-_, _<_, _≤_}
 use native.Mathlib.Omega.{arith}
 use native.Mathlib.Numerals.{sub-one, add-one, add-two, add-three}
@@ -7,9 +9,10 @@ use native.Mathlib.Nat.{add-zero}
 use mathlib.Core.Path.{_≡_, refl, ap, sym, _∙_, subst}
 use mathlib.Core.Bool.{Bool, true, false}
 use mathlib.Core.List.{List}
-use lib.ListN.{getD}
+use lib.ListN.{getD, length, length-append}
 use borrow.Author.Tests.{lt-ltb, le-ltb}
-use Rattle.alf.specs.Bytes.{Stack, empty, broken, push, operationAt, arityAt, run, stackAt, under}
+use Rattle.alf.specs.Bytes.{booleanBytes, vectorBytes, bytesOf, operationAt, arityAt, run, stackAt}
+use Rattle.alf.specs.Bytes.{Stack, empty, broken, push, under}
 use Rattle.alf.proofs.Made.{Made, a-name, a-literal, a-negation, a-binary, a-choice, an-edge, a-join}
 use Rattle.alf.proofs.Made.{a-condition, a-condition-before, nothing, made}
 
@@ -55,27 +58,46 @@ unfoldable pub unders : ℕ → Stack → Stack
 unders zero s = s
 unders (suc n) s = unders n (under s)
 
--- the stack s has n expressions on top, and under them what is under m of the stack s′
+-- how many bytes the n expressions on top have
+unfoldable pub size : ℕ → Stack → ℕ
+size zero s = 0
+size (suc n) empty = 0
+size (suc n) broken = 0
+size (suc n) (push e s) = length (bytesOf e) + size n s
+
+-- the stack s has n expressions on top, under them what is under m of the stack s′, and a byte less than those
 pub record Has (n : ℕ) (s : Stack) (m : ℕ) (s′ : Stack) : Type 0 where
   pub has : deep n s
   pub same : unders n s ≡ unders m s′
+  pub less : size n s + 1 ≡ size m s′
 
 -- a byte that leaves an expression on the stack has taken its operands from it
 took : (names b n : ℕ) {s s′ : Stack} → Made names b s s′ → deep (suc n) s′ → Has (n + arityAt b) s (suc n) s′
-unfolding deep unders under
-took names b n (a-name l u) h = rw (arity-zero b (omega arith), add-zero) (record { has = h; same = refl })
-took names b n (a-literal l u) h = rw (arity-zero b u, add-zero) (record { has = h; same = refl })
-took names b n (a-negation k e) h = rw (arity-one b (omega arith), add-one, e) (record { has = h; same = refl })
-took names b n (a-binary l u e) h = rw (arity-two b l (omega arith), add-two, e) (record { has = h; same = refl })
+unfolding deep unders under size bytesOf booleanBytes vectorBytes
+took names b n (a-name l u) h =
+    rw (arity-zero b (omega arith), add-zero) (record { has = h; same = refl; less = omega arith })
+took names b n (a-literal l u) h =
+    rw (arity-zero b u, add-zero) (record { has = h; same = refl; less = omega arith })
+took names b n (a-negation k e) h =
+    rw (arity-one b (omega arith), add-one, e)
+    (record { has = h; same = refl; less = simp length-append (omega arith) })
+took names b n (a-binary l u e) h =
+    rw (arity-two b l (omega arith), add-two, e)
+    (record { has = h; same = refl; less = simp length-append (omega arith) })
 took names b n (a-choice k e) h =
-    rw (arity-three b (omega arith) (omega arith), add-three, e) (record { has = h; same = refl })
-took names b n (an-edge l u e) h = rw (arity-one b l, add-one, e) (record { has = h; same = refl })
+    rw (arity-three b (omega arith) (omega arith), add-three, e)
+    (record { has = h; same = refl; less = simp length-append (omega arith) })
+took names b n (an-edge l u e) h =
+    rw (arity-one b l, add-one, e) (record { has = h; same = refl; less = simp length-append (omega arith) })
 took names b n (a-join l u e) h =
-    rw (arity-two b (omega arith) (omega arith), add-two, e) (record { has = h; same = refl })
+    rw (arity-two b (omega arith) (omega arith), add-two, e)
+    (record { has = h; same = refl; less = simp length-append (omega arith) })
 took names b n (a-condition k e) h =
-    rw (arity-two b (omega arith) (omega arith), add-two, e) (record { has = h; same = refl })
+    rw (arity-two b (omega arith) (omega arith), add-two, e)
+    (record { has = h; same = refl; less = simp length-append (omega arith) })
 took names b n (a-condition-before k e) h =
-    rw (arity-two b (omega arith) (omega arith), add-two, e) (record { has = h; same = refl })
+    rw (arity-two b (omega arith) (omega arith), add-two, e)
+    (record { has = h; same = refl; less = simp length-append (omega arith) })
 took names b n nothing h = absurd h
 
 -- one byte back: its operands take its place
@@ -93,3 +115,16 @@ deep-le t names (suc m) (suc n) h =
     let g = rw sub-one at (back t names (suc m) n (omega arith) h) in
     let l = deep-le t names m (n + arityAt (getD t m 0)) (g .has) in
     omega arith
+
+-- n + 1 expressions on top: one, and n under it
+pub deep-under : (n : ℕ) (s : Stack) → deep (suc n) s → deep n (under s)
+unfolding deep under
+deep-under n empty h = absurd h
+deep-under n broken h = absurd h
+deep-under n (push e s) h = h
+
+pub size-under : (n : ℕ) (s : Stack) → deep (suc n) s → size (suc n) s ≡ size 1 s + size n (under s)
+unfolding deep under size
+size-under n empty h = absurd h
+size-under n broken h = absurd h
+size-under n (push e s) h = omega arith

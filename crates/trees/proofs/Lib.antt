@@ -1,0 +1,2 @@
+-- The laws that the functions over trees are proved by.
+pub mod Starts

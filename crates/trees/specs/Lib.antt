@@ -1,0 +1,2 @@
+-- A tree: an expression as its bytes (alf/specs/Bytes). What the functions over trees promise.
+pub mod Parts

@@ -1,0 +1,2 @@
+// Expressions as their bytes: what a tree is, where its parts start, its size in alternatives, its brackets.
+pub mod parts;
