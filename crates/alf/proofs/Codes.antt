@@ -1,6 +1,7 @@
 -- Operators and their bytes: the byte of the operator at a byte is that byte, and the operation at an operator's byte
 -- is that operator's.
--- Main names: binary-byte, join-byte, edge-byte, edge-known; name-operation, literal-operation, binary-operation,
+-- Main names: binary-byte, join-byte, edge-byte, edge-known; leaf-class, pair-class, three-class, one-class;
+-- name-operation, literal-operation, binary-operation,
 -- join-operation, edge-operation, and those of `!`, `? :`, P & c and c & P. Assumes nothing.
 use Prim.Native.Nat.{ℕ, zero, suc, _+_, _-_, _*_, _/_, _%_, _<_, _≤_}
 use native.Mathlib.Omega.{arith}
@@ -55,7 +56,19 @@ edge-known k l =
     (λ e. let u = ltb-true k 81 e in (half-known (k / 9) (omega arith), half-known (k % 9) (omega arith)))
     (λ e. if-all EdgeKnown (eqb k 81) (λ f. tt) (λ f. tt))
 
--- the operation at an operator's byte
+-- the four classes of bytes
+pub leaf-class : (names b : ℕ) → b < 40 → operationAt names b ≡ leafAt names b
+unfolding operationAt
+leaf-class names b h = simp (lt-ltb _ _ h)
+
+pub pair-class : (names b : ℕ) → 40 ≤ b → b < 60 → operationAt names b ≡ pairAt b
+unfolding operationAt
+pair-class names b h k = simp (le-ltb _ _ h, lt-ltb _ _ k)
+
+pub three-class : (names b : ℕ) → 60 ≤ b → b < 64 → operationAt names b ≡ threeAt b
+unfolding operationAt
+three-class names b h k = let j : 40 ≤ b = omega arith in simp (le-ltb _ _ j, le-ltb _ _ h, lt-ltb _ _ k)
+
 pub one-class : (names b : ℕ) → 64 ≤ b → operationAt names b ≡ oneAt b
 unfolding operationAt
 one-class names b h =
@@ -63,6 +76,7 @@ one-class names b h =
     let k : 60 ≤ b = omega arith in
     simp (le-ltb _ _ j, le-ltb _ _ k, le-ltb _ _ h)
 
+-- the operation at an operator's byte
 pub name-operation : (names i : ℕ) → i < names → names ≤ 32 → operationAt names i ≡ leaf (name i)
 unfolding operationAt leafAt
 name-operation names i l u =

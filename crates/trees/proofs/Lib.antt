@@ -1,2 +1,4 @@
 -- The laws that the functions over trees are proved by.
 pub mod Starts
+pub mod Endings
+pub mod Trees

@@ -25,7 +25,7 @@ deep-whole empty h = absurd h
 deep-whole broken h = absurd h
 deep-whole (push e s) h = refl
 
-deep-one : (n : ℕ) (s : Stack) → deep (suc n) s → deep 1 s
+pub deep-one : (n : ℕ) (s : Stack) → deep (suc n) s → deep 1 s
 unfolding deep
 deep-one n empty h = absurd h
 deep-one n broken h = absurd h
