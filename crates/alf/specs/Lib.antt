@@ -10,3 +10,4 @@ pub mod Bytes
 pub mod Names
 pub mod Refusals
 pub mod TableT
+pub mod Contracts

@@ -4,6 +4,7 @@ use mathlib.Core.Bool.{Bool, true, false, _&&_}
 use mathlib.Core.List.{List, [], _∷_, _++_}
 use lib.Dec.{eqb}
 use lib.ListN.{length}
+use Rattle.alf.specs.Words.{listed}
 use Rattle.alf.specs.States.{X, H, Z}
 use Rattle.alf.specs.Expressions.{Boolean, name, literal, binary, choice, and, or, equals}
 use Rattle.alf.specs.Expressions.{the, Edge, pair, changes}
@@ -90,11 +91,6 @@ cases =
     ∷ correction (edge rise A) 3 (0 ∷ 0 ∷ 1 ∷ []) (3 ∷ 1 ∷ 0 ∷ 0 ∷ 1 ∷ 0 ∷ []) (3 ∷ 4 ∷ [])
     ∷ []
 
--- f a, f (a+1), .., n of them
-unfoldable pub list : ℕ → ℕ → (ℕ → ℕ) → List ℕ
-list a zero f = []
-list a (suc n) f = f a ∷ list (a + 1) n f
-
 unfoldable pub same : List ℕ → List ℕ → Bool
 same [] [] = true
 same [] (y ∷ ys) = false
@@ -103,14 +99,14 @@ same (x ∷ xs) (y ∷ ys) = eqb x y && same xs ys
 
 -- the numbers that a vector expression answers on a trace of six rows, and the entries that a correction rewrites
 abbrev pub numbers : List ℕ → Vector → List ℕ
-numbers trace p = list 0 rows (λ i. numberOf (rowAnswer (stateAt names trace) p i))
+numbers trace p = listed 0 rows (λ i. numberOf (rowAnswer (stateAt names trace) p i))
 
 abbrev pub entries : Vector → ℕ → List ℕ
-entries p r = list r (lastRewritten (stepsOf p) rows r + 1 - r) (λ i. i)
+entries p r = listed r (lastRewritten (stepsOf p) rows r + 1 - r) (λ i. i)
 
 unfoldable pub holds : Case → Bool
 holds (answers p ns) = same (numbers states p) ns
-holds (values c vs) = same (list 0 rows (valueAt names states c)) vs
+holds (values c vs) = same (listed 0 rows (valueAt names states c)) vs
 holds (correction p r new ns es) = same (numbers (corrected names states r new) p) ns && same (entries p r) es
 
 unfoldable pub allHold : List Case → Bool

@@ -27,11 +27,15 @@ YES = 2
 abbrev pub isDigit : ℕ → Bool
 isDigit l = ltb l 2
 
+unfoldable pub digitAsked : ℕ → ℕ → ℕ
+digitAsked l s = if eqb (reduce s) l then YES else if eqb (reduce s) X then UNKNOWN else NO
+
+unfoldable pub letterAsked : ℕ → ℕ → ℕ
+letterAsked l s = if eqb s l then YES else NO
+
 unfoldable pub asked : Half → ℕ → ℕ
 asked any s = YES
-asked (the l) s =
-    if isDigit l then (if eqb (reduce s) l then YES else if eqb (reduce s) X then UNKNOWN else NO)
-    else if eqb s l then YES else NO
+asked (the l) s = if isDigit l then digitAsked l s else letterAsked l s
 
 -- an edge on the states before and after: the lesser of its two literals' answers; `?!` is yes if the states differ,
 -- else no; `?-` the reverse

@@ -1,4 +1,5 @@
--- Words that every chapter uses: a choice, the greatest and the least of some answers, whether some or all pass a test.
+-- Words that every chapter uses: a choice, the greatest and the least of some answers, whether some or all pass a test,
+-- how many do, a list from a rule.
 -- The greatest over nothing is no (0), the least over nothing is yes (2).
 use Prim.Native.Nat.{ℕ, zero, suc, _+_, min, max}
 use mathlib.Core.Bool.{Bool, true, false, _&&_, _||_}
@@ -27,8 +28,13 @@ unfoldable pub count : ℕ → (ℕ → Bool) → ℕ
 count zero p = 0
 count (suc n) p = count n p + (if p n then 1 else 0)
 
--- of f x for the x of a list
 module _ {A : Type 0} where
+  -- f a, f (a+1), .., n of them
+  unfoldable pub listed : ℕ → ℕ → (ℕ → A) → List A
+  listed a zero f = []
+  listed a (suc n) f = f a ∷ listed (a + 1) n f
+
+  -- of f x for the x of a list
   unfoldable pub greatestOf : (A → ℕ) → List A → ℕ
   greatestOf f [] = 0
   greatestOf f (x ∷ xs) = max (f x) (greatestOf f xs)

@@ -1,6 +1,7 @@
 // What every crate of the project speaks of: answers, sorts, rows, times and the outcome of a call.
-mod changes;
-mod states;
+pub mod changes;
+pub mod edges;
+pub mod states;
 
 // What a row answers.
 pub enum Answer {

@@ -1,0 +1,20 @@
+-- `edges::certainty_of` meets its contract: its table has the definition's answer at each entry. Assumes nothing.
+use mathlib.Core.Path.{refl}
+use mathlib.Core.List.{[]}
+use Rattle.alf.specs.Words.{listed}
+use Rattle.alf.specs.States.{reduce}
+use Rattle.alf.specs.Windows.{certainty}
+use Rattle.alf.proofs.Tables.{every, codes, line-rule}
+use borrow.Author.Needs.{needs}
+use Rattle.alf.proofs.edges.certainty_of.Statement.{statement}
+use Rattle.alf.proofs.edges.certainty_of.Tie as tie
+
+array-read-result : tie.Need-array-read-result
+array-read-result c = search needs
+
+returns : tie.Need-returns
+unfolding listed every codes reduce certainty
+returns c = line-rule certainty 0 (c .args .x) refl (search needs) .0
+
+pub certainty-of-spec : {M : Type 1} → statement M
+certainty-of-spec = tie.close (tie.spec array-read-result returns)

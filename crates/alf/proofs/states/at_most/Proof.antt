@@ -1,0 +1,25 @@
+-- `states::at_most` meets its contract: it is the definition, call by call. Assumes nothing.
+use mathlib.Core.Path.{refl, _∙_}
+use Rattle.alf.specs.States.{atMost}
+use borrow.Author.Needs.{needs}
+use Rattle.alf.proofs.states.at_most.Statement.{statement}
+use Rattle.alf.proofs.states.at_most.Tie as tie
+
+below-requires : tie.Need-below-requires
+below-requires c κs = search needs
+
+equals-requires : tie.Need-equals-requires
+equals-requires c κs = search needs
+
+or-of-requires : tie.Need-or-of-requires
+or-of-requires c κs = search needs
+
+returns : tie.Need-returns
+unfolding atMost
+returns c =
+    let first = c .before .before .below .ensures .0 in
+    let second = c .before .equals .ensures .0 in
+    (c .or-of .ensures .0 ∙ rw (first, second) refl, c .or-of .ensures .1)
+
+pub at-most-spec : {M : Type 1} → statement M
+at-most-spec = tie.close (tie.spec below-requires equals-requires or-of-requires returns)

@@ -1,0 +1,25 @@
+-- `states::or_of` meets its contract: its table has the definition's answer at each entry. Assumes nothing.
+use mathlib.Core.Path.{refl}
+use mathlib.Core.List.{[]}
+use Rattle.alf.specs.Words.{listed}
+use Rattle.alf.specs.States.{reduce, rank, ranked, orOf}
+use Rattle.alf.proofs.Tables.{every, codes, square-rule}
+use borrow.Author.Needs.{needs}
+use Rattle.alf.proofs.states.or_of.Statement.{statement}
+use Rattle.alf.proofs.states.or_of.Tie as tie
+
+mul-result : tie.Need-mul-result
+mul-result c = search needs
+
+index-1-result : tie.Need-index-1-result
+index-1-result c = search needs
+
+index-2-result : tie.Need-index-2-result
+index-2-result c = search needs
+
+returns : tie.Need-returns
+unfolding listed every codes reduce rank ranked orOf
+returns c = square-rule orOf [] 0 (c .before .args .x) (c .before .args .y) refl (search needs) (search needs)
+
+pub or-of-spec : {M : Type 1} → statement M
+or-of-spec = tie.close (tie.spec mul-result index-1-result index-2-result returns)

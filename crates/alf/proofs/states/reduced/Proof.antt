@@ -1,0 +1,19 @@
+-- `states::reduced` meets its contract: its table has the definition's answer at each entry. Assumes nothing.
+use mathlib.Core.Path.{refl}
+use mathlib.Core.List.{[]}
+use Rattle.alf.specs.Words.{listed}
+use Rattle.alf.specs.States.{reduce}
+use Rattle.alf.proofs.Tables.{every, codes, line-rule}
+use borrow.Author.Needs.{needs}
+use Rattle.alf.proofs.states.reduced.Statement.{statement}
+use Rattle.alf.proofs.states.reduced.Tie as tie
+
+array-read-result : tie.Need-array-read-result
+array-read-result c = search needs
+
+returns : tie.Need-returns
+unfolding listed every codes reduce
+returns c = line-rule reduce 0 (c .args .x) refl (search needs)
+
+pub reduced-spec : {M : Type 1} → statement M
+reduced-spec = tie.close (tie.spec array-read-result returns)
