@@ -1,28 +1,18 @@
 -- Laws of choices: what holds of both arms holds of the one taken; a test that is computed over every number below n.
--- Main names: never, if-all, every, every-at. Assumes nothing.
+-- Main names: if-all, every, every-at. Assumes nothing.
 use Prim.Native.Nat.{ℕ, zero, suc, _<_}
 use native.Mathlib.Omega.{arith}
-use mathlib.Core.Path.{_≡_, refl, sym, subst}
+use mathlib.Core.Path.{_≡_, refl}
 use mathlib.Core.Bool.{Bool, true, false, _&&_}
-use lib.Dec.{T, eqb}
+use lib.Dec.{eqb}
 use borrow.Author.Tests.{eqb-true, eqb-false}
 use Rattle.alf.specs.Words.{if_then_else_}
-
-pub never : {A : Type 0} → false ≡ true → A
-never e = absurd (subst T (sym e) tt)
+use Rattle.alf.proofs.Bools.{and-left, and-right}
 
 pub if-all : {A : Type 0} (P : A → Type 0) (q : Bool) {x y : A} → (q ≡ true → P x) → (q ≡ false → P y)
     → P (if q then x else y)
 if-all P true f g = f refl
 if-all P false f g = g refl
-
-pub and-left : (p q : Bool) → (p && q) ≡ true → p ≡ true
-and-left true q h = refl
-and-left false q h = h
-
-pub and-right : (p q : Bool) → (p && q) ≡ true → q ≡ true
-and-right true q h = h
-and-right false q h = never h
 
 -- p 0, p 1, .. up to, not including, p n
 unfoldable pub every : ℕ → (ℕ → Bool) → Bool

@@ -9,7 +9,7 @@ use mathlib.Core.Bool.{Bool, true, false}
 use Rattle.alf.specs.Expressions.{Boolean, name, literal, negated, binary, choice, Vector, edge, join, while}
 use Rattle.alf.specs.Expressions.{on-right, on-left}
 use Rattle.alf.specs.Bytes.{Stack, binaryAt, joinAt, edgeAt, isBoolean, isVector, topBoolean, topVector, under}
-use Rattle.alf.proofs.Choices.{never}
+use Rattle.alf.proofs.Bools.{never}
 use Rattle.alf.proofs.Made.{Made, a-name, a-literal, a-negation, a-binary, a-choice, an-edge, a-join}
 use Rattle.alf.proofs.Made.{a-condition, a-condition-before, nothing}
 

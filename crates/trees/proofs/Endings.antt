@@ -14,7 +14,8 @@ use Rattle.alf.specs.Words.{if_then_else_}
 use Rattle.alf.specs.Expressions.{Boolean, boolean, Vector, vector}
 use Rattle.alf.specs.Bytes.{Stack, empty, broken, push, Operation, leafAt, pairAt, threeAt, oneAt, operationAt}
 use Rattle.alf.specs.Bytes.{isBoolean, isVector, under, ifSo, run, arityAt, stackAt}
-use Rattle.alf.proofs.Choices.{never, if-all}
+use Rattle.alf.proofs.Bools.{never}
+use Rattle.alf.proofs.Choices.{if-all}
 use Rattle.alf.proofs.Codes.{leaf-class, pair-class, three-class, one-class}
 use Rattle.alf.proofs.Parts.{last, arity-zero, arity-one, arity-two, arity-three, deep, unders, deep-under}
 use Rattle.trees.specs.Parts.{isWhole, Ends, Start}

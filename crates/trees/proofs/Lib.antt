@@ -2,3 +2,6 @@
 pub mod Starts
 pub mod Endings
 pub mod Trees
+pub mod Lists
+pub mod Picks
+pub mod Finding

@@ -9,7 +9,7 @@ use mathlib.Core.List.{List}
 use lib.ListN.{getD, length}
 use Rattle.alf.specs.Bytes.{bytesOf, Stack, empty, broken, push, under, arityAt, stackAt, isBoolean, isVector}
 use Rattle.alf.specs.Expressions.{boolean, vector}
-use Rattle.alf.proofs.Choices.{never}
+use Rattle.alf.proofs.Bools.{never}
 use Rattle.alf.proofs.Parts.{deep, unders, size, back, deep-le, deep-under, size-under}
 use Rattle.trees.specs.Parts.{isWhole, top, Ends, EndsBoolean, EndsVector, Start}
 

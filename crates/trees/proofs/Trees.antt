@@ -11,7 +11,7 @@ use lib.ListN.{getD, length}
 use borrow.Author.Tests.{ltb-true, ltb-false}
 use Rattle.alf.specs.Expressions.{Boolean, Vector, Expression, boolean, vector}
 use Rattle.alf.specs.Bytes.{Stack, empty, broken, push, under, stackAt, Decodes}
-use Rattle.alf.proofs.Choices.{never}
+use Rattle.alf.proofs.Bools.{never}
 use Rattle.alf.proofs.Made.{Made, a-name, a-literal, a-negation, a-binary, a-choice, an-edge, a-join}
 use Rattle.alf.proofs.Made.{a-condition, a-condition-before, nothing}
 use Rattle.alf.proofs.Parts.{made-last}
