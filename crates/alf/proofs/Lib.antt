@@ -22,3 +22,11 @@ pub mod Tables
 pub mod Masks
 pub mod EdgeNumbers
 pub mod Cases
+-- an expression's bytes
+pub mod Choices
+pub mod Made
+pub mod Codes
+pub mod Encoding
+pub mod Decoding
+pub mod Parts
+pub mod Tops
