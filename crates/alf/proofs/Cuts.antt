@@ -6,7 +6,7 @@
 --   two-cuts          an answer is what its two cuts say
 -- Assumes nothing.
 use mathlib.Core.Path.{_≡_, refl, ap, sym, _∙_}
-use mathlib.Core.Bool.{Bool, true, false, _&&_, _||_, and-comm}
+use mathlib.Core.Bool.{Bool, true, false, _&&_, _||_}
 use mathlib.Core.List.{List, [], _∷_}
 use mathlib.Core.Logic.{_⊎_, inl, inr}
 use Prim.Native.Nat.{ℕ, zero, suc, _+_, _-_, _<_, _≤_, min, max}
@@ -19,7 +19,7 @@ use Rattle.alf.specs.Expressions.{Boolean, Vector}
 use Rattle.alf.specs.Windows.{Window, followedBy, either, together, certainty, held, best}
 use Rattle.alf.specs.Alternatives.{Test, Step, Alternative, alternatives, testAt, stepAt, stepsFrom, atRow, bestOf}
 use Rattle.alf.proofs.Bools.{below?}
-use Rattle.alf.proofs.Tables.{every}
+use Rattle.alf.proofs.Choices.{every}
 use Rattle.alf.proofs.RowsAreAlternatives.{row-on, row-off, row-alternatives}
 
 pub cut-min : (k x y : ℕ) → leb k (min x y) ≡ (leb k x && leb k y)
@@ -83,8 +83,7 @@ module _ (k : ℕ) (low : k ≤ 2) where
   pub cut-least : (n : ℕ) (f : ℕ → ℕ) → leb k (least n f) ≡ every n (λ i. leb k (f i))
   unfolding least every
   cut-least zero f = le-leb k 2 low
-  cut-least (suc n) f =
-      cut-min k (least n f) (f n) ∙ and-comm (leb k (least n f)) (leb k (f n)) ∙ rw (cut-least n f) refl
+  cut-least (suc n) f = cut-min k (least n f) (f n) ∙ rw (cut-least n f) refl
 
   pub cut-leastOf : {A : Type 0} (f : A → ℕ) (xs : List A) → leb k (leastOf f xs) ≡ all (λ x. leb k (f x)) xs
   unfolding leastOf all

@@ -22,6 +22,7 @@ pub mod Tables
 pub mod Masks
 pub mod EdgeNumbers
 pub mod Cases
+pub mod Theorems
 -- an expression's bytes
 pub mod Choices
 pub mod Made

@@ -4,7 +4,8 @@ use mathlib.Core.List.{[]}
 use Rattle.alf.specs.Words.{listed}
 use Rattle.alf.specs.States.{reduce}
 use Rattle.alf.specs.Windows.{certainty}
-use Rattle.alf.proofs.Tables.{every, codes, line-rule}
+use Rattle.alf.proofs.Choices.{every}
+use Rattle.alf.proofs.Tables.{codes, line-rule}
 use borrow.Author.Needs.{needs}
 use Rattle.alf.proofs.edges.certainty_of.Statement.{statement}
 use Rattle.alf.proofs.edges.certainty_of.Tie as tie

@@ -3,7 +3,8 @@ use mathlib.Core.Path.{refl}
 use mathlib.Core.List.{[]}
 use Rattle.alf.specs.Words.{listed}
 use Rattle.alf.specs.States.{reduce, rank, ranked, andOf}
-use Rattle.alf.proofs.Tables.{every, codes, square-rule}
+use Rattle.alf.proofs.Choices.{every}
+use Rattle.alf.proofs.Tables.{codes, square-rule}
 use borrow.Author.Needs.{needs}
 use Rattle.alf.proofs.states.and_of.Statement.{statement}
 use Rattle.alf.proofs.states.and_of.Tie as tie

@@ -3,7 +3,8 @@ use mathlib.Core.Path.{refl}
 use mathlib.Core.List.{[]}
 use Rattle.alf.specs.Words.{listed}
 use Rattle.alf.specs.States.{reduce}
-use Rattle.alf.proofs.Tables.{every, codes, line-rule}
+use Rattle.alf.proofs.Choices.{every}
+use Rattle.alf.proofs.Tables.{codes, line-rule}
 use borrow.Author.Needs.{needs}
 use Rattle.alf.proofs.states.reduced.Statement.{statement}
 use Rattle.alf.proofs.states.reduced.Tie as tie
