@@ -6,7 +6,8 @@ use Rattle.alf.specs.Words.{greatest, least, listed, greatestOf, leastOf
 use Rattle.alf.specs.States.{reduce, rank, ranked, notOf, andOf, orOf, xorOf, xnorOf, table, among, matches}
 use Rattle.alf.specs.States.{inCells, inLines, relations, atLeast, atMost}
 use Rattle.alf.specs.Values.{operate, chosen, settled, state, value}
-use Rattle.alf.specs.Windows.{asked, digitAsked, letterAsked, edgeOn, followedBy, either, together, certainty, held, joined}
+use Rattle.alf.specs.Windows.{asked, digitAsked, letterAsked, edgeOn, followedBy, either, together, certainty}
+use Rattle.alf.specs.Windows.{held, joined}
 use Rattle.alf.specs.Windows.{answer, best, named, rowAnswer, numberOf}
 use Rattle.alf.specs.Alternatives.{each, padded, zipped, overlaid, conditioned, rewritten, alternatives, stepsOf}
 use Rattle.alf.specs.Traces.{corrected, lastRewritten}
@@ -14,8 +15,8 @@ use Rattle.alf.specs.TableT.{states, cases, same, holds, allHold}
 
 pub cases-hold : allHold cases ≡ true
 unfolding
-    greatest least listed greatestOf leastOf reduce rank ranked notOf andOf orOf xorOf xnorOf table among matches inCells
-    inLines relations atLeast atMost operate chosen settled state value asked digitAsked letterAsked edgeOn followedBy either together
-    certainty held joined answer best named rowAnswer numberOf each padded zipped overlaid conditioned rewritten
-    alternatives stepsOf corrected lastRewritten states cases same holds allHold
+    greatest least listed greatestOf leastOf reduce rank ranked notOf andOf orOf xorOf xnorOf table among matches
+    inCells inLines relations atLeast atMost operate chosen settled state value asked digitAsked letterAsked edgeOn
+    followedBy either together certainty held joined answer best named rowAnswer numberOf each padded zipped overlaid
+    conditioned rewritten alternatives stepsOf corrected lastRewritten states cases same holds allHold
 cases-hold = refl

@@ -38,7 +38,9 @@ module _ (Q : Boolean → Type 0) where
   asks-overlaid : (x y : Alternative) → Asks x → Asks y → Asks (overlaid x y)
   unfolding overlaid padded
   asks-overlaid x y s t =
-      asks-zipped _ _ (all-append (asks-replicate (length y - length x)) s) (all-append (asks-replicate (length x - length y)) t)
+      asks-zipped _ _
+      (all-append (asks-replicate (length y - length x)) s)
+      (all-append (asks-replicate (length x - length y)) t)
 
   asks-conditioned : (c : Boolean) (x : Alternative) → Q c → Asks x → Asks (conditioned c x)
   unfolding conditioned
@@ -66,7 +68,8 @@ module _ (Q : Boolean → Type 0) where
   unfolding alternatives
   alternatives-ask (edge e c) q = more {x = (test e c ∷ []) ∷ []} (more (more {x = test e c} q none) none) none
   alternatives-ask (join j p q) h = rewritten-ask j (alternatives-ask p (h .0)) (alternatives-ask q (h .1))
-  alternatives-ask (while s p c) h = all-map (conditioned c) (λ x. asks-conditioned c x (h .1)) (alternatives-ask p (h .0))
+  alternatives-ask (while s p c) h =
+      all-map (conditioned c) (λ x. asks-conditioned c x (h .1)) (alternatives-ask p (h .0))
 
 pub over-asked : (n : ℕ) (p : Vector) → VectorOver n p → Asked (Over n) p
 unfolding VectorOver

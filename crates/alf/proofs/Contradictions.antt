@@ -81,7 +81,8 @@ module _ (st : Boolean → ℕ → ℕ) (n : ℕ) where
 
   -- a step that answers yes from row a: each half that it asks of the name, at the row where it asks, is answered yes
   module _ (which : Half → Half → Half) (a r : ℕ)
-      (there : (f t : Half) (c : Boolean) → min (asked f (st c a)) (asked t (st c (a + 1))) ≡ 2 → asked (which f t) (st c r) ≡ 2) where
+      (there : (f t : Half) (c : Boolean) → min (asked f (st c a)) (asked t (st c (a + 1))) ≡ 2
+      → asked (which f t) (st c r) ≡ 2) where
     step-yes : (s : Step) → stepAt st s a ≡ 2 → YesTo r (halves which n s)
     unfolding stepAt leastOf testAt edgeOn halves
     step-yes [] y = yes-none r
@@ -89,7 +90,9 @@ module _ (st : Boolean → ℕ → ℕ) (n : ℕ) where
         let u = asked-small f (st c a) in
         let v = asked-small t (st c (a + 1)) in
         let w = leastOf-small (testAt st a) s in
-        yes-append _ (halves which n s) r (one-half (which f t) c r (there f t c (omega arith))) (step-yes s (omega arith))
+        yes-append _ (halves which n s) r
+        (one-half (which f t) c r (there f t c (omega arith)))
+        (step-yes s (omega arith))
     step-yes (test changes c ∷ s) y = let w = leastOf-small (testAt st a) s in step-yes s (omega arith)
     step-yes (test stays c ∷ s) y = let w = leastOf-small (testAt st a) s in step-yes s (omega arith)
 
@@ -114,7 +117,9 @@ module _ (st : Boolean → ℕ → ℕ) (n : ℕ) where
   literals-yes (s ∷ x) a (suc zero) y =
       let w = steps-small st x (a + 1) in
       let u = step-small st s a in
-      yes-append (second n s) (literalsAt n x zero) (a + 1) (second-yes s a (omega arith)) (rw add-zero at (literals-yes x (a + 1) zero (omega arith)))
+      yes-append (second n s) (literalsAt n x zero) (a + 1)
+      (second-yes s a (omega arith))
+      (rw add-zero at (literals-yes x (a + 1) zero (omega arith)))
   literals-yes (s ∷ x) a (suc (suc j)) y =
       let w = steps-small st x (a + 1) in
       let u = step-small st s a in
@@ -130,7 +135,8 @@ module _ (st : Boolean → ℕ → ℕ) (names : ℕ) (codes : (n r : ℕ) → n
   yes-not-contradictory : (a : ℕ) → stepsFrom st x a ≡ 2 → contradictory names x ≡ false
   unfolding contradictory
   yes-not-contradictory a y =
-      some-none names _ (λ n l. some-none (length x + 1) _ (λ j m. ap not (possible-yes _ _ (codes n (a + j) l) (literals-yes st n x a j y))))
+      some-none names _ (λ n l. some-none (length x + 1) _
+      (λ j m. ap not (possible-yes _ _ (codes n (a + j) l) (literals-yes st n x a j y))))
 
   pub contradictory-not-yes : contradictory names x ≡ true → (a : ℕ) → stepsFrom st x a ≡ 2 → ⊥
   contradictory-not-yes h a y = never (sym (yes-not-contradictory a y) ∙ h)

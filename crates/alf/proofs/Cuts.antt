@@ -1,4 +1,5 @@
--- Two cuts: "is yes" (at 2) and "is not no" (at 1) commute with the lesser, the greater, least, greatest and every operator,
+-- Two cuts: "is yes" (at 2) and "is not no" (at 1) commute with the lesser, the greater, least, greatest and every
+-- operator,
 -- so each answer is two Boolean runs, and an unknown never hides a yes.
 --   cut-min, cut-max, cut-greatest, cut-least, cut-greatestOf, cut-leastOf
 --   cut-followed, cut-either, cut-together, cut-held      the operators on windows
@@ -17,7 +18,8 @@ use borrow.Author.Tests.{le-leb, lt-leb}
 use Rattle.alf.specs.Words.{if_then_else_, greatest, least, some, greatestOf, leastOf, all}
 use Rattle.alf.specs.Expressions.{Boolean, Vector}
 use Rattle.alf.specs.Windows.{Window, followedBy, either, together, certainty, held, best}
-use Rattle.alf.specs.Alternatives.{Test, Step, Alternative, alternatives, testAt, stepAt, stepsFrom, atRow, bestOf}
+use Rattle.alf.specs.Alternatives.{Test, Step, Alternative, alternatives, testAt, stepAt, stepsFrom, atRow}
+use Rattle.alf.specs.Alternatives.{bestOf}
 use Rattle.alf.proofs.Bools.{below?}
 use Rattle.alf.proofs.Choices.{every}
 use Rattle.alf.proofs.RowsAreAlternatives.{row-on, row-off, row-alternatives}
@@ -76,7 +78,8 @@ module _ (k : ℕ) (pos : 0 < k) where
   unfolding together
   cut-together P Q a b =
       cut-greatest (b + 1 - a) _
-      ∙ some-same _ _ _ (λ i. cut-max k _ _ ∙ rw (cut-min k (P a b) (Q (a + i) b), cut-min k (P (a + i) b) (Q a b)) refl)
+      ∙ some-same _ _ _
+      (λ i. cut-max k _ _ ∙ rw (cut-min k (P a b) (Q (a + i) b), cut-min k (P (a + i) b) (Q a b)) refl)
 
 -- a cut at most at yes is passed by the least exactly if every entry passes
 module _ (k : ℕ) (low : k ≤ 2) where

@@ -66,12 +66,14 @@ least-first zero f = omega arith
 least-first (suc n) f = let e = least-first n f in omega arith
 
 module _ {A : Type 0} where
-  pub greatestOf-append : (f : A → ℕ) (xs ys : List A) → greatestOf f (xs ++ ys) ≡ max (greatestOf f xs) (greatestOf f ys)
+  pub greatestOf-append : (f : A → ℕ) (xs ys : List A)
+      → greatestOf f (xs ++ ys) ≡ max (greatestOf f xs) (greatestOf f ys)
   unfolding greatestOf
   greatestOf-append f [] ys = omega arith
   greatestOf-append f (x ∷ xs) ys = let e = greatestOf-append f xs ys in omega arith
 
-  pub leastOf-append : (f : A → ℕ) (xs ys : List A) → leastOf f ys ≤ 2 → leastOf f (xs ++ ys) ≡ min (leastOf f xs) (leastOf f ys)
+  pub leastOf-append : (f : A → ℕ) (xs ys : List A) → leastOf f ys ≤ 2
+      → leastOf f (xs ++ ys) ≡ min (leastOf f xs) (leastOf f ys)
   unfolding leastOf
   leastOf-append f [] ys h = omega arith
   leastOf-append f (x ∷ xs) ys h = let e = leastOf-append f xs ys h in omega arith
@@ -81,7 +83,8 @@ module _ {A : Type 0} where
   leastOf-small f [] = omega arith
   leastOf-small f (x ∷ xs) = let e = leastOf-small f xs in omega arith
 
-  pub greatestOf-map : {B : Type 0} (f : B → ℕ) (g : A → B) (xs : List A) → greatestOf f (map g xs) ≡ greatestOf (λ x. f (g x)) xs
+  pub greatestOf-map : {B : Type 0} (f : B → ℕ) (g : A → B) (xs : List A)
+      → greatestOf f (map g xs) ≡ greatestOf (λ x. f (g x)) xs
   unfolding greatestOf
   greatestOf-map f g [] = refl
   greatestOf-map f g (x ∷ xs) = let e = greatestOf-map f g xs in omega arith

@@ -1,4 +1,5 @@
--- The number of alternatives, K and the tests grow with the expression: a part never exceeds a limit that the whole keeps.
+-- The number of alternatives, K and the tests grow with the expression: a part never exceeds a limit that the whole
+-- keeps.
 --   some-alternative              there is at least one alternative, and K is at least 1
 --   length-each, tests-append, tests-overlaid, tests-conditioned     how many there are of each
 --   Within, join-left, join-right, while-part     a part's three numbers are at most the whole's
@@ -16,8 +17,10 @@ use borrow.Author.Tests.{lt-ltb, ltb-true}
 use Rattle.alf.specs.Words.{greatestOf, sumOf}
 use Rattle.alf.specs.Expressions.{Boolean, the, pair, Vector, edge, join, while, Side}
 use Rattle.alf.specs.Expressions.{Join, followed-by, either-order, with-or-then, any-order, with, or-else}
-use Rattle.alf.specs.Alternatives.{test, Alternative, each, chained, padded, zipped, overlaid, overlapped, conditioned}
-use Rattle.alf.specs.Alternatives.{rewritten, alternatives, numberOfAlternatives, stepsOf, tests, testsOf, overLimit}
+use Rattle.alf.specs.Alternatives.{test, Alternative, each, chained, padded, zipped, overlaid, overlapped}
+use Rattle.alf.specs.Alternatives.{conditioned}
+use Rattle.alf.specs.Alternatives.{rewritten, alternatives, numberOfAlternatives, stepsOf, tests, testsOf}
+use Rattle.alf.specs.Alternatives.{overLimit}
 use Rattle.alf.proofs.Extremes.{greatestOf-append}
 use Rattle.alf.proofs.Steps.{overlaid-length, conditioned-length}
 

@@ -24,13 +24,15 @@ min-max-right : (x y z : ℕ) → min x (max y z) ≡ max (min x y) (min x z)
 min-max-right x y z = omega arith
 
 -- `->` goes through the greater on either side
-chain-left : (P P′ Q : Window) (a b : ℕ) → followedBy (either P P′) Q a b ≡ max (followedBy P Q a b) (followedBy P′ Q a b)
+chain-left : (P P′ Q : Window) (a b : ℕ)
+    → followedBy (either P P′) Q a b ≡ max (followedBy P Q a b) (followedBy P′ Q a b)
 unfolding followedBy either
 chain-left P P′ Q a b =
     greatest-same (b - (a + 1)) _ _ (λ i l. min-max-left (P a (a + 1 + i)) (P′ a (a + 1 + i)) (Q (a + 1 + i) b))
     ∙ greatest-max (b - (a + 1)) _ _
 
-chain-right : (P Q Q′ : Window) (a b : ℕ) → followedBy P (either Q Q′) a b ≡ max (followedBy P Q a b) (followedBy P Q′ a b)
+chain-right : (P Q Q′ : Window) (a b : ℕ)
+    → followedBy P (either Q Q′) a b ≡ max (followedBy P Q a b) (followedBy P Q′ a b)
 unfolding followedBy either
 chain-right P Q Q′ a b =
     greatest-same (b - (a + 1)) _ _ (λ i l. min-max-right (P a (a + 1 + i)) (Q (a + 1 + i) b) (Q′ (a + 1 + i) b))
@@ -80,7 +82,8 @@ module _ (st : Boolean → ℕ → ℕ) (x y : Alternative) (a b : ℕ) where
   unfolding followedBy split
   chain-one h k = go (equal? b (a + length x + length y))
     where
-      go : (b ≡ a + length x + length y) ⊎ (b ≡ a + length x + length y → ⊥) → greatest (b - (a + 1)) split ≡ win st (x ++ y) a b
+      go : (b ≡ a + length x + length y) ⊎ (b ≡ a + length x + length y → ⊥)
+          → greatest (b - (a + 1)) split ≡ win st (x ++ y) a b
       go (inl e) =
           greatest-one (b - (a + 1)) (length x - 1) split (omega arith) (λ i l n. split-off i n h)
           ∙ split-on e h

@@ -1,7 +1,9 @@
 -- From one alternative with one alternative to all with all.
--- An operator on windows `Op` that answers on two alternatives as `f` of them does, and goes through the greater on either
+-- An operator on windows `Op` that answers on two alternatives as `f` of them does, and goes through the greater on
+-- either
 -- side, answers on two lists of alternatives as `each f` of them does.
--- Main names: win, most (what one, and a list, answers on windows), Steps (each has a step), Lifts, lift. Assumes nothing.
+-- Main names: win, most (what one, and a list, answers on windows), Steps (each has a step), Lifts, lift. Assumes
+-- nothing.
 use mathlib.Core.Path.{_≡_, refl, _∙_}
 use mathlib.Core.List.{List, [], _∷_, _++_, map}
 use Prim.Native.Nat.{ℕ, zero, suc, _+_, _<_, max}
@@ -55,7 +57,8 @@ module _ (st : Boolean → ℕ → ℕ) where
         let r = one-all x ys a b h s in
         omega arith
 
-    all-all : (xs ys : List Alternative) (a b : ℕ) → Steps xs → Steps ys → Op (most xs) (most ys) a b ≡ most (each f xs ys) a b
+    all-all : (xs ys : List Alternative) (a b : ℕ) → Steps xs → Steps ys
+        → Op (most xs) (most ys) a b ≡ most (each f xs ys) a b
     unfolding greatestOf either each
     all-all [] ys a b none t = L .no-left (most ys) a b
     all-all (x ∷ xs) ys a b (more h s) t =

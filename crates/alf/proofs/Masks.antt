@@ -1,5 +1,6 @@
 -- A set of numbers below n as the bits of one number.
--- mask-below: nothing stands above bit n-1. mask-bit: bit i says whether i is in the set. mask-only: no other number does.
+-- mask-below: nothing stands above bit n-1. mask-bit: bit i says whether i is in the set. mask-only: no other number
+-- does.
 -- mask-ones: the number of ones is the number of members. mask-set, mask-keep: one place more. changes-ones,
 -- changes-first: of the variables that change at a row. Assumes nothing.
 use mathlib.Core.Path.{_≡_, refl, _∙_, sym, ap, ap₂}
@@ -93,7 +94,8 @@ mask-only (suc n) m p h k =
     (mask-only n (m % 2 ^ n) p (mod-lt m (pow-pos n)) (λ i l. bit-low n i m l ∙ k i (omega arith))))
 
 -- with bit i put in, and with nothing put in
-pub mask-set : (i m : ℕ) (p : ℕ → Bool) → i < 32 → m ≡ mask i p → p i ≡ true → bitOr m ((1 * 2 ^ i) % 2 ^ 32) ≡ mask (i + 1) p
+pub mask-set : (i m : ℕ) (p : ℕ → Bool) → i < 32 → m ≡ mask i p → p i ≡ true
+    → bitOr m ((1 * 2 ^ i) % 2 ^ 32) ≡ mask (i + 1) p
 mask-set i m p h e t =
     rw (add-one, mask-suc, t)
     (ap₂ bitOr e (shl-exact 1 i 32 (lit< tt) (omega arith)) ∙ or-shifted-r 1 i (mask i p) (mask-below i p))

@@ -26,7 +26,8 @@ module _ (Q : Boolean → Type 0) (st st′ : Boolean → ℕ → ℕ) where
   abbrev pub Agree : ℕ → ℕ → Type 0
   Agree a b = (c : Boolean) → Q c → st c a ≡ st′ c b
 
-  step-near : (s : Step) (a b : ℕ) → All (AsksTest Q) s → Agree a b → Agree (a + 1) (b + 1) → stepAt st s a ≡ stepAt st′ s b
+  step-near : (s : Step) (a b : ℕ) → All (AsksTest Q) s → Agree a b → Agree (a + 1) (b + 1)
+      → stepAt st s a ≡ stepAt st′ s b
   unfolding stepAt leastOf testAt
   step-near [] a b none g h = refl
   step-near (test e c ∷ s) a b (more q k) g h =
@@ -66,7 +67,8 @@ module _ (Q : Boolean → Type 0) (st st′ : Boolean → ℕ → ℕ) where
             (λ k n. rw (back i k h n, back j k m n) (near .agree (length x - k) (omega arith) (omega arith)))
             ∙ sym (row-on st′ j x m)
 
-    best-near : (xs : List Alternative) → All (Asks Q) xs → All (λ x. length x ≤ K) xs → bestOf st xs i ≡ bestOf st′ xs j
+    best-near : (xs : List Alternative) → All (Asks Q) xs → All (λ x. length x ≤ K) xs
+        → bestOf st xs i ≡ bestOf st′ xs j
     unfolding bestOf greatestOf
     best-near [] none none = refl
     best-near (x ∷ xs) (more h s) (more l t) = let e = row-near x h l in let f = best-near xs s t in omega arith
@@ -76,7 +78,8 @@ module _ (Q : Boolean → Type 0) (st st′ : Boolean → ℕ → ℕ) where
     tried-near [] none none = refl
     tried-near (x ∷ xs) (more h s) (more l t) = rw (row-near x h l, tried-near xs s t) refl
 
-  pub answers-near : (K i j : ℕ) (xs : List Alternative) → 0 < K → Near K i j → All (Asks Q) xs → All (λ x. length x ≤ K) xs
+  pub answers-near : (K i j : ℕ) (xs : List Alternative) → 0 < K → Near K i j → All (Asks Q) xs
+      → All (λ x. length x ≤ K) xs
       → answerOf st xs i ≡ answerOf st′ xs j
   unfolding answerOf
   answers-near K zero zero xs h n s l = refl
@@ -84,7 +87,8 @@ module _ (Q : Boolean → Type 0) (st st′ : Boolean → ℕ → ℕ) where
   answers-near K (suc i) zero xs h n s l = absurd (omega (arith, n .room))
   answers-near K (suc i) (suc j) xs h n s l = ap named (best-near K (suc i) (suc j) n xs s l)
 
-  pub tries-near : (K i j : ℕ) (xs : List Alternative) → 0 < K → Near K i j → All (Asks Q) xs → All (λ x. length x ≤ K) xs
+  pub tries-near : (K i j : ℕ) (xs : List Alternative) → 0 < K → Near K i j → All (Asks Q) xs
+      → All (λ x. length x ≤ K) xs
       → tries st xs i ≡ tries st′ xs j
   unfolding tries
   tries-near K zero zero xs h n s l = refl

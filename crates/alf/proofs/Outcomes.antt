@@ -44,7 +44,8 @@ refused-not-passed [] n p r h = r
 refused-not-passed (c ∷ cs) n p (inl r) h = h .0 p (r .1)
 refused-not-passed (c ∷ cs) n p (inr r) h = refused-not-passed cs n p (r .1) (h .1)
 
-pub refused-unique : (cs : Order) → Fixed cs → (n m p q : ℕ) → RefusedWith cs n p → RefusedWith cs m q → (n ≡ m) × (p ≡ q)
+pub refused-unique : (cs : Order) → Fixed cs → (n m p q : ℕ) → RefusedWith cs n p → RefusedWith cs m q
+    → (n ≡ m) × (p ≡ q)
 unfolding RefusedWith
 refused-unique [] f n m p q r s = absurd r
 refused-unique (c ∷ cs) f n m p q (inl r) (inl s) = (r .0 ∙ sym (s .0), f .0 p q (r .1) (s .1))

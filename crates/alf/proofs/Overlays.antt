@@ -1,4 +1,5 @@
--- `&` of two vectors on windows, alternative by alternative: it lifts (Lifting.antt) with empty steps before the shorter.
+-- `&` of two vectors on windows, alternative by alternative: it lifts (Lifting.antt) with empty steps before the
+-- shorter.
 -- Main name: overlay-lifts. Assumes nothing.
 use mathlib.Core.Path.{_≡_, refl, ap, sym, _∙_}
 use mathlib.Core.Logic.{_⊎_, inl, inr}
@@ -16,7 +17,8 @@ use Rattle.alf.proofs.Steps.{steps-overlaid, overlaid-length}
 use Rattle.alf.proofs.Lifting.{win, win-on, win-off, Lifts}
 
 -- the two ways in which one of P, P′ and Q may lie over each other
-spread : (p p′ q r r′ s : ℕ) → max (min (max p p′) q) (min (max r r′) s) ≡ max (max (min p q) (min r s)) (max (min p′ q) (min r′ s))
+spread : (p p′ q r r′ s : ℕ)
+    → max (min (max p p′) q) (min (max r r′) s) ≡ max (max (min p q) (min r s)) (max (min p′ q) (min r′ s))
 spread p p′ q r r′ s = ap₂′ (through p p′ q) (through r r′ s) ∙ swap (min p q) (min p′ q) (min r s) (min r′ s)
   where
     through : (x y z : ℕ) → min (max x y) z ≡ max (min x z) (min y z)

@@ -14,7 +14,8 @@ use Rattle.alf.specs.Words.{greatest, least, greatestOf, leastOf, some, 
 use Rattle.alf.specs.States.{X, U, reduce, table, among, matches, inCells, inLines, relations}
 use Rattle.alf.specs.Expressions.{name, edge, join, while, followed-by, with, on-right, Vector}
 use Rattle.alf.specs.Values.{operate, chosen, settled, state, stateAt}
-use Rattle.alf.specs.Windows.{asked, digitAsked, letterAsked, edgeOn, followedBy, either, together, certainty, held}
+use Rattle.alf.specs.Windows.{asked, digitAsked, letterAsked, edgeOn, followedBy, either, together, certainty}
+use Rattle.alf.specs.Windows.{held}
 use Rattle.alf.specs.Windows.{joined, answer, best, named, rowAnswer}
 use Rattle.alf.specs.Alternatives.{test, Alternative, padded, zipped, overlaid, isName, halves, literalsAt}
 use Rattle.alf.specs.Alternatives.{possible, contradictory, each, rewritten, alternatives}

@@ -1,5 +1,6 @@
 -- A table in the code is the list that its rule computes, so each entry is the rule's.
--- Main names: line-rule (eight entries), square-rule (eight lines of eight): the entry, and that it is a state's code, by
+-- Main names: line-rule (eight entries), square-rule (eight lines of eight): the entry, and that it is a state's code,
+-- by
 -- one test computed over the table. Assumes nothing.
 use mathlib.Core.Path.{_≡_, refl}
 use mathlib.Core.Bool.{Bool, true}

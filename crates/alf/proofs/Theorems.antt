@@ -11,7 +11,8 @@ pub use Rattle.alf.proofs.TraceNearness.{corrected-row, corrected-other
 -- tries
 pub use Rattle.alf.proofs.Tries.{tried-first, tried-all, tries-zero}
 -- two cuts
-pub use Rattle.alf.proofs.Cuts.{cut-min, cut-max, cut-greatest, cut-least, cut-followed, cut-either, cut-together}
+pub use Rattle.alf.proofs.Cuts.{cut-min, cut-max, cut-greatest, cut-least, cut-followed, cut-either}
+pub use Rattle.alf.proofs.Cuts.{cut-together}
 pub use Rattle.alf.proofs.Cuts.{cut-held, cut-row, two-cuts}
 -- contradictory alternatives
 pub use Rattle.alf.proofs.Contradictions.{contradictory-not-yes, contradictory-row-not-yes}

@@ -1,6 +1,7 @@
 -- Nearness (Nearness.antt) for traces: a row's answer depends on the names' states in the last K+1 rows.
 --   state-same       a boolean expression's state depends on its names' states
---   SameRows         rows i and j of two traces, and the K rows before each, hold the same states; near the start as many
+--   SameRows         rows i and j of two traces, and the K rows before each, hold the same states; near the start as
+--   many
 --   rows-near        so a vector expression of at most K steps answers the same, and tries as many alternatives
 --   corrected-other, corrected-row     a correction changes row r and no other
 --   correction-elsewhere               so the answers before r and after r+K stay
@@ -76,11 +77,13 @@ module _ (names : ℕ) (p : Vector) (over : VectorOver names p) (states states�
       ∙ answers-near _ _ _ (stepsOf p) i j (alternatives p) (steps-pos p) near asks (steps-within p)
       ∙ sym (same-answer (stateAt names states′) p j)
 
-  pub rows-near-tries : tries (stateAt names states) (alternatives p) i ≡ tries (stateAt names states′) (alternatives p) j
+  pub rows-near-tries :
+      tries (stateAt names states) (alternatives p) i ≡ tries (stateAt names states′) (alternatives p) j
   rows-near-tries = tries-near _ _ _ (stepsOf p) i j (alternatives p) (steps-pos p) near asks (steps-within p)
 
 -- A corrected trace.
-module _ (names : ℕ) (states new : List ℕ) (r : ℕ) (whole : r * names + names ≤ length states) (full : length new ≡ names) where
+module _ (names : ℕ) (states new : List ℕ) (r : ℕ)
+    (whole : r * names + names ≤ length states) (full : length new ≡ names) where
   front : length (take (r * names) states) ≡ r * names
   front = length-take-le (r * names) states (omega arith)
 

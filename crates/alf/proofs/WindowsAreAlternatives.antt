@@ -65,7 +65,8 @@ module _ (st : Boolean → ℕ → ℕ) where
       let g = q a b in
       omega arith
 
-  module _ (P Q : Window) (xs ys : List Alternative) (s : Steps xs) (t : Steps ys) (p : Means P xs) (q : Means Q ys) where
+  module _ (P Q : Window) (xs ys : List Alternative)
+      (s : Steps xs) (t : Steps ys) (p : Means P xs) (q : Means Q ys) where
     means-chained : Means (followedBy P Q) (chained xs ys)
     means-chained = lift st (chain-lifts st) P Q xs ys s t p q
 
@@ -95,7 +96,8 @@ module _ (st : Boolean → ℕ → ℕ) where
       n : length (conditioned c x) ≡ length x
       n = conditioned-length c x
 
-      go : (b ≡ a + length x) ⊎ (b ≡ a + length x → ⊥) → win st (conditioned c x) a b ≡ min (win st x a b) (held (st c) a b)
+      go : (b ≡ a + length x) ⊎ (b ≡ a + length x → ⊥)
+          → win st (conditioned c x) a b ≡ min (win st x a b) (held (st c) a b)
       go (inl e) =
           win-on st (conditioned c x) a b (omega (arith, n))
           ∙ steps-conditioned st c x a h
@@ -138,7 +140,8 @@ module _ (st : Boolean → ℕ → ℕ) where
   unfolding answer alternatives lone
   window-alternatives (edge e c) a b = means-edge e c a b
   window-alternatives (join j p q) a b =
-      means-joined j (answer st p) (answer st q) (alternatives p) (alternatives q) (every-has-steps p) (every-has-steps q)
+      means-joined j (answer st p) (answer st q) (alternatives p) (alternatives q)
+      (every-has-steps p) (every-has-steps q)
       (window-alternatives p) (window-alternatives q) a b
   window-alternatives (while s p c) a b =
       means-while c (answer st p) (alternatives p) (every-has-steps p) (window-alternatives p) a b

@@ -100,7 +100,8 @@ tries st xs zero = 0
 tries st xs (suc i) = tried (map (atRow st (suc i)) xs)
 
 -- Contradictory: for some name and row of its window, no state answers yes to all literals asked there of the name
--- itself. `?!` and `?-` aside, a step asks the first halves of its edges at its first row, the second ones at its second.
+-- itself. `?!` and `?-` aside, a step asks the first halves of its edges at its first row, the second ones at its
+-- second.
 unfoldable pub isName : ℕ → Boolean → Bool
 isName n (name i) = eqb i n
 isName n (literal s) = false

@@ -1,5 +1,6 @@
 // Leaf code on answers: a literal asked of a state, an edge on two states, a condition's answer, lesser and greater.
-// Each is equal to its definition in specs/Windows.antt. A state is its code, below 8; an answer is 0 no, 1 unknown, 2 yes.
+// Each is equal to its definition in specs/Windows.antt. A state is its code, below 8; an answer is 0 no, 1 unknown,
+// 2 yes.
 ghost use mathlib.Core.Path.{_≡_};
 ghost use Prim.Native.Nat.{_<_, min, max};
 ghost use Rattle.alf.specs.Windows.{asked, digitAsked, certainty, edgeOn};

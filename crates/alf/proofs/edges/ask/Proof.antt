@@ -23,11 +23,13 @@ returns-2 c = rw (half-the _ (c .before .before .if1 .left), lt-ltb _ 2 (c .befo
 
 returns-3 : tie.Need-returns-3
 unfolding asked letterAsked
-returns-3 c = rw (half-the _ (c .before .before .if1 .left), le-ltb _ 2 (c .before .if2 .left), eq-eqb _ _ (c .if3 .taken)) refl
+returns-3 c =
+    rw (half-the _ (c .before .before .if1 .left), le-ltb _ 2 (c .before .if2 .left), eq-eqb _ _ (c .if3 .taken)) refl
 
 returns-4 : tie.Need-returns-4
 unfolding asked letterAsked
-returns-4 c = rw (half-the _ (c .before .before .if1 .left), le-ltb _ 2 (c .before .if2 .left), ne-eqb _ _ (c .if3 .left)) refl
+returns-4 c =
+    rw (half-the _ (c .before .before .if1 .left), le-ltb _ 2 (c .before .if2 .left), ne-eqb _ _ (c .if3 .left)) refl
 
 pub ask-spec : {M : Type 1} → statement M
 ask-spec = tie.close (tie.spec returns sub-l ask-digit-requires returns-2 returns-3 returns-4)

@@ -15,11 +15,13 @@ returns c = rw (← c .before .reduced .ensures .0, eq-eqb _ _ (c .if1 .taken)) 
 
 returns-2 : tie.Need-returns-2
 unfolding digitAsked
-returns-2 c = rw (← c .before .before .reduced .ensures .0, ne-eqb _ _ (c .before .if1 .left), eq-eqb _ _ (c .if2 .taken)) refl
+returns-2 c =
+    rw (← c .before .before .reduced .ensures .0, ne-eqb _ _ (c .before .if1 .left), eq-eqb _ _ (c .if2 .taken)) refl
 
 returns-3 : tie.Need-returns-3
 unfolding digitAsked
-returns-3 c = rw (← c .before .before .reduced .ensures .0, ne-eqb _ _ (c .before .if1 .left), ne-eqb _ _ (c .if2 .left)) refl
+returns-3 c =
+    rw (← c .before .before .reduced .ensures .0, ne-eqb _ _ (c .before .if1 .left), ne-eqb _ _ (c .if2 .left)) refl
 
 pub ask-digit-spec : {M : Type 1} → statement M
 ask-digit-spec = tie.close (tie.spec reduced-requires returns returns-2 returns-3)

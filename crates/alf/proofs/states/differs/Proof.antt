@@ -20,7 +20,9 @@ index-2-result c = search needs
 
 returns : tie.Need-returns
 unfolding listed every codes relations table among matches inCells inLines
-returns c = square-rule (λ x y. relations x y .unequal) [] 0 (c .before .args .x) (c .before .args .y) refl (search needs) (search needs)
+returns c =
+    square-rule (λ x y. relations x y .unequal) [] 0 (c .before .args .x) (c .before .args .y) refl
+    (search needs) (search needs)
 
 pub differs-spec : {M : Type 1} → statement M
 differs-spec = tie.close (tie.spec mul-result index-1-result index-2-result returns)
