@@ -17,7 +17,7 @@ pub block-small : {b n m : ℕ} → Operands b n m → n * m ≤ 4096
 block-small o = mul-le-mul (o .few-left) (o .few-right)
 
 -- the operator at a byte
-at-byte : {b k : ℕ} {j : Join} → b ≡ k → joinAt (k - 50) ≡ j → joinAt (b - 50) ≡ j
+pub at-byte : {b k : ℕ} {j : Join} → b ≡ k → joinAt (k - 50) ≡ j → joinAt (b - 50) ≡ j
 at-byte {b} {k} e d = ap (λ (x : ℕ). joinAt (x - 50)) e ∙ d
 
 module _ {b n m v : ℕ} (h : PickingOn b n m v) where

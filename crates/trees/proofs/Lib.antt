@@ -5,3 +5,7 @@ pub mod Trees
 pub mod Lists
 pub mod Picks
 pub mod Finding
+pub mod Vectors
+pub mod Counts
+pub mod Numbers
+pub mod Shapes

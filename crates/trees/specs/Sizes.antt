@@ -5,12 +5,21 @@ use mathlib.Core.Bool.{true, false}
 use mathlib.Core.List.{List, []}
 use lib.ListN.{length, getD}
 use Rattle.alf.specs.Words.{if_then_else_}
-use Rattle.alf.specs.Expressions.{Vector}
-use Rattle.alf.specs.Alternatives.{Alternative, alternatives, tests}
+use Rattle.alf.specs.Expressions.{Boolean, Vector}
+use Rattle.alf.specs.Alternatives.{Alternative, conditioned, alternatives, tests}
 use Rattle.alf.specs.Alternatives.{numberOfAlternatives, stepsOf, testsOf, overLimit}
 use Rattle.trees.specs.declared.sizes.Measured.{Measured}
 use Rattle.trees.specs.declared.sizes.Measured.the-variants.{Over, Within}
+use Rattle.trees.specs.declared.picking.How.{How}
 use Rattle.trees.specs.Parts.{EndsVector, vectorAt}
+use Rattle.trees.specs.Picks.{put}
+
+-- what is asked: byte b is an operator of two vectors, and the numbers are counted no further than 65
+pub record Counts (b n m : ℕ) : Type 0 where
+  pub joins : 50 ≤ b
+  pub no-more : b < 56
+  pub left : n ≤ 65
+  pub right : m ≤ 65
 
 -- alternative t of the vector expression that ends at `end`
 abbrev pub alternativeAt : List ℕ → ℕ → ℕ → ℕ → Alternative
@@ -26,6 +35,19 @@ pub record Chosen (tree : List ℕ) (names end t : ℕ) : Type 0 where
 pub record Shaped (x : Alternative) (steps tested : ℕ) : Type 0 where
   pub steps-is : steps ≡ min 65 (length x)
   pub tests-is : tested ≡ min 65 (tests x)
+
+-- the same of an alternative under a condition, and of one that is put together of two
+pub record Held (steps tested steps′ tested′ : ℕ) : Type 0 where
+  pub given : (c : Boolean) (x : Alternative) → Shaped x steps tested → Shaped (conditioned c x) steps′ tested′
+
+pub record Combined (how : How) (steps tested steps′ tested′ steps″ tested″ : ℕ) : Type 0 where
+  pub given : (x y : Alternative) → Shaped x steps tested → Shaped y steps′ tested′
+      → Shaped (put how x y) steps″ tested″
+
+-- numbers that are counted no further than 65
+pub record Small (x y : ℕ) : Type 0 where
+  pub first : x ≤ 65
+  pub second : y ≤ 65
 
 -- the size of a vector expression, or that it is over limit 8
 unfoldable pub measured : Vector → Measured
