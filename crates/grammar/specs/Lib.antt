@@ -1,0 +1,4 @@
+-- The grammar of document 01, and what the parser promises. Tokens and Grammar are what must be believed, with
+-- Answers, the contract of `parse`; Views and Inner are for the functions inside.
+pub mod Tokens
+pub mod Grammar
