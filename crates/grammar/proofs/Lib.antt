@@ -1,3 +1,6 @@
 mod Table
 mod Shunting
 mod Unique
+mod Counting
+mod Goes
+mod Refusals

@@ -1,4 +1,6 @@
 -- The grammar of document 01, and what the parser promises. Tokens and Grammar are what must be believed, with
--- Answers, the contract of `parse`; Views and Inner are for the functions inside.
+-- Answers, the contract of `parse`; Stops, Views and Inner are for the functions inside.
 pub mod Tokens
 pub mod Grammar
+pub mod Stops
+pub mod Views
