@@ -4,3 +4,8 @@ mod Unique
 mod Counting
 mod Goes
 mod Refusals
+mod Ranks
+mod Levels
+mod Ranges
+mod Lists
+mod Steps

@@ -2,5 +2,7 @@
 -- Answers, the contract of `parse`; Stops, Views and Inner are for the functions inside.
 pub mod Tokens
 pub mod Grammar
+pub mod Answers
 pub mod Stops
 pub mod Views
+pub mod Inner

@@ -18,6 +18,18 @@ abbrev pub aheadV : View → Kind
 aheadV (going ts out) = ahead ts
 aheadV (stopped ts) = other
 
+-- the next token; none has the code 255
+abbrev pub nothing : Token
+nothing = record { code = 255; place = 0 }
+
+abbrev pub head : List Token → Token
+head [] = nothing
+head (t ∷ ts) = t
+
+abbrev pub headV : View → Token
+headV (going ts out) = head ts
+headV (stopped ts) = nothing
+
 abbrev pub tail : List Token → List Token
 tail [] = []
 tail (t ∷ ts) = ts

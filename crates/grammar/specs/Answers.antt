@@ -1,0 +1,42 @@
+-- The contract of `parse`: what it is handed, and its answer, the nodes of the text's one tree or the place of
+-- refusal 5. That any two answers coincide is shown in proofs/Outcome.antt.
+use Prim.Native.Nat.{ℕ, _-_, _≤_}
+use mathlib.Core.Path.{_≡_}
+use mathlib.Core.Bool.{true, false}
+use mathlib.Core.List.{List, [], _++_, map}
+use lib.ListN.{length, take, replicate}
+use Rattle.grammar.specs.declared.Token.{Token}
+use Rattle.grammar.specs.declared.Parsed.{Parsed}
+use Rattle.grammar.specs.Tokens.{counted, tokens}
+use Rattle.grammar.specs.Grammar.{Tree, nodes, Expression, Refused, placeOf}
+
+-- the tokens of two lists of which count entries are used
+abbrev pub handed : List ℕ → List ℕ → ℕ → List Token
+handed codes places count = tokens (take count codes) (take count places)
+
+pub record Handed (codes places : List ℕ) (count : ℕ) : Type 0 where
+  pub codes-hold : count ≤ length codes
+  pub places-hold : count ≤ length places
+  pub few : counted (handed codes places count) ≤ 256
+
+-- 256 entries: some, and zeros behind them
+unfoldable pub padded : List ℕ → List ℕ
+padded xs = xs ++ replicate (256 - length xs) 0
+
+abbrev pub codesOf : List Token → List ℕ
+codesOf ns = map (λ (t : Token). t .code) ns
+
+abbrev pub placesOf : List Token → List ℕ
+placesOf ns = map (λ (t : Token). t .place) ns
+
+abbrev pub accepted : List Token → Parsed
+accepted ns =
+    record { ok = true; place = 0; len = length ns; codes = padded (codesOf ns); places = padded (placesOf ns) }
+
+abbrev pub refusedAt : ℕ → Parsed
+refusedAt p = record { ok = false; place = p; len = 0; codes = padded []; places = padded [] }
+
+-- the answer for the tokens of a text of that length
+pub data Answer (ts : List Token) (bytes : ℕ) (r : Parsed) : Type 0 where
+  tree : {e : Tree} → Expression ts e → r ≡ accepted (nodes e) → Answer ts bytes r
+  no-tree : {rest : List Token} → Refused ts rest → r ≡ refusedAt (placeOf bytes rest) → Answer ts bytes r
