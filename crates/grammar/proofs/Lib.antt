@@ -9,3 +9,4 @@ mod Levels
 mod Ranges
 mod Lists
 mod Steps
+mod Runs

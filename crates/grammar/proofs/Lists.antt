@@ -1,4 +1,5 @@
--- Laws of the tokens that two lists hold. Main names: tokens-length, token-at, no-token-at, counted-take. Assumes nothing.
+-- Laws of the tokens that two lists hold. Main names: tokens-length, token-at, no-token-at, counted-next, counted-take.
+-- Assumes nothing.
 use Prim.Native.Nat.{ℕ, zero, suc, _+_, _≤_, _<_, min}
 use native.Mathlib.Omega.{arith}
 use mathlib.Core.Path.{_≡_, refl, ap}

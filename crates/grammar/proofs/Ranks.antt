@@ -19,7 +19,7 @@ use Rattle.grammar.proofs.Table.{binary-level}
 abbrev pub unrank : ℕ → Kind
 unrank r =
     if eqb r 32 then operand else
-    if eqb r 64 then prefix else
+    if eqb r 33 then prefix else
     if eqb r 6 then question else
     if eqb r 61 then colon else
     if eqb r 62 then opening else
@@ -43,7 +43,7 @@ unrank-rank (binary l) h =
     let low = h l refl in
     rw (
       ne-eqb l 32 (omega arith),
-      ne-eqb l 64 (omega arith),
+      ne-eqb l 33 (omega arith),
       ne-eqb l 6 (omega arith),
       ne-eqb l 61 (omega arith),
       ne-eqb l 62 (omega arith),
@@ -92,7 +92,7 @@ rank-above ts = above-one (ahead ts) (low-ahead ts)
 
 -- what starts no expression
 pub not-starting :
-    (k : Kind) → ¬ (rank k ≡ 32) → ¬ (rank k ≡ 64) → ¬ (rank k ≡ 62) → starts k ≡ false
+    (k : Kind) → ¬ (rank k ≡ 32) → ¬ (rank k ≡ 33) → ¬ (rank k ≡ 62) → starts k ≡ false
 not-starting operand a b c = absurd (a refl)
 not-starting prefix a b c = absurd (b refl)
 not-starting question a b c = refl

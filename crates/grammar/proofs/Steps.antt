@@ -1,5 +1,5 @@
--- Laws of a state's view, for the functions that make one step. Main names: seen-token, seen-end, seen-off (peek), here-law (rank_at), past-law (step),
--- push-law (emit), halt-law (stop), eat-hit and eat-miss (eat). Assumes nothing.
+-- Laws of a state's view, for the functions that make one step. Main names: seen-token, seen-end, seen-off (peek),
+-- ranked-law (rank_at), past-law (step), push-law (emit), halt-law (stop), eat-hit and eat-miss (eat). Assumes nothing.
 use Prim.Native.Nat.{ℕ, suc, _+_, _≤_, _<_}
 use native.Mathlib.Omega.{arith}
 use native.Mathlib.Numerals.{add-one}

@@ -12,7 +12,7 @@ use Rattle.grammar.specs.Grammar.{Tree, Parses}
 -- a kind as a number: the level of an operator that goes on after an operand; the others are above 6
 abbrev pub rank : Kind → ℕ
 rank operand = 32
-rank prefix = 64
+rank prefix = 33
 rank question = 6
 rank colon = 61
 rank opening = 62

@@ -39,7 +39,7 @@ returns-6 : tie.Need-returns-6
 returns-6 c = ranked (λ k. k) 61 3 _ (unfold kind kindIn table in refl) (omega arith) (omega arith)
 
 returns-7 : tie.Need-returns-7
-returns-7 c = ranked (λ k. 64) 64 84 _ (unfold kind kindIn table in refl) (omega arith) (omega arith)
+returns-7 c = ranked (λ k. 33) 64 84 _ (unfold kind kindIn table in refl) (omega arith) (omega arith)
 
 returns-8 : tie.Need-returns-8
 returns-8 c = ranked (λ k. 99) 1 31 _ (unfold kind kindIn table in refl) (omega arith) (omega arith)
