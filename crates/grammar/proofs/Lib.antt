@@ -10,3 +10,5 @@ mod Ranges
 mod Lists
 mod Steps
 mod Runs
+mod Padding
+mod Finish

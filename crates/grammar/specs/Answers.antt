@@ -4,7 +4,9 @@ use Prim.Native.Nat.{ℕ, _-_, _≤_}
 use mathlib.Core.Path.{_≡_}
 use mathlib.Core.Bool.{true, false}
 use mathlib.Core.List.{List, [], _++_, map}
-use lib.ListN.{length, take, replicate}
+use lib.Dec.{ltb}
+use lib.ListN.{length, getD, take, replicate}
+use Rattle.alf.specs.Words.{if_then_else_}
 use Rattle.grammar.specs.declared.Token.{Token}
 use Rattle.grammar.specs.declared.Parsed.{Parsed}
 use Rattle.grammar.specs.Tokens.{counted, tokens}
@@ -18,6 +20,10 @@ pub record Handed (codes places : List ℕ) (count : ℕ) : Type 0 where
   pub codes-hold : count ≤ length codes
   pub places-hold : count ≤ length places
   pub few : counted (handed codes places count) ≤ 256
+
+-- the byte of the token at a number, or the text's length behind the last
+unfoldable pub placeAt : List ℕ → ℕ → ℕ → ℕ
+placeAt places i bytes = if ltb i (length places) then getD places i 0 else bytes
 
 -- 256 entries: some, and zeros behind them
 unfoldable pub padded : List ℕ → List ℕ

@@ -8,7 +8,7 @@ use lib.ListN.{length, take, drop}
 use Rattle.alf.specs.Words.{if_then_else_}
 use Rattle.grammar.specs.declared.Token.{Token}
 use Rattle.grammar.specs.declared.State.{State}
-use Rattle.grammar.specs.Tokens.{weight, counted}
+use Rattle.grammar.specs.Tokens.{weight, counted, tokens}
 use Rattle.grammar.specs.Stops.{rank}
 use Rattle.grammar.specs.Views.{View, going, stopped, aheadV, headV, past, push, halt, eaten, Does, Ends}
 
@@ -90,11 +90,16 @@ pub record Ran (l : ℕ) (ts : List Token) (s r : State) : Type 0 where
   pub moved : Moved ts s r
   pub does : Does l l (view ts s) (view ts r)
 
--- the tokens of a whole text, and what they come to
-pub record Given (ts : List Token) (codes places : List ℕ) : Type 0 where
+-- read_all: the tokens of a whole text, and what they come to
+pub record Given (codes places : List ℕ) : Type 0 where
   pub even : length places ≡ length codes
-  pub small : counted ts ≤ 256
+  pub small : counted (tokens codes places) ≤ 256
 
 pub record Finished (ts : List Token) (r : State) : Type 0 where
   pub fine : Fine ts r
   pub ends : Ends ts (view ts r)
+
+-- accept: the nodes are there
+pub record Full (s : State) : Type 0 where
+  pub below : s .len ≤ 256
+  pub whole : length (s .nodes) ≡ 256
