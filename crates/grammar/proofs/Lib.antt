@@ -12,3 +12,5 @@ mod Steps
 mod Runs
 mod Padding
 mod Finish
+mod Outcome
+mod RowFive

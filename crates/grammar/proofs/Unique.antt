@@ -14,26 +14,25 @@ parses-unique p q = one-tree p q
 begins-before : (ts us : List Token) → Begins (ts ++ us) → Begins ts
 begins-before ts us b = record { more = us ++ b .more; tree = b .tree; whole = rw append-assoc at (b .whole) }
 
-expression-begins : (ts : List Token) (e : Tree) → Expression ts e → Begins ts
+pub expression-begins : (ts : List Token) (e : Tree) → Expression ts e → Begins ts
 expression-begins ts e p = record { more = []; tree = e; whole = rw append-nil p }
 
--- up to and including the token refused, nothing begins with it
-goes-no-further : (pre more : List Token) (t : Token) → Begins (pre ++ (t ∷ more)) → Begins (pre ++ (t ∷ []))
-goes-no-further pre more t b =
+pub begins-with : (pre more : List Token) (t : Token) → Begins (pre ++ (t ∷ more)) → Begins (pre ++ (t ∷ []))
+begins-with pre more t b =
     begins-before (pre ++ (t ∷ [])) more (rw append-assoc b)
 
 -- a tree or a refusal, and never both
 pub never-both : {ts rest : List Token} {e : Tree} → Expression ts e → Refused ts rest → ⊥
 never-both {e = e} p (at-token {before = pre} {rest = rest} {t = t} s b n) =
-    n (goes-no-further pre rest t (expression-begins _ e (rw s at p)))
+    n (begins-with pre rest t (expression-begins _ e (rw s at p)))
 never-both {e = e} p (at-end b n) = n e p
 
 -- two ways to part a list: one goes at least as far as the other
-data Parts (a b c d : List Token) : Type 0 where
+pub data Parts (a b c d : List Token) : Type 0 where
   further : (m : List Token) → c ≡ a ++ m → b ≡ m ++ d → Parts a b c d
   shorter : (m : List Token) → a ≡ c ++ m → d ≡ m ++ b → Parts a b c d
 
-parts : (a b c d : List Token) → a ++ b ≡ c ++ d → Parts a b c d
+pub parts : (a b c d : List Token) → a ++ b ≡ c ++ d → Parts a b c d
 parts [] b c d e = further c refl e
 parts (x ∷ a) b [] d e = shorter (x ∷ a) refl (sym e)
 parts (x ∷ a) b (y ∷ c) d e =
@@ -55,7 +54,7 @@ no-further :
     t ∷ r ≡ d
 no-further a r c d [] t p q b n = q
 no-further a r c d (x ∷ m) t p q b n =
-    let h : t ≡ x = cc in absurd (n (goes-no-further a m t (rw (← h) at (rw p at b))))
+    let h : t ≡ x = cc in absurd (n (begins-with a m t (rw (← h) at (rw p at b))))
 
 -- one place
 pub refused-unique : {ts rest rest′ : List Token} → Refused ts rest → Refused ts rest′ → rest ≡ rest′
@@ -66,7 +65,7 @@ refused-unique (at-token {before = a} {rest = r} {t = t} s b n) (at-token {befor
     go (further m p q) = no-further a r c (u ∷ r′) m t p q b′ n
     go (shorter m p q) = sym (no-further c r′ a (t ∷ r) m u p q b n′)
 refused-unique (at-token {before = a} {rest = r} {t = t} s b n) (at-end b′ n′) =
-    absurd (n (goes-no-further a r t (rw s at b′)))
+    absurd (n (begins-with a r t (rw s at b′)))
 refused-unique (at-end b n) (at-token {before = a} {rest = r} {t = t} s b′ n′) =
-    absurd (n′ (goes-no-further a r t (rw s at b)))
+    absurd (n′ (begins-with a r t (rw s at b)))
 refused-unique (at-end b n) (at-end b′ n′) = refl
