@@ -49,7 +49,10 @@ module _ {ts : List Token} {s r : State} (v : view ts s ≡ going ts []) (rn : R
       }
 
 -- what parse hands on
-pub given : {codes places : List ℕ} {count : ℕ} → Handed codes places count → Given (take count codes) (take count places)
+pub given :
+    {codes places : List ℕ} {count : ℕ} →
+    Handed codes places count →
+    Given (take count codes) (take count places)
 given {codes} {places} {count} h =
     record {
       even = length-take-le count places (h .places-hold) ∙ sym (length-take-le count codes (h .codes-hold));

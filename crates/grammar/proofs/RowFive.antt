@@ -11,12 +11,14 @@ use Rattle.alf.specs.Refusals.{First, no-grammar}
 use Rattle.grammar.specs.declared.Token.{Token}
 use Rattle.grammar.specs.declared.Parsed.{Parsed}
 use Rattle.grammar.specs.Grammar.{Tree, Expression, Begins, Refused, at-token, at-end, placeOf}
-use Rattle.grammar.specs.Answers.{Answer, tree, no-tree, refusedAt, Stuck, with-token, with-end, Rising, none, next}
+use Rattle.grammar.specs.Answers.{Answer, tree, no-tree, refusedAt, Stuck, with-token, with-end}
+use Rattle.grammar.specs.Answers.{Rising, none, next}
 use Rattle.grammar.proofs.Outcome.{parse-sound, refuse-sound}
 use Rattle.grammar.proofs.Unique.{begins-with, expression-begins, Parts, further, shorter, parts}
 
 -- places on the way
-rising-end : {bytes : ℕ} (ts : List Token) (t : Token) (r : List Token) → Rising bytes (ts ++ (t ∷ r)) → t .place < bytes
+rising-end :
+    {bytes : ℕ} (ts : List Token) (t : Token) (r : List Token) → Rising bytes (ts ++ (t ∷ r)) → t .place < bytes
 rising-end [] t [] (next h none) = h
 rising-end [] t (u ∷ r) (next h k) = let z = rising-end [] u r k in omega arith
 rising-end (x ∷ ts) t r (next h k) = rising-end ts t r k

@@ -95,7 +95,8 @@ module _ {ts : List Token} {s : State} {k : ℕ} (rk : Ranked ts s k) where
   pub ran-stop : {r : State} → ¬ (k ≡ 32) → ¬ (k ≡ 33) → ¬ (k ≡ 62) → Halted ts s r → Ran 1 ts s r
   ran-stop a b c h =
       ran (h .moved)
-      (rw (h .is) (stops-here (view ts s) (not-starting (aheadV (view ts s)) (unlike rk a) (unlike rk b) (unlike rk c))))
+      (rw (h .is)
+      (stops-here (view ts s) (not-starting (aheadV (view ts s)) (unlike rk a) (unlike rk b) (unlike rk c))))
 
 -- the loop of level l + 1: whatever was read up to o₀, one operand more is read up to o
 pub record Grew (l : ℕ) (ts : List Token) (o₀ o : State) : Type 0 where

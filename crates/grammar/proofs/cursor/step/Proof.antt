@@ -3,8 +3,8 @@ use borrow.Author.Needs.{needs}
 use native.Mathlib.Omega.{arith}
 use Rattle.grammar.proofs.Lists.{tokens-length}
 use Rattle.grammar.proofs.Steps.{past-law, used-law}
-use Rattle.grammar.proofs.step.Statement.{statement}
-use Rattle.grammar.proofs.step.Tie as tie
+use Rattle.grammar.proofs.cursor.step.Statement.{statement}
+use Rattle.grammar.proofs.cursor.step.Tie as tie
 
 add-o : tie.Need-add-o
 add-o c = omega (arith, tokens-length (c .before .args .codes .now) (c .before .args .places .now))

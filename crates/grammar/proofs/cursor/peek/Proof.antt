@@ -3,8 +3,8 @@ use borrow.Author.Needs.{needs}
 use native.Mathlib.Omega.{arith}
 use Rattle.grammar.proofs.Lists.{tokens-length}
 use Rattle.grammar.proofs.Steps.{seen-token, seen-end, seen-off}
-use Rattle.grammar.proofs.peek.Statement.{statement}
-use Rattle.grammar.proofs.peek.Tie as tie
+use Rattle.grammar.proofs.cursor.peek.Statement.{statement}
+use Rattle.grammar.proofs.cursor.peek.Tie as tie
 
 shared-slice-read-code : tie.Need-shared-slice-read-code
 shared-slice-read-code c = search needs

@@ -2,8 +2,8 @@
 use borrow.Author.Needs.{needs}
 use native.Mathlib.Omega.{arith}
 use Rattle.grammar.proofs.Steps.{eat-hit, eat-miss}
-use Rattle.grammar.proofs.eat.Statement.{statement}
-use Rattle.grammar.proofs.eat.Tie as tie
+use Rattle.grammar.proofs.cursor.eat.Statement.{statement}
+use Rattle.grammar.proofs.cursor.eat.Tie as tie
 
 rank-at-requires : tie.Need-rank-at-requires
 rank-at-requires c κs = search needs

@@ -8,8 +8,8 @@ use borrow.Author.Tests.{eqb-true}
 use Rattle.grammar.specs.Tokens.{table, kindIn, kind}
 use Rattle.grammar.specs.Stops.{rank}
 use Rattle.grammar.proofs.Ranges.{all-from, in-range}
-use Rattle.grammar.proofs.rank_of.Statement.{statement}
-use Rattle.grammar.proofs.rank_of.Tie as tie
+use Rattle.grammar.proofs.cursor.rank_of.Statement.{statement}
+use Rattle.grammar.proofs.cursor.rank_of.Tie as tie
 
 -- f gives the rank of each of n codes from lo on
 ranked :

@@ -1,8 +1,8 @@
 -- `rank_at` gives the next token's rank. Assumes nothing.
 use borrow.Author.Needs.{needs}
 use Rattle.grammar.proofs.Steps.{ranked-law}
-use Rattle.grammar.proofs.rank_at.Statement.{statement}
-use Rattle.grammar.proofs.rank_at.Tie as tie
+use Rattle.grammar.proofs.cursor.rank_at.Statement.{statement}
+use Rattle.grammar.proofs.cursor.rank_at.Tie as tie
 
 peek-requires : tie.Need-peek-requires
 peek-requires c κs = search needs

@@ -3,8 +3,8 @@ use borrow.Author.Needs.{needs}
 use native.Mathlib.Omega.{arith}
 use mathlib.Core.Path.{refl}
 use Rattle.grammar.proofs.Steps.{push-law, push-off, emit-fine, used-same}
-use Rattle.grammar.proofs.emit.Statement.{statement}
-use Rattle.grammar.proofs.emit.Tie as tie
+use Rattle.grammar.proofs.cursor.emit.Statement.{statement}
+use Rattle.grammar.proofs.cursor.emit.Tie as tie
 
 mul-t : tie.Need-mul-t
 mul-t c = search needs

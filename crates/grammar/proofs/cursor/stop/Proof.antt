@@ -1,7 +1,7 @@
 -- `stop` stops where it is. Assumes nothing.
 use Rattle.grammar.proofs.Steps.{halt-law, halt-moved}
-use Rattle.grammar.proofs.stop.Statement.{statement}
-use Rattle.grammar.proofs.stop.Tie as tie
+use Rattle.grammar.proofs.cursor.stop.Statement.{statement}
+use Rattle.grammar.proofs.cursor.stop.Tie as tie
 
 returns : tie.Need-returns
 returns c = record { moved = halt-moved _ (c .args .s) (c .pre); is = halt-law _ (c .args .s) }
