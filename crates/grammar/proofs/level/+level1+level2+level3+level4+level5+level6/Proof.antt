@@ -142,9 +142,8 @@ pub +level1+level2+level3+level4+level5+level6-spec : {M : Type 1} → statement
     ran-stop (r .before .before .rank-at .ensures) (r .if1 .left) (c .before .before .if2 .left)
     (c .before .if3 .left) (c .stop .ensures)))
     (λ t. level2-lts.spec (calls (below 1 t) level1.Post) (at 2 t) level2.Post (inv 1) μ-loop
-    -- level1-requires, loop-holds
+    -- level1-requires, loop-holds, rank-at-requires, peek-requires
     (λ c κs. search needs) (λ c. record { moved = search needs; more = λ v d. d })
-    -- rank-at-requires, peek-requires
     (λ c κs. search needs) (λ c κs. search needs)
     -- step-requires, level1-requires-2, emit-requires
     (λ c κs. record { fine = search needs; here = c .before .before .rank-at .ensures .here (omega arith) })
@@ -164,9 +163,8 @@ pub +level1+level2+level3+level4+level5+level6-spec : {M : Type 1} → statement
     let r = c .before .before in
     grew-out (r .before .level1 .ensures) (r .loop .inv) (c .before .rank-at .ensures) (c .if1 .left)))
     (λ t. level3-lts.spec (calls (below 2 t) level2.Post) (at 3 t) level3.Post (inv 2) μ-loop
-    -- level2-requires, loop-holds
+    -- level2-requires, loop-holds, rank-at-requires, peek-requires
     (λ c κs. search needs) (λ c. record { moved = search needs; more = λ v d. d })
-    -- rank-at-requires, peek-requires
     (λ c κs. search needs) (λ c κs. search needs)
     -- step-requires, level2-requires-2, emit-requires
     (λ c κs. record { fine = search needs; here = c .before .before .rank-at .ensures .here (omega arith) })
@@ -186,9 +184,8 @@ pub +level1+level2+level3+level4+level5+level6-spec : {M : Type 1} → statement
     let r = c .before .before in
     grew-out (r .before .level2 .ensures) (r .loop .inv) (c .before .rank-at .ensures) (c .if1 .left)))
     (λ t. level4-lts.spec (calls (below 3 t) level3.Post) (at 4 t) level4.Post (inv 3) μ-loop
-    -- level3-requires, loop-holds
+    -- level3-requires, loop-holds, rank-at-requires, peek-requires
     (λ c κs. search needs) (λ c. record { moved = search needs; more = λ v d. d })
-    -- rank-at-requires, peek-requires
     (λ c κs. search needs) (λ c κs. search needs)
     -- step-requires, level3-requires-2, emit-requires
     (λ c κs. record { fine = search needs; here = c .before .before .rank-at .ensures .here (omega arith) })
@@ -208,9 +205,8 @@ pub +level1+level2+level3+level4+level5+level6-spec : {M : Type 1} → statement
     let r = c .before .before in
     grew-out (r .before .level3 .ensures) (r .loop .inv) (c .before .rank-at .ensures) (c .if1 .left)))
     (λ t. level5-lts.spec (calls (below 4 t) level4.Post) (at 5 t) level5.Post (inv 4) μ-loop
-    -- level4-requires, loop-holds
+    -- level4-requires, loop-holds, rank-at-requires, peek-requires
     (λ c κs. search needs) (λ c. record { moved = search needs; more = λ v d. d })
-    -- rank-at-requires, peek-requires
     (λ c κs. search needs) (λ c κs. search needs)
     -- step-requires, level4-requires-2, emit-requires
     (λ c κs. record { fine = search needs; here = c .before .before .rank-at .ensures .here (omega arith) })
