@@ -14,3 +14,5 @@ mod Padding
 mod Finish
 mod Outcome
 mod RowFive
+mod Written
+mod Fewest
