@@ -1,0 +1,76 @@
+-- Laws of the answer's lists: some entries and zeros behind them, written one by one. Main names: padded-none,
+-- padded-next, accepted-all, placeAt-of. Assumes nothing.
+use Prim.Native.Nat.{ℕ, zero, suc, _+_, _-_, _≤_, _<_}
+use native.Mathlib.Omega.{arith}
+use native.Mathlib.Numerals.{add-one}
+use mathlib.Core.Path.{_≡_, refl, sym, ap, _∙_}
+use mathlib.Core.Bool.{Bool, true, false}
+use mathlib.Core.List.{List, [], _∷_, _++_, map, append-assoc}
+use lib.Dec.{ltb}
+use lib.ListN.{length, getD, take, drop, set, replicate, length-append, length-map, drop-of-length-le}
+use lib.Seq.{set-append-seam, take-suc, length-take-le}
+use borrow.Author.Tests.{ltb-true, ltb-false}
+use Rattle.alf.specs.Words.{if_then_else_}
+use Rattle.grammar.specs.declared.Token.{Token}
+use Rattle.grammar.specs.Tokens.{tokens}
+use Rattle.grammar.specs.Grammar.{placeOf}
+use Rattle.grammar.specs.Answers.{placeAt, padded, codesOf, placesOf, accepted}
+use Rattle.grammar.proofs.Lists.{tokens-length}
+
+pub padded-none : replicate 256 0 ≡ padded []
+unfolding padded
+padded-none = refl
+
+padded-set : (xs : List ℕ) (v : ℕ) → length xs < 256 → set (padded xs) (length xs) v ≡ padded (xs ++ (v ∷ []))
+unfolding padded
+padded-set xs v h =
+    let e : 256 - length xs ≡ suc (256 - length (xs ++ (v ∷ []))) = omega (arith, length-append xs (v ∷ [])) in
+    rw e
+    (set-append-seam xs 0 (replicate (256 - length (xs ++ (v ∷ []))) 0) v ∙ sym (append-assoc xs (v ∷ []) _))
+
+map-snoc : (f : Token → ℕ) (ns : List Token) (t : Token) → map f (ns ++ (t ∷ [])) ≡ map f ns ++ (f t ∷ [])
+map-snoc f [] t = refl
+map-snoc f (n ∷ ns) t = ap (λ (x : List ℕ). f n ∷ x) (map-snoc f ns t)
+
+pub padded-next :
+    (f : Token → ℕ) (ns : List Token) (i : ℕ) (d : Token) →
+    i < length ns →
+    i < 256 →
+    set (padded (map f (take i ns))) i (f (getD ns i d)) ≡ padded (map f (take (i + 1) ns))
+padded-next f ns i d h k =
+    let l : length (map f (take i ns)) ≡ i = length-map (take i ns) f ∙ length-take-le i ns (omega arith) in
+    let t : map f (take (i + 1) ns) ≡ map f (take i ns) ++ (f (getD ns i d) ∷ []) =
+    rw (add-one, take-suc ns i d h) (map-snoc f (take i ns) (getD ns i d))
+    in
+    ap (λ (n : ℕ). set (padded (map f (take i ns))) n (f (getD ns i d))) (sym l)
+    ∙ padded-set (map f (take i ns)) (f (getD ns i d)) (omega arith)
+    ∙ ap padded (sym t)
+
+pub accepted-all :
+    (ns : List Token) (n : ℕ) (codes places : List ℕ) →
+    n ≤ length ns →
+    codes ≡ padded (codesOf (take n ns)) →
+    places ≡ padded (placesOf (take n ns)) →
+    record { ok = true; place = 0; len = n; codes = codes; places = places } ≡ accepted (take n ns)
+accepted-all ns n codes places h e f = rw (e, f, length-take-le n ns h)
+
+-- the place of the token at a number
+place-in :
+    (cs ps : List ℕ) (i bytes : ℕ) → i < length cs → i < length ps → getD ps i 0 ≡ placeOf bytes (drop i (tokens cs ps))
+unfolding tokens
+place-in [] ps i bytes h k = absurd (omega arith)
+place-in (c ∷ cs) [] i bytes h k = absurd (omega arith)
+place-in (c ∷ cs) (p ∷ ps) zero bytes h k = refl
+place-in (c ∷ cs) (p ∷ ps) (suc i) bytes h k = place-in cs ps i bytes (omega arith) (omega arith)
+
+pub placeAt-of :
+    (cs ps : List ℕ) (i bytes : ℕ) → length ps ≡ length cs → placeAt ps i bytes ≡ placeOf bytes (drop i (tokens cs ps))
+unfolding placeAt
+placeAt-of cs ps i bytes e = go (ltb i (length ps)) refl
+  where
+    go : (b : Bool) → ltb i (length ps) ≡ b → (if b then getD ps i 0 else bytes) ≡ placeOf bytes (drop i (tokens cs ps))
+    go true h = let k = ltb-true i (length ps) h in place-in cs ps i bytes (omega arith) k
+    go false h =
+        let k = ltb-false i (length ps) h in
+        let l : length (tokens cs ps) ≤ i = omega (arith, tokens-length cs ps) in
+        rw (drop-of-length-le (tokens cs ps) l)
