@@ -16,7 +16,7 @@ use Rattle.alf.specs.States.{among}
 use Rattle.tokens.specs.Classes.{halfOf}
 use Rattle.tokens.specs.Taking.{byteAt, isHalf}
 use Rattle.tokens.specs.Steps.{halfAt}
-use Rattle.tokens.specs.Needs.{HalfAt}
+use Rattle.tokens.specs.Inner.{HalfAt}
 use Rattle.tokens.proofs.Lists.{and-false}
 
 pub at-most : (t : Bool) {x y n : ℕ} → x ≤ n → y ≤ n → (if t then x else y) ≤ n

@@ -15,7 +15,7 @@ use borrow.Author.Tests.{eqb-true, ltb-true}
 use Rattle.tokens.specs.declared.Step.{Step}
 use Rattle.tokens.specs.Spelling.{Spelling, _means_, spellings}
 use Rattle.tokens.specs.Steps.{starts, firstOf, step, none}
-use Rattle.tokens.specs.Needs.{wordOf}
+use Rattle.tokens.specs.Inner.{wordOf}
 use Rattle.tokens.proofs.Ranges.{and-left, and-right, all-from-law}
 
 abbrev pub flat : List Spelling → List ℕ
@@ -23,7 +23,7 @@ flat [] = []
 flat (e ∷ es) =
     getD (e .bytes) 0 0 ∷ (getD (e .bytes) 1 0 ∷ (getD (e .bytes) 2 0 ∷ (e .code ∷ flat es)))
 
-abbrev same : List ℕ → List ℕ → Bool
+abbrev pub same : List ℕ → List ℕ → Bool
 same [] [] = true
 same [] (y ∷ ys) = false
 same (x ∷ xs) [] = false

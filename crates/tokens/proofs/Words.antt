@@ -13,7 +13,7 @@ use lib.Seq.{getD-drop, drop-drop}
 use borrow.Author.Tests.{eq-eqb, ne-eqb}
 use Rattle.tokens.specs.Taking.{byteAt}
 use Rattle.tokens.specs.Steps.{starts}
-use Rattle.tokens.specs.Needs.{wordOf}
+use Rattle.tokens.specs.Inner.{wordOf}
 use Rattle.tokens.proofs.Lists.{starts-byte}
 
 and-true : (a : Bool) → a && true ≡ a

@@ -5,4 +5,4 @@ pub mod Taking
 pub mod Texts
 pub mod Steps
 pub mod Reading
-pub mod Needs
+pub mod Inner

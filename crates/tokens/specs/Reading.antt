@@ -8,6 +8,9 @@ use Rattle.alf.specs.Refusals.{RefusedWith, Passed}
 use Rattle.tokens.specs.declared.Tokens.{Tokens}
 use Rattle.tokens.specs.Texts.{Token, Reads, order}
 
+unfoldable pub zeros : List ℕ
+zeros = replicate 4096 0
+
 -- zeros behind a list, up to 4,096 entries
 unfoldable pub filled : List ℕ → List ℕ
 filled xs = xs ++ replicate (4096 - length xs) 0
@@ -38,8 +41,8 @@ refusedWith n p =
       refused = true;
       refusal = record { number = n; place = p };
       count = 0;
-      codes = replicate 4096 0;
-      places = replicate 4096 0;
+      codes = zeros;
+      places = zeros;
     }
 
 -- 1 to 4 in their order, exactly when the table says; else the tokens of the text

@@ -16,9 +16,8 @@ pub record Token : Type 0 where
   pub code : ℕ
   pub place : ℕ
 
-infix 90 _at_
-abbrev pub _at_ : ℕ → ℕ → Token
-_at_ c p = record { code = c; place = p }
+abbrev pub tokenAt : ℕ → ℕ → Token
+tokenAt c p = record { code = c; place = p }
 
 -- the bytes that stand from place p on to the text's end are these tokens
 pub data Reads : ℕ → List ℕ → List Token → Type 0 where
@@ -29,7 +28,7 @@ pub data Reads : ℕ → List ℕ → List Token → Type 0 where
       isBlank b ≡ false →
       Taken (b ∷ bs) w c after →
       Reads (p + length w) after ts →
-      Reads p (b ∷ bs) ((c at p) ∷ ts)
+      Reads p (b ∷ bs) (tokenAt c p ∷ ts)
 
 -- of the bytes that stand from place p on, those at place q form no token, and all before them are tokens and blanks
 pub data Stuck : ℕ → List ℕ → ℕ → Type 0 where

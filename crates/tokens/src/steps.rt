@@ -5,7 +5,7 @@ ghost use lib.ListN.{length, drop};
 ghost use Rattle.tokens.specs.Spelling.{spellings};
 ghost use Rattle.tokens.specs.Taking.{byteAt, nameBytes};
 ghost use Rattle.tokens.specs.Steps.{starts, firstOf, basedStep, plainStep, stepOf};
-ghost use Rattle.tokens.specs.Needs.{Near, HalfAt, Begun, wordOf};
+ghost use Rattle.tokens.specs.Inner.{Near, HalfAt, Begun, wordOf};
 use crate::Class;
 use crate::Step;
 use crate::classes::class_of;
