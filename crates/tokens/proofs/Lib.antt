@@ -1,0 +1,21 @@
+-- The laws of tokens.
+mod Ranges
+mod ByteClasses
+mod Lists
+mod Halves
+mod Words
+mod Table
+mod Ways
+mod Bytes
+mod Search
+mod Shapes
+mod Codes
+mod Taking
+mod TextLaws
+mod Filling
+mod Scanning
+mod Counts
+mod Places
+mod Orders
+mod ReadingLaws
+mod Handing

@@ -1,0 +1,99 @@
+-- The table of spellings as the code has it, four bytes an entry, and a search in it.
+--   entry                      entry i of the code's table is entry i of the spellings, by a computed test
+--   find-hit, find-miss, find-end   one turn of the search, and its end
+-- Assumes nothing.
+use mathlib.Core.Path.{_≡_, refl, sym, ap, _∙_}
+use mathlib.Core.Bool.{Bool, true, false, _&&_}
+use mathlib.Core.List.{List, [], _∷_}
+use Prim.Native.Nat.{ℕ, suc, _+_, _*_, _≤_, _<_}
+use native.Mathlib.Omega.{arith}
+use native.Mathlib.Numerals.{add-one}
+use lib.Dec.{eqb, ltb}
+use lib.ListN.{length, getD, drop, drop-of-length-le}
+use lib.Seq.{drop-cons}
+use borrow.Author.Tests.{eqb-true, ltb-true}
+use Rattle.tokens.specs.declared.Step.{Step}
+use Rattle.tokens.specs.Spelling.{Spelling, _means_, spellings}
+use Rattle.tokens.specs.Steps.{starts, firstOf, step, none}
+use Rattle.tokens.specs.Inner.{wordOf}
+use Rattle.tokens.proofs.Ranges.{and-left, and-right, all-from-law}
+
+abbrev pub flat : List Spelling → List ℕ
+flat [] = []
+flat (e ∷ es) =
+    getD (e .bytes) 0 0 ∷ (getD (e .bytes) 1 0 ∷ (getD (e .bytes) 2 0 ∷ (e .code ∷ flat es)))
+
+abbrev pub same : List ℕ → List ℕ → Bool
+same [] [] = true
+same [] (y ∷ ys) = false
+same (x ∷ xs) [] = false
+same (x ∷ xs) (y ∷ ys) = eqb x y && same xs ys
+
+same-law : (xs ys : List ℕ) → same xs ys ≡ true → xs ≡ ys
+same-law [] [] e = refl
+same-law [] (y ∷ ys) e = let z : _≡_ {A = ℕ} 0 1 = cc in absurd (omega arith)
+same-law (x ∷ xs) [] e = let z : _≡_ {A = ℕ} 0 1 = cc in absurd (omega arith)
+same-law (x ∷ xs) (y ∷ ys) e =
+    rw (eqb-true x y (and-left (eqb x y) (same xs ys) e), same-law xs ys (and-right (eqb x y) (same xs ys) e))
+
+abbrev nothing : Spelling
+nothing = [] means none
+
+-- byte j of entry i
+abbrev pub cell : ℕ → ℕ → ℕ
+cell i j = getD (flat spellings) (4 * i + j) 0
+
+abbrev pub word : ℕ → List ℕ
+word i = wordOf (getD (flat spellings) (4 * i) 0) (cell i 1) (cell i 2)
+
+pub record Entry (i : ℕ) : Type 0 where
+  pub bytes : word i ≡ getD spellings i nothing .bytes
+  pub code : cell i 3 ≡ getD spellings i nothing .code
+  pub first : 0 < getD (flat spellings) (4 * i) 0
+
+abbrev entry-test : ℕ → Bool
+entry-test i =
+    same (word i) (getD spellings i nothing .bytes) &&
+    (eqb (cell i 3) (getD spellings i nothing .code) && ltb 0 (getD (flat spellings) (4 * i) 0))
+
+entry-of : (i : ℕ) → entry-test i ≡ true → Entry i
+entry-of i t =
+    record {
+      bytes = same-law _ _ (and-left _ _ t);
+      code = eqb-true _ _ (and-left _ _ (and-right (same (word i) (getD spellings i nothing .bytes)) _ t));
+      first = ltb-true _ _ (and-right (eqb (cell i 3) (getD spellings i nothing .code)) _ (and-right (same (word i) (getD spellings i nothing .bytes)) _ t));
+    }
+
+pub entry : (i : ℕ) → i < 26 → Entry i
+unfolding spellings wordOf
+entry i h = entry-of i (all-from-law entry-test 0 26 i refl (omega arith) (omega arith))
+
+first-hit : (e : Spelling) (es : List Spelling) (bs : List ℕ) → starts (e .bytes) bs ≡ true → firstOf (e ∷ es) bs ≡ step (e .code) (length (e .bytes))
+unfolding firstOf
+first-hit e es bs h = rw h
+
+first-miss : (e : Spelling) (es : List Spelling) (bs : List ℕ) → starts (e .bytes) bs ≡ false → firstOf (e ∷ es) bs ≡ firstOf es bs
+unfolding firstOf
+first-miss e es bs h = rw h
+
+many : length spellings ≡ 26
+unfolding spellings
+many = refl
+
+module _ (bs : List ℕ) (i : ℕ) (inv : firstOf (drop i spellings) bs ≡ firstOf spellings bs) where
+  next : i < 26 → firstOf (getD spellings i nothing ∷ drop (suc i) spellings) bs ≡ firstOf spellings bs
+  next h = rw (drop-cons spellings i nothing (omega (arith, many))) at inv
+
+  pub find-hit : i < 26 → true ≡ starts (word i) bs → {n : ℕ} → n ≡ length (word i) → step (cell i 3) n ≡ firstOf spellings bs
+  find-hit h s {n} e =
+      let k = entry i h in
+      rw (k .code, e, k .bytes) (sym (first-hit _ _ bs (rw (k .bytes) at (sym s))) ∙ next h)
+
+  pub find-miss : i < 26 → false ≡ starts (word i) bs → firstOf (drop (i + 1) spellings) bs ≡ firstOf spellings bs
+  find-miss h s =
+      let k = entry i h in
+      rw add-one (sym (first-miss _ _ bs (rw (k .bytes) at (sym s))) ∙ next h)
+
+  pub find-end : 26 ≤ i → step none 0 ≡ firstOf spellings bs
+  unfolding firstOf
+  find-end h = rw (drop-of-length-le spellings {i = i} (omega (arith, many))) at inv

@@ -1,0 +1,129 @@
+// A text into its tokens, or refused with 1, 2, 3 or 4.
+mod classes;
+mod limits;
+mod steps;
+
+ghost use mathlib.Core.Path.{_≡_};
+ghost use Prim.Native.Nat.{_≤_};
+ghost use lib.ListN.{length};
+ghost use Rattle.tokens.specs.Inner.{Scan};
+ghost use Rattle.tokens.specs.Reading.{Reading, refusedWith, zeros};
+use alf::Refusal;
+use classes::is_blank;
+use limits::first_over;
+use steps::take_token;
+
+// The class of a byte.
+pub enum Class {
+    Letter,
+    Quote,
+    Digit,
+    Blank,
+    Operator,
+    Other,
+}
+
+// One token: its code and how many bytes it has. Where there is none: 255, and how far on the byte refused is.
+pub struct Step {
+    pub code: u8,
+    pub size: usize,
+}
+
+// The tokens of a text: of the lists the first `count` entries, with zeros behind them. None where the text is refused.
+pub struct Tokens {
+    pub refused: bool,
+    pub refusal: Refusal,
+    pub count: usize,
+    pub codes: [u8; 4096],
+    pub places: [u16; 4096],
+}
+
+fn no_codes() -> [u8; 4096]
+    ensures { λ r. ⌜ r ≡ zeros ⌝ }
+{
+    [0u8; 4096]
+}
+
+fn no_places() -> [u16; 4096]
+    ensures { λ r. ⌜ r ≡ zeros ⌝ }
+{
+    [0u16; 4096]
+}
+
+// No tokens.
+fn refuse(number: u8, place: usize) -> Tokens
+    ensures { λ r. ⌜ r ≡ refusedWith number place ⌝ }
+{
+    let codes = no_codes();
+    let places = no_places();
+    Tokens {
+        refused: true,
+        refusal: Refusal { number, place },
+        count: 0,
+        codes,
+        places,
+    }
+}
+
+// The tokens of a text of at most 4,096 bytes, or refused with 2.
+fn scan(text: &[u8]) -> Tokens
+    requires { ⌜ length (now text) ≤ 4096 ⌝ }
+    ensures { λ r. ⌜ Scan (now (text .entry)) r ⌝ }
+{
+    let mut codes = no_codes();
+    let mut places = no_places();
+    let mut count: usize = 0;
+    let mut at: usize = 0;
+    while at < text.len() {
+        if is_blank(text[at]) {
+            at += 1;
+            continue;
+        }
+        let s = take_token(text, at);
+        let code = s.code;
+        let size = s.size;
+        if code == 255 {
+            return refuse(2, at + size);
+        }
+        codes[count] = code;
+        places[count] = at as u16;
+        count += 1;
+        at += size;
+    }
+    Tokens {
+        refused: false,
+        refusal: Refusal {
+            number: 0,
+            place: 0,
+        },
+        count,
+        codes,
+        places,
+    }
+}
+
+// The tokens of a text, or refused with 1, 2, 3 or 4, in this order, each over the whole text before the next.
+pub fn read_tokens(text: &[u8]) -> Tokens
+    ensures { λ r. ⌜ Reading (now (text .entry)) r ⌝ }
+{
+    if 4096 < text.len() {
+        return refuse(1, 4096);
+    }
+    let tokens = scan(text);
+    let refused = tokens.refused;
+    if refused {
+        return tokens;
+    }
+    let count = tokens.count;
+    let codes = tokens.codes;
+    let places = tokens.places;
+    let deep = first_over(&codes, count, true, 32);
+    if deep < count {
+        return refuse(3, places[deep] as usize);
+    }
+    let many = first_over(&codes, count, false, 256);
+    if many < count {
+        return refuse(4, places[many] as usize);
+    }
+    tokens
+}
