@@ -1,0 +1,7 @@
+-- Laws of lists, of the records of a file and of what the checks of a record come to.
+pub mod Lists
+pub mod Marks
+pub mod Orders
+pub mod NameWalk
+pub mod Cursors
+pub mod RowCursors
