@@ -5,3 +5,5 @@ pub mod Orders
 pub mod NameWalk
 pub mod Cursors
 pub mod RowCursors
+pub mod Goods
+pub mod Passes

@@ -4,11 +4,15 @@ use mathlib.Core.Path.{_≡_}
 use mathlib.Core.List.{List}
 use lib.ListN.{length, getD}
 use Rattle.alf.specs.declared.Outcome.{Outcome}
+use Rattle.alf.specs.declared.Outcome.the-variants.{Done}
 use Rattle.alf.specs.Refusals.{Comes}
 use Rattle.traces.specs.declared.Cursor.{Cursor}
 use Rattle.traces.specs.declared.Mark.{Mark}
 use Rattle.traces.specs.declared.Mark.the-variants.{Name, Row, End, Other}
-use Rattle.traces.specs.Records.{place, timeIn, recordOrder, markHere, nameEnd, nameIn}
+use Rattle.traces.specs.declared.Reading.{Reading}
+use Rattle.traces.specs.declared.Reading.the-variants.{Read, Refused}
+use Rattle.traces.specs.Reading.{Accepted, FileRefused}
+use Rattle.traces.specs.Records.{Before, place, timeIn, recordOrder, markHere, nameEnd, nameIn}
 
 -- a cursor stands behind its names and rows, in the file
 pub record Stands (file : List ℕ) (s : Cursor) : Type 0 where
@@ -52,3 +56,20 @@ NewName file k = (j : ℕ) → j < k → nameIn file j ≡ nameIn file k → ⊥
 -- the time of row r is above the last row's
 abbrev pub Above : List ℕ → ℕ → ℕ → Type 0
 Above file k r = 1 ≤ r → timeIn file k (r - 1) < timeIn file k r
+
+-- a good record that is no `EN` stands where the cursor does
+pub record GoesOn (file : List ℕ) (s : Cursor) (mark : ℕ) : Type 0 where
+  pub stands : Stands file s
+  pub checked : Checks file s (Done mark)
+  pub more : mark ≡ 3 → ⊥
+
+-- the cursor behind it
+pub record Next (file : List ℕ) (s t : Cursor) : Type 0 where
+  pub stands : Stands file t
+  pub before : Before file (s .names) (s .rows) → Before file (t .names) (t .rows)
+  pub further : s .place < t .place
+
+-- what the pass over a whole file comes to
+unfoldable pub Checked : List ℕ → Reading → Type 0
+Checked file (Read k n) = Accepted file k n
+Checked file (Refused r) = FileRefused file (r .number) (r .place)

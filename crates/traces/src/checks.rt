@@ -3,9 +3,10 @@ ghost use mathlib.Core.Path.{_≡_};
 ghost use lib.ListN.{length};
 ghost use Rattle.names.specs.Check.{Tells};
 ghost use Rattle.traces.specs.declared.Mark.the-variants.{Name, Row, End};
-ghost use Rattle.traces.specs.Steps.{Stands, StandsAt, StandsWhole, Checks, NameStands, NewName, Above};
+ghost use Rattle.traces.specs.Steps.{Stands, StandsAt, StandsWhole, Checks, NameStands, NewName, Above, GoesOn, Next, Checked};
 use crate::Cursor;
 use crate::Mark;
+use crate::Reading;
 use crate::parts::byte_at;
 use crate::parts::codes_to;
 use crate::parts::mark_at;
@@ -145,5 +146,58 @@ pub fn check_record(file: &[u8], s: Cursor) -> Outcome
         Mark::Row => check_row(file, s),
         Mark::End => check_end(file, s),
         Mark::Other => refuse(11, at),
+    }
+}
+
+// The cursor behind a good record.
+pub fn pass(file: &[u8], s: Cursor, mark: usize) -> Cursor
+    requires { ⌜ GoesOn (now file) s mark ⌝ }
+    ensures { λ r. ⌜ Next (now (file .entry)) s r ⌝ }
+{
+    let at = s.place;
+    let k = s.names;
+    let n = s.rows;
+    if mark == 1 {
+        let size = 3 + byte_at(file, at + 2);
+        return Cursor {
+            place: at + size,
+            names: k + 1,
+            rows: n,
+            last: s.last,
+        };
+    }
+    let time = word_at(file, at + 2);
+    Cursor {
+        place: at + 6 + k,
+        names: k,
+        rows: n + 1,
+        last: time,
+    }
+}
+
+// The whole file: how many names and rows it has, or the refusal of the first record that is not good.
+pub fn check_file(file: &[u8]) -> Reading
+    ensures { λ r. ⌜ Checked (now (file .entry)) r ⌝ }
+{
+    let mut s = Cursor {
+        place: 0,
+        names: 0,
+        rows: 0,
+        last: 0,
+    };
+    loop {
+        match check_record(file, s) {
+            Outcome::Refused(r) => {
+                return Reading::Refused(r);
+            }
+            Outcome::Done(mark) => {
+                if mark == 3 {
+                    let k = s.names;
+                    let n = s.rows;
+                    return Reading::Read { names: k, rows: n };
+                }
+                s = pass(file, s, mark);
+            }
+        }
     }
 }
