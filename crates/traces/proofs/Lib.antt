@@ -7,3 +7,5 @@ pub mod Cursors
 pub mod RowCursors
 pub mod Goods
 pub mod Passes
+pub mod Pastes
+pub mod Copying

@@ -2,5 +2,6 @@
 pub mod Format
 pub mod Records
 pub mod Reading
+pub mod Held
 pub mod Parts
 pub mod Steps

@@ -2,6 +2,7 @@
 use alf::Refusal;
 
 mod checks;
+mod copies;
 mod parts;
 
 // The mark of a record.
