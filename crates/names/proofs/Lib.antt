@@ -1,0 +1,6 @@
+-- Laws of ranges of bytes, of names and of slots, and the check's outcome.
+pub mod Ranges
+pub mod Names
+pub mod Slots
+pub mod Outcomes
+pub mod Unique

@@ -1,0 +1,2 @@
+-- The checks of a list of names.
+pub mod Check

@@ -1,0 +1,11 @@
+-- Laws of lists, of the records of a file and of what the checks of a record come to.
+pub mod Lists
+pub mod Marks
+pub mod Orders
+pub mod NameWalk
+pub mod Cursors
+pub mod RowCursors
+pub mod Goods
+pub mod Passes
+pub mod Pastes
+pub mod Copying

@@ -1,0 +1,22 @@
+-- General laws of numbers and lists.
+--   upto-..   what holds of each index from one on up to another
+-- Assumes nothing.
+use mathlib.Core.Path.{_≡_, refl, sym, ap, _∙_}
+use mathlib.Core.Bool.{Bool, true, false}
+use mathlib.Core.List.{List, [], _∷_, _++_, append-assoc}
+use Prim.Native.Nat.{ℕ, zero, suc, _+_, _-_, _*_, _≤_, _<_}
+use native.Mathlib.Omega.{arith}
+use lib.Dec.{eqb}
+use borrow.Author.Tests.{eqb-true, eqb-false}
+
+module _ (P : ℕ → Type 0) where
+  pub upto-none : (i : ℕ) → (j : ℕ) → i ≤ j → j < i → P j
+  upto-none i j h l = absurd (omega arith)
+
+  pub upto-more :
+      (from i : ℕ) → ((j : ℕ) → from ≤ j → j < i → P j) → P i → (j : ℕ) → from ≤ j → j < i + 1 → P j
+  upto-more from i below here j h l = go (eqb j i) refl
+    where
+      go : (b : Bool) → eqb j i ≡ b → P j
+      go true e = rw (eqb-true j i e) here
+      go false e = below j h (omega (arith, eqb-false j i e))
