@@ -71,28 +71,37 @@ no-room needed room = At needed (room < needed)
 abbrev pub cannot-be : Type 0 → Row
 cannot-be bad = At 0 bad
 
--- 11: wrong mark at this place, 33rd name, or 65,536th row; byte. 12: name empty, over 32, not a name, or a repeat;
--- byte. 13: time not above the last row's; byte. 15: state code above 7; byte. At the first such record, in file order.
-abbrev pub in-record : (ℕ → Type 0) → (ℕ → ℕ) → Row
-in-record faulty byte = FirstOf faulty byte
+-- 11: wrong mark at this place, 33rd name, or 65,536th row; byte. `due` is that the mark there may stand there.
+abbrev pub wrong-mark : ℕ → Type 0 → Row
+wrong-mark byte due = At byte (due → ⊥)
 
--- 12, of a list of names: index. The first slot that is not good.
+-- 12: name empty, over 32, not a name, or a repeat; byte (of a file's name record), or index (of the first bad slot)
+abbrev pub bad-name : ℕ → Type 0 → Row
+bad-name byte good = At byte (good → ⊥)
+
 abbrev pub bad-slot : List ℕ → Row
 bad-slot names = First (λ k. (k < length names / 32) × (GoodSlot names k → ⊥))
 
--- 13, of a list of times: index
-abbrev pub not-above : List ℕ → ℕ → Row
-not-above times r = At r ((0 < r) × (getD times r 0 ≤ getD times (r - 1) 0))
+-- 13: time not above the last row's; byte (of row r's time in a file), or index r. Row 0 has no row before it.
+abbrev pub not-above : ℕ → ℕ → ℕ → ℕ → Row
+not-above place r last now = At place ((1 ≤ r) × (now ≤ last))
 
 -- 14: file ends inside a record or before `EN`; file length
 abbrev pub cut-short : ℕ → Type 0 → Row
 cut-short bytes ends = At bytes ends
 
--- 15, of a list of states: index
-abbrev pub bad-code : List ℕ → Row
-bad-code states = First (λ i. (i < length states) × (7 < getD states i 0))
+-- 15: state code above 7; byte, or index: the first such entry of a list, from one place up to another
+abbrev pub bad-code : List ℕ → ℕ → ℕ → Row
+bad-code codes from to = First (λ p. (from ≤ p) × (p < to) × (7 < getD codes p 0))
 
--- 16: `EN` count wrong; byte. 17: bytes after `EN`; byte
+-- 16: `EN` count wrong; byte
+abbrev pub wrong-count : ℕ → ℕ → ℕ → Row
+wrong-count byte counted rows = At byte (counted ≡ rows → ⊥)
+
+-- 17: bytes after `EN`; byte
+abbrev pub bytes-after : ℕ → ℕ → Row
+bytes-after byte bytes = At byte (byte < bytes)
+
 abbrev pub at-end : ℕ → Type 0 → Row
 at-end byte bad = At byte bad
 
