@@ -9,3 +9,5 @@ pub mod Vectors
 pub mod Counts
 pub mod Numbers
 pub mod Shapes
+pub mod Chosen
+pub mod Measures

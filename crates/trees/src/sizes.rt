@@ -117,3 +117,60 @@ fn combine(how: How, x: Shape, y: Shape) -> Shape
         },
     }
 }
+
+// The steps and the tests of alternative t of the vector expression that ends at `end`.
+pub fn shape_of(tree: &[u8], end: usize, names: usize, t: usize) -> Shape
+    requires { ⌜ Chosen (now tree) names end t ⌝ }
+    ensures { λ r. ⌜ Shaped (alternativeAt (now (tree .entry)) names end t) (r .steps) (r .tests) ⌝ }
+{
+    let at = end - 1;
+    let b = tree[at];
+    if 64 <= b {
+        return Shape { steps: 1, tests: 1 };
+    }
+    if b == 57 {
+        return hold(shape_of(tree, at, names, t));
+    }
+    let left = parts::start_of(tree, at, names);
+    if b == 56 {
+        return hold(shape_of(tree, left, names, t));
+    }
+    let n = count_of(tree, left, names);
+    let m = count_of(tree, at, names);
+    let p = picking::find(b, n, m, t);
+    let x = shape_of(tree, left, names, p.left);
+    let y = shape_of(tree, at, names, p.right);
+    let how = p.how;
+    combine(how, x, y)
+}
+
+// The size of the vector expression that ends at `end`, or that it is over limit 8.
+pub fn measure(tree: &[u8], end: usize, names: usize) -> Measured
+    requires { ⌜ EndsVector (now tree) names end ⌝ }
+    ensures { λ r. ⌜ r ≡ measured (vectorAt (now (tree .entry)) names end) ⌝ }
+{
+    let n = count_of(tree, end, names);
+    if 64 < n {
+        return Measured::Over;
+    }
+    let mut steps: usize = 0;
+    let mut tests: usize = 0;
+    let mut t: usize = 0;
+    while t < n {
+        let x = shape_of(tree, end, names, t);
+        steps = larger(steps, x.steps);
+        tests = larger(tests, x.tests);
+        t += 1;
+    }
+    if 16 < steps {
+        return Measured::Over;
+    }
+    if 64 < tests {
+        return Measured::Over;
+    }
+    Measured::Within(Size {
+        alternatives: n,
+        steps,
+        tests,
+    })
+}
