@@ -1,5 +1,3 @@
-// Expressions as their bytes: what a tree is, where its parts start, its size in alternatives, its brackets.
+// Expressions as their bytes: what a tree is, and where its parts start.
 pub mod parts;
-pub mod picking;
-pub mod sizes;
 pub mod sorts;
