@@ -1,5 +1,5 @@
 -- The way back from the end of a part to its start, by bytes or by whole parts.
--- Main names: Going, going-first, going-on (a byte), going-part (a part), going-done; ends-pos, whole-deep.
+-- Main names: Going, going-first, going-on (a byte), going-part (a part), going-done; ends-pos, whole-deep, whole-at.
 -- Assumes nothing.
 use Prim.Native.Nat.{ℕ, zero, suc, _+_, _-_, _<_, _≤_}
 use native.Mathlib.Omega.{arith}
@@ -30,6 +30,14 @@ unfolding deep
 deep-one n empty h = absurd h
 deep-one n broken h = absurd h
 deep-one n (push e s) h = tt
+
+-- an expression that a byte takes is there
+pub whole-at : (k n : ℕ) (s : Stack) → k < n → deep n s → isWhole (unders k s) ≡ true
+unfolding unders
+whole-at zero zero s l d = absurd (omega arith)
+whole-at (suc k) zero s l d = absurd (omega arith)
+whole-at zero (suc n) s l d = deep-whole s (deep-one n s d)
+whole-at (suc k) (suc n) s l d = whole-at k n (under s) (omega arith) (deep-under n s d)
 
 top-size : (s : Stack) → deep 1 s → size 1 s ≡ length (bytesOf (top s))
 unfolding deep size top
