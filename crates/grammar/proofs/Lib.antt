@@ -1,5 +1,5 @@
 -- The laws. To cite: Unique and Total (a text has one tree or one place of refusal, and never both), Outcome (what
--- `parse` answers, both ways), RowFive (refusal 5 by places), Written and Fewest (a tree's text). The others lead there.
+-- `parse` answers, both ways), RowFive (refusal 5 by places), Written and Fewest (a tree's text). The rest leads there.
 pub mod Table
 pub mod Unique
 pub mod Total
@@ -7,6 +7,7 @@ pub mod Outcome
 pub mod RowFive
 pub mod Written
 pub mod Fewest
+pub mod Examples
 mod Shunting
 mod Counting
 mod Goes
