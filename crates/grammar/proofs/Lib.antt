@@ -8,6 +8,8 @@ pub mod RowFive
 pub mod Written
 pub mod Fewest
 pub mod Examples
+pub mod Codes
+pub mod Nodes
 mod Shunting
 mod Counting
 mod Goes
