@@ -5,7 +5,7 @@ use native.Mathlib.Omega.{arith}
 use native.Mathlib.Numerals.{add-one}
 use mathlib.Core.Path.{_≡_, refl, sym, ap, _∙_}
 use mathlib.Core.Bool.{Bool, true, false}
-use mathlib.Core.List.{List, [], _∷_, _++_, map, append-assoc}
+use mathlib.Core.List.{List, [], _∷_, _++_, map, map-append, append-assoc}
 use lib.Dec.{ltb}
 use lib.ListN.{length, getD, take, drop, set, replicate, length-append, length-map, drop-of-length-le}
 use lib.Seq.{set-append-seam, take-suc, length-take-le}
@@ -28,10 +28,6 @@ padded-set xs v h =
     rw e
     (set-append-seam xs 0 (replicate (256 - length (xs ++ (v ∷ []))) 0) v ∙ sym (append-assoc xs (v ∷ []) _))
 
-map-snoc : (f : Token → ℕ) (ns : List Token) (t : Token) → map f (ns ++ (t ∷ [])) ≡ map f ns ++ (f t ∷ [])
-map-snoc f [] t = refl
-map-snoc f (n ∷ ns) t = ap (λ (x : List ℕ). f n ∷ x) (map-snoc f ns t)
-
 pub padded-next :
     (f : Token → ℕ) (ns : List Token) (i : ℕ) (d : Token) →
     i < length ns →
@@ -40,7 +36,7 @@ pub padded-next :
 padded-next f ns i d h k =
     let l : length (map f (take i ns)) ≡ i = length-map (take i ns) f ∙ length-take-le i ns (omega arith) in
     let t : map f (take (i + 1) ns) ≡ map f (take i ns) ++ (f (getD ns i d) ∷ []) =
-    rw (add-one, take-suc ns i d h) (map-snoc f (take i ns) (getD ns i d))
+    rw (add-one, take-suc ns i d h) (map-append f (take i ns) (getD ns i d ∷ []))
     in
     ap (λ (n : ℕ). set (padded (map f (take i ns))) n (f (getD ns i d))) (sym l)
     ∙ padded-set (map f (take i ns)) (f (getD ns i d)) (omega arith)
