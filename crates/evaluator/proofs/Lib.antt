@@ -1,0 +1,3 @@
+-- The laws that the functions over a tree are proved by.
+pub mod Operating
+pub mod Booleans

@@ -1,0 +1,2 @@
+-- What the functions that evaluate a tree as it is written ask and promise.
+pub mod Rows

@@ -1,0 +1,4 @@
+// The answer as written, by recursion over the tree in its array: states and values of boolean expressions, and answers
+// of vector expressions.
+pub mod operators;
+pub mod values;
