@@ -2,3 +2,4 @@
 // of vector expressions.
 pub mod operators;
 pub mod values;
+pub mod windows;
