@@ -2,3 +2,5 @@
 pub mod Operating
 pub mod Booleans
 pub mod Spans
+pub mod Joining
+pub mod Vectors

@@ -33,6 +33,9 @@ earlier-row {states} {names} {b} a h w =
 pub row-inside : {states : List ℕ} {names a b : ℕ} (m : ℕ) → m ≤ b → Span states names a b → Within states names m
 row-inside m h w = earlier-row m h (w .last)
 
+pub span-of : {states : List ℕ} {names a b : ℕ} → a < b → Within states names b → Span states names a b
+span-of h w = record { some = h; last = w }
+
 pub part-of-span : {states : List ℕ} {names a b : ℕ} (c d : ℕ) → c < d → d ≤ b → Span states names a b
     → Span states names c d
 part-of-span c d h k w = record { some = h; last = row-inside d k w }
