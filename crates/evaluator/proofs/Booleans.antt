@@ -1,0 +1,151 @@
+-- A boolean expression in a tree, from its last byte: its operands end where the code looks for them, and its state and
+-- value come from theirs.
+--   right-ends, left-ends, first-ends    its operands, from the last one back
+--   name-known, operator-known           a name is in the list, an operator of two is one of the ten
+--   name-state, literal-state, negation-state, binary-state, choice-state, value-state
+-- Assumes nothing.
+use Prim.Native.Nat.{ℕ, _+_, _-_, _*_, _<_, _≤_}
+use native.Mathlib.Omega.{arith}
+use mathlib.Core.Path.{_≡_, refl, ap, sym, _∙_}
+use mathlib.Core.Bool.{true, false}
+use mathlib.Core.Logic.{_⊎_, inl, inr}
+use mathlib.Core.List.{List}
+use lib.ListN.{getD, length}
+use borrow.Author.Tests.{lt-ltb, le-ltb}
+use Rattle.alf.specs.States.{notOf}
+use Rattle.alf.specs.Expressions.{literal}
+use Rattle.alf.specs.Values.{operate, chosen, settled, state, value}
+use Rattle.alf.specs.Bytes.{binaryAt, isBoolean, isVector, under, stackAt}
+use Rattle.alf.proofs.Bools.{below?}
+use Rattle.alf.proofs.Made.{Made}
+use Rattle.alf.proofs.Parts.{made-last}
+use Rattle.alf.proofs.Tops.{NameTop, NegationTop, BinaryTop, ChoiceTop}
+use Rattle.alf.proofs.Tops.{name-top, literal-top, negation-top, binary-top, choice-top}
+use Rattle.trees.specs.Parts.{EndsBoolean, EndsVector, booleanAt, Start}
+use Rattle.trees.proofs.Starts.{of-boolean, ends-pos}
+use Rattle.evaluator.specs.Rows.{Within, IsState, settledBy, stateOf, valueOf}
+
+-- the last of the bytes before `end`
+abbrev pub lastByte : List ℕ → ℕ → ℕ
+lastByte t end = getD t (end - 1) 0
+
+-- an expression that ends where another one starts
+pub boolean-before : {t : List ℕ} {names end m : ℕ} → Start t names end m → end ≤ length t
+    → isBoolean (under (stackAt t names end)) ≡ true → EndsBoolean t names m
+boolean-before g l h = let p = g .before in record { within = omega arith; whole = rw (g .left) h }
+
+pub vector-before : {t : List ℕ} {names end m : ℕ} → Start t names end m → end ≤ length t
+    → isVector (under (stackAt t names end)) ≡ true → EndsVector t names m
+vector-before g l h = let p = g .before in record { within = omega arith; whole = rw (g .left) h }
+
+module _ {t : List ℕ} {names end : ℕ} (h : EndsBoolean t names end) where
+  pub some-bytes : 0 < end
+  some-bytes = ends-pos (of-boolean h)
+
+  was : Made names (lastByte t end) (stackAt t names (end - 1)) (stackAt t names end)
+  was = made-last t names end some-bytes
+
+  name-is : lastByte t end < 32 → NameTop names (lastByte t end) (stackAt t names end)
+  name-is = name-top names _ was (h .whole)
+
+  literal-is : 32 ≤ lastByte t end → lastByte t end < 40 → booleanAt t names end ≡ literal (lastByte t end - 32)
+  literal-is = literal-top names _ was (h .whole)
+
+  negation-is : 64 ≤ lastByte t end → NegationTop (stackAt t names (end - 1)) (stackAt t names end)
+  negation-is = negation-top names _ was (h .whole)
+
+  binary-is : 40 ≤ lastByte t end → lastByte t end < 60
+      → BinaryTop (lastByte t end) (stackAt t names (end - 1)) (stackAt t names end)
+  binary-is = binary-top names _ was (h .whole)
+
+  choice-is : 60 ≤ lastByte t end → lastByte t end < 64 → ChoiceTop (stackAt t names (end - 1)) (stackAt t names end)
+  choice-is = choice-top names _ was (h .whole)
+
+  pub name-known : lastByte t end < 32 → lastByte t end < names
+  name-known k = name-is k .known
+
+  pub operator-known : 40 ≤ lastByte t end → lastByte t end < 60 → lastByte t end < 50
+  operator-known k j = binary-is k j .small
+
+  -- the operands
+  pub right-ends : 40 ≤ lastByte t end → EndsBoolean t names (end - 1)
+  right-ends k =
+      record { within = omega (arith, h .within); whole = go (below? (lastByte t end) 60) (below? (lastByte t end) 64) }
+    where
+      go : (lastByte t end < 60) ⊎ (60 ≤ lastByte t end) → (lastByte t end < 64) ⊎ (64 ≤ lastByte t end)
+          → isBoolean (stackAt t names (end - 1)) ≡ true
+      go (inl e) q = binary-is k e .right
+      go (inr e) (inl f) = choice-is e f .right
+      go (inr e) (inr f) = negation-is f .right
+
+  pub left-ends : {m : ℕ} → 40 ≤ lastByte t end → lastByte t end < 64 → Start t names (end - 1) m
+      → EndsBoolean t names m
+  left-ends k j g = boolean-before g (omega (arith, h .within)) (go (below? (lastByte t end) 60))
+    where
+      go : (lastByte t end < 60) ⊎ (60 ≤ lastByte t end) → isBoolean (under (stackAt t names (end - 1))) ≡ true
+      go (inl e) = binary-is k e .left
+      go (inr e) = choice-is e j .left
+
+  pub first-ends : {m o : ℕ} → 60 ≤ lastByte t end → lastByte t end < 64 → Start t names (end - 1) m
+      → Start t names m o → EndsBoolean t names o
+  first-ends k j g f =
+      let p = g .before in
+      boolean-before f (omega (arith, h .within)) (rw (g .left) (choice-is k j .first))
+
+  -- whether it is a name shows in its last byte
+  pub settled-is : (x : ℕ) → settled (booleanAt t names end) x ≡ settledBy (lastByte t end) x
+  unfolding settled
+  settled-is x =
+      go (below? (lastByte t end) 32) (below? (lastByte t end) 40)
+      (below? (lastByte t end) 60) (below? (lastByte t end) 64)
+    where
+      go : (lastByte t end < 32) ⊎ (32 ≤ lastByte t end) → (lastByte t end < 40) ⊎ (40 ≤ lastByte t end)
+          → (lastByte t end < 60) ⊎ (60 ≤ lastByte t end) → (lastByte t end < 64) ⊎ (64 ≤ lastByte t end)
+          → settled (booleanAt t names end) x ≡ settledBy (lastByte t end) x
+      go (inl e) q r w = rw (lt-ltb _ _ e, name-is e .is) refl
+      go (inr e) (inl f) r w = rw (le-ltb _ _ e, literal-is e f) refl
+      go (inr e) (inr f) (inl g) w = rw (le-ltb _ _ e, binary-is f g .is) refl
+      go (inr e) (inr f) (inr g) (inl i) = rw (le-ltb _ _ e, choice-is g i .is) refl
+      go (inr e) (inr f) (inr g) (inr i) = rw (le-ltb _ _ e, negation-is i .is) refl
+
+  -- the state and the value
+  module _ {states : List ℕ} {row : ℕ} (w : Within states names row) where
+    abbrev At : ℕ → ℕ → Type 0
+    At e r = IsState (stateOf t names states e row) r
+
+    pub name-room : lastByte t end < 32 → row * names + lastByte t end < length states
+    name-room k = let l = name-known k in let r = w .room in omega arith
+
+    pub name-state : lastByte t end < 32 → At end (getD states (row * names + lastByte t end) 0)
+    unfolding state
+    name-state k = record { is = rw (name-is k .is) refl; code = w .codes _ (name-room k) }
+
+    pub literal-state : 32 ≤ lastByte t end → lastByte t end < 40 → At end (lastByte t end - 32)
+    unfolding state
+    literal-state k j = record { is = rw (literal-is k j) refl; code = omega arith }
+
+    pub negation-state : {x r : ℕ} → 64 ≤ lastByte t end → At (end - 1) x → (r ≡ notOf x) × (r < 8) → At end r
+    unfolding state
+    negation-state k a q = record { is = rw (negation-is k .is, ← a .is) (q .0); code = q .1 }
+
+    pub binary-state : {m x y r : ℕ} → 40 ≤ lastByte t end → lastByte t end < 60 → Start t names (end - 1) m
+        → At m x → At (end - 1) y → IsState (operate (binaryAt (lastByte t end - 40)) x y) r → At end r
+    unfolding state
+    binary-state k j g a d q =
+        record { is = rw (binary-is k j .is, ← g .left, ← a .is, ← d .is) (q .is); code = q .code }
+
+    abbrev ValueAt : ℕ → ℕ → Type 0
+    ValueAt e r = IsState (valueOf t names states e row) r
+
+    pub value-state : {x r : ℕ} → At end x → IsState (settledBy (lastByte t end) x) r → ValueAt end r
+    unfolding value
+    value-state a q = record { is = rw (settled-is, ← a .is) (q .is); code = q .code }
+
+    pub choice-state : {m o c x y r : ℕ} → 60 ≤ lastByte t end → lastByte t end < 64 → Start t names (end - 1) m
+        → Start t names m o → At o c → ValueAt m x → ValueAt (end - 1) y → IsState (chosen c x y) r → At end r
+    unfolding state value
+    choice-state k j g f a d e q =
+        record {
+          is = rw (choice-is k j .is, ← g .left, ← f .left, ← a .is, ← d .is, ← e .is) (q .is);
+          code = q .code;
+        }

@@ -1,0 +1,13 @@
+-- `operators::settle` meets its contract. Assumes nothing.
+use borrow.Author.Needs.{needs}
+use Rattle.evaluator.proofs.Operating.{settled-name, settled-other}
+use Rattle.evaluator.proofs.operators.settle.Statement.{statement}
+use Rattle.evaluator.proofs.operators.settle.Tie as tie
+
+pub settle-spec : {M : Type 1} → statement M
+settle-spec =
+    tie.close
+    (tie.spec
+    (λ c κs. search needs)
+    (λ c. settled-name _ _ (c .before .if1 .taken) (c .reduced .ensures))
+    (λ c. settled-other _ _ (c .if1 .left) (c .before .pre)))
