@@ -9,3 +9,7 @@ pub mod Goods
 pub mod Passes
 pub mod Pastes
 pub mod Copying
+pub mod Spells
+pub mod Slotted
+pub mod Rows
+pub mod Sound
