@@ -13,3 +13,4 @@ pub mod Spells
 pub mod Slotted
 pub mod Rows
 pub mod Sound
+pub mod Filled

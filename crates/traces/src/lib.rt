@@ -4,6 +4,7 @@ use alf::Refusal;
 mod checks;
 mod copies;
 mod parts;
+pub mod read;
 
 // The mark of a record.
 pub enum Mark {
