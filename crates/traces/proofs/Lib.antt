@@ -14,3 +14,5 @@ pub mod Slotted
 pub mod Rows
 pub mod Sound
 pub mod Filled
+pub mod Put
+pub mod PutRecords
