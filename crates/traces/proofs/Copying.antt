@@ -89,7 +89,7 @@ slot-pasted {d} {d₁} {d₂} {src} {from} {n} {to} fits p₁ p₂ =
     }
 
 -- a name has at most 32 bytes
-name-short : (s : List ℕ) → isName s ≡ true → length s ≤ 32
+pub name-short : (s : List ℕ) → isName s ≡ true → length s ≤ 32
 name-short s e = go (ltb 32 (length s)) refl
   where
     go : (b : Bool) → ltb 32 (length s) ≡ b → length s ≤ 32
@@ -141,6 +141,9 @@ module _ (file : List ℕ) where
       f .is
       ∙ rw (e, name, paste-over (namesOf file i) out₀ (i * 32) (names-length i) (slotOf (nameIn file i)) 32, all, next, add-one)
 
+pub next-to : (r k : ℕ) → r * k + k ≡ (r + 1) * k
+next-to r k = rw (add-mul r 1 k, one-mul)
+
 -- rows
 module _ (file : List ℕ) (k n : ℕ) (rows : (r : ℕ) → r < n → Good Row file k r) where
   pub row-there : (r q : ℕ) → r < n → q ≡ place file k r → q + 6 + k ≤ length file
@@ -165,7 +168,7 @@ module _ (file : List ℕ) (k n : ℕ) (rows : (r : ℕ) → r < n → Good Row 
   times-more out out₀ r q t e there read h =
       rw (e, set-over (timesOf file k r) out₀ r (times-length r) t h, read, there, add-one)
 
-  codes-length : (r : ℕ) → r < n → length (codesIn file k r) ≡ k
+  pub codes-length : (r : ℕ) → r < n → length (codesIn file k r) ≡ k
   unfolding codesIn
   codes-length r h =
       length-take-le k (drop (place file k r + 6) file)
@@ -176,9 +179,6 @@ module _ (file : List ℕ) (k n : ℕ) (rows : (r : ℕ) → r < n → Good Row 
   states-length zero h = sym (zero-mul k)
   states-length (suc r) h =
       rw (length-append, states-length r (omega arith), codes-length r h, ← add-one r, add-mul r 1 k, one-mul)
-
-  pub next-to : (r : ℕ) → r * k + k ≡ (r + 1) * k
-  next-to r = rw (add-mul r 1 k, one-mul)
 
   pub states-more :
       (out out′ out₀ : List ℕ) (r q to : ℕ) →
@@ -191,7 +191,7 @@ module _ (file : List ℕ) (k n : ℕ) (rows : (r : ℕ) → r < n → Good Row 
   unfolding statesOf codesIn
   states-more out out′ out₀ r q to h e there at f =
       f .is
-      ∙ rw (e, at, there, paste-over (statesOf file k r) out₀ (r * k) (states-length r (omega arith)) (drop (place file k r + 6) file) k, next-to r, add-one)
+      ∙ rw (e, at, there, paste-over (statesOf file k r) out₀ (r * k) (states-length r (omega arith)) (drop (place file k r + 6) file) k, next-to r k, add-one)
 
 -- room for r + 1 of n rows
 pub room-for : (r n k : ℕ) → r < n → r * k + k ≤ n * k

@@ -9,3 +9,10 @@ pub mod Goods
 pub mod Passes
 pub mod Pastes
 pub mod Copying
+pub mod Spells
+pub mod Slotted
+pub mod Rows
+pub mod Sound
+pub mod Filled
+pub mod Put
+pub mod PutRecords

@@ -2,6 +2,8 @@
 pub mod Format
 pub mod Records
 pub mod Reading
+pub mod Writing
+pub mod Putting
 pub mod Held
 pub mod Parts
 pub mod Steps

@@ -4,6 +4,8 @@ use alf::Refusal;
 mod checks;
 mod copies;
 mod parts;
+mod puts;
+pub mod read;
 
 // The mark of a record.
 pub enum Mark {

@@ -59,7 +59,7 @@ loop-again c = (
   search needs,
   c .before .before .copy .kept .1 .1 .1 .0 ∙ c .before .before .before .before .before .loop .inv .1,
   row-next _ _ _ (c .before .before .before .before .before .before .before .before .pre .rows) _ _ (c .before .before .before .before .before .loop .inv .2),
-  rw (c .before .before .before .before .before .loop .inv .3) (next-to _ _ _ (c .before .before .before .before .before .before .before .before .pre .rows) _),
+  rw (c .before .before .before .before .before .loop .inv .3) (next-to _ _),
   states-more _ _ _ (c .before .before .before .before .before .before .before .before .pre .rows) _ _ _ _ _ _ (c .before .before .before .before .loop-test .taken) (c .before .before .before .before .before .loop .inv .4)
       (c .before .before .before .before .before .loop .inv .2) (c .before .before .before .before .before .loop .inv .3) (c .before .before .copy .ensures),
 )

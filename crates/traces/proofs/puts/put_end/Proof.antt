@@ -1,0 +1,26 @@
+-- `put_end` meets its contract. Assumes nothing.
+use native.Mathlib.Omega.{arith}
+use borrow.Author.Needs.{needs}
+use Rattle.traces.proofs.PutRecords.{end-put}
+use Rattle.traces.proofs.puts.put_end.Statement.{statement}
+use Rattle.traces.proofs.puts.put_end.Tie as tie
+
+put-mark-requires : tie.Need-put-mark-requires
+put-mark-requires c κs = search needs
+
+add-put-word : tie.Need-add-put-word
+add-put-word c = search needs
+
+put-word-requires : tie.Need-put-word-requires
+put-word-requires c κs = search needs
+
+same-length : tie.Need-same-length
+same-length c = search needs
+
+returns : tie.Need-returns
+returns c =
+    end-put _ (c .before .before .before .before .before .before .before .before .before .pre) (c .before .before .before .before .before .before .put-mark .ensures) (c .before .before .put-word .ensures)
+
+pub put-end-spec : {M : Type 1} → statement M
+put-end-spec =
+    tie.close (tie.spec put-mark-requires add-put-word put-word-requires same-length returns)
