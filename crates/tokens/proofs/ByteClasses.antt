@@ -6,13 +6,11 @@
 -- Assumes nothing.
 use mathlib.Core.Path.{_≡_, refl, sym, ap, _∙_}
 use mathlib.Core.Bool.{Bool, true, false, _||_}
-use mathlib.Core.List.{List, [], _∷_}
+use mathlib.Core.List.{List}
 use Prim.Native.Nat.{ℕ, zero, suc, _+_, _≤_, _<_}
 use native.Mathlib.Omega.{arith}
 use lib.Dec.{eqb}
-use borrow.Author.Tests.{eqb-true}
 use types.Run.{OneOf}
-use Rattle.alf.specs.Words.{if_then_else_}
 use Rattle.alf.specs.Names.{isLetter, isDecimal, startsName, goesOnName}
 use Rattle.alf.specs.States.{among}
 use Rattle.tokens.specs.declared.Class.{Class}

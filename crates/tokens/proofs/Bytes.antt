@@ -4,16 +4,16 @@
 --   half-zero       half 0 is `?`
 --   and-both, contrary   two tests at once; a test with two answers
 -- Assumes nothing.
-use mathlib.Core.Path.{_≡_, refl, sym, ap, _∙_}
-use mathlib.Core.Bool.{Bool, true, false, not, _&&_, _||_}
+use mathlib.Core.Path.{_≡_, refl}
+use mathlib.Core.Bool.{Bool, true, false, _&&_}
 use mathlib.Core.List.{[], _∷_}
 use mathlib.Core.Logic.{_⊎_, inl, inr}
-use Prim.Native.Nat.{ℕ, _≤_, _<_}
+use Prim.Native.Nat.{ℕ, _≤_}
 use native.Mathlib.Omega.{arith}
-use lib.Dec.{eqb, ltb}
+use lib.Dec.{eqb}
 use borrow.Author.Tests.{eqb-true, ltb-true}
 use Rattle.alf.specs.Words.{if_then_else_}
-use Rattle.alf.specs.Names.{isLetter, startsName, goesOnName}
+use Rattle.alf.specs.Names.{isLetter, startsName}
 use Rattle.alf.specs.States.{among}
 use Rattle.tokens.specs.Classes.{halfOf}
 use Rattle.tokens.specs.Taking.{isPlain}
@@ -29,7 +29,9 @@ at-least true h k = h
 at-least false h k = k
 
 -- past `? 0 1` the halves are 3 and more
-later : (a b c d e f : Bool) → 3 ≤ (if a then 3 else if b then 4 else if c then 5 else if d then 6 else if e then 7 else if f then 8 else 9)
+later :
+    (a b c d e f : Bool) →
+    3 ≤ (if a then 3 else if b then 4 else if c then 5 else if d then 6 else if e then 7 else if f then 8 else 9)
 later a b c d e f =
     at-least a (omega arith)
     (at-least b (omega arith)

@@ -3,17 +3,16 @@
 --   token-unique   one code
 -- Assumes nothing.
 use mathlib.Core.Path.{_≡_, refl, sym, _∙_}
-use mathlib.Core.Bool.{Bool, true, false, _&&_}
+use mathlib.Core.Bool.{true, _&&_}
 use mathlib.Core.List.{List, [], _∷_}
-use Prim.Native.Nat.{ℕ, _+_, _*_, _<_}
-use lib.Dec.{eqb, ltb, leb}
-use lib.ListN.{length, getD}
+use Prim.Native.Nat.{ℕ, _+_}
+use lib.Dec.{eqb}
 use borrow.Author.Tests.{eqb-true, lt-ltb}
 use Rattle.alf.specs.Words.{if_then_else_, all}
 use Rattle.alf.specs.Names.{isLetter, isDecimal, startsName, goesOnName, isName}
 use Rattle.alf.specs.States.{among}
 use Rattle.tokens.specs.Classes.{halfOf}
-use Rattle.tokens.specs.Spelling.{Spelling, _means_, spellings, based, edgeCode, IsToken}
+use Rattle.tokens.specs.Spelling.{Spelling, spellings, edgeCode, IsToken}
 use Rattle.tokens.specs.Spelling.IsToken.{name, spelled, literal, edge, based-edge}
 use Rattle.tokens.specs.Taking.{isPlain}
 use Rattle.tokens.proofs.Bytes.{plain-unnamed}

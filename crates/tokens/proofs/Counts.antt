@@ -2,17 +2,16 @@
 --   opens, closes-none, closes, leaves, uncounted, counts   `after`
 --   over-hit, over-more, over-end                           one turn of `first_over`, and its end
 -- Assumes nothing.
-use mathlib.Core.Path.{_≡_, refl, sym, ap, _∙_}
-use mathlib.Core.Bool.{Bool, true, false, _||_}
+use mathlib.Core.Path.{_≡_, refl, ap}
+use mathlib.Core.Bool.{Bool, true, false}
 use mathlib.Core.List.{List, [], _∷_}
 use Prim.Native.Nat.{ℕ, suc, _+_, _-_, _≤_, _<_}
 use native.Mathlib.Omega.{arith}
 use native.Mathlib.Numerals.{add-one}
-use lib.Dec.{eqb, ltb}
+use lib.Dec.{eqb}
 use lib.ListN.{length, take, drop, getD, drop-of-length-le, length-take}
 use lib.Seq.{drop-cons, getD-take}
 use borrow.Author.Tests.{eq-eqb, ne-eqb, eqb-false, lt-ltb, le-ltb}
-use Rattle.alf.specs.Words.{if_then_else_}
 use Rattle.tokens.specs.Texts.{opened, counted}
 use Rattle.tokens.specs.Inner.{changed, overAt}
 

@@ -3,9 +3,9 @@
 --   filled-front, filled-at    what was written
 --   codes-more, places-more, codes-length, places-length   the codes and places of a list of tokens
 -- Assumes nothing.
-use mathlib.Core.Path.{_≡_, refl, sym, ap, _∙_}
+use mathlib.Core.Path.{_≡_, refl, ap}
 use mathlib.Core.List.{List, [], _∷_, _++_, append-assoc}
-use Prim.Native.Nat.{ℕ, zero, suc, _+_, _-_, _≤_, _<_}
+use Prim.Native.Nat.{ℕ, zero, suc, _+_, _-_, _<_}
 use native.Mathlib.Omega.{arith}
 use lib.ListN.{length, take, getD, set, replicate, length-append, List·getD-append}
 use lib.Seq.{set-append-seam, take-append-seam}

@@ -4,10 +4,10 @@
 --   counting          they can be counted
 --   deep-reading, many-reading, whole-reading   refused with 3, with 4, or read
 -- Assumes nothing.
-use mathlib.Core.Path.{_≡_, refl, sym, ap, _∙_}
+use mathlib.Core.Path.{_≡_, refl, ap, _∙_}
 use mathlib.Core.Bool.{Bool, true, false}
-use mathlib.Core.List.{List, [], _∷_}
-use Prim.Native.Nat.{ℕ, suc, _+_, _≤_, _<_}
+use mathlib.Core.List.{List}
+use Prim.Native.Nat.{ℕ, _≤_, _<_}
 use native.Mathlib.Omega.{arith}
 use lib.ListN.{length, take, getD, length-append}
 use Rattle.tokens.specs.declared.Tokens.{Tokens}
@@ -21,7 +21,12 @@ use Rattle.tokens.proofs.Shapes.{token-size}
 use Rattle.tokens.proofs.Filling.{filled-front, filled-at, codes-length, places-length}
 use Rattle.tokens.proofs.ReadingLaws.{read-stuck, read-deep, read-many, read-whole}
 
-pub stopped-reading : {text : List ℕ} {t : Tokens} → length text ≤ 4096 → Scan text t → t .refused ≡ true → Reading text t
+pub stopped-reading :
+    {text : List ℕ} {t : Tokens} →
+    length text ≤ 4096 →
+    Scan text t →
+    t .refused ≡ true →
+    Reading text t
 unfolding made
 stopped-reading {text} l (stopped q s) h = read-stuck text l s
 stopped-reading l (whole ts r) h = absurd (contrary h refl)

@@ -10,6 +10,10 @@ mod Bytes
 mod Search
 mod Shapes
 mod Codes
+mod Right
+mod RightName
+mod RightBased
+mod RightPlain
 mod Taking
 mod TextLaws
 mod Filling

@@ -4,10 +4,10 @@
 --   past-end      a byte past the end is 0
 --   names-end, names-more, names-stop   counting name bytes one byte at a time
 -- Assumes nothing.
-use mathlib.Core.Path.{_≡_, refl, sym, ap, _∙_}
+use mathlib.Core.Path.{_≡_, refl, sym, _∙_}
 use mathlib.Core.Bool.{Bool, true, false, _&&_}
 use mathlib.Core.List.{List, [], _∷_}
-use Prim.Native.Nat.{ℕ, zero, suc, _+_, _≤_, _<_}
+use Prim.Native.Nat.{ℕ, suc, _+_, _≤_, _<_}
 use native.Mathlib.Omega.{arith}
 use native.Mathlib.Numerals.{add-one}
 use lib.Dec.{eqb}
@@ -35,7 +35,10 @@ module _ (ts : List ℕ) (i : ℕ) where
   unfolding nameBytes
   names-end h = rw (drop-of-length-le ts h)
 
-  pub names-more : i < length ts → goesOnName (getD ts i 0) ≡ true → nameBytes (drop i ts) ≡ suc (nameBytes (drop (i + 1) ts))
+  pub names-more :
+      i < length ts →
+      goesOnName (getD ts i 0) ≡ true →
+      nameBytes (drop i ts) ≡ suc (nameBytes (drop (i + 1) ts))
   unfolding nameBytes
   names-more h e = rw (add-one, drop-cons ts i 0 h, e)
 

@@ -3,15 +3,15 @@
 --   refused-unique            one number, one place
 --   refused-not-passed        and then the order is not passed
 -- Assumes nothing.
-use mathlib.Core.Path.{_≡_, refl, sym, ap, _∙_}
+use mathlib.Core.Path.{_≡_, refl, sym, _∙_}
 use mathlib.Core.Bool.{Bool, true, false}
-use mathlib.Core.Logic.{_⊎_, inl, inr}
-use mathlib.Core.List.{List, [], _∷_}
-use Prim.Native.Nat.{ℕ, _≤_, _<_}
+use mathlib.Core.Logic.{inl, inr}
+use mathlib.Core.List.{[], _∷_}
+use Prim.Native.Nat.{ℕ}
 use native.Mathlib.Omega.{arith}
 use lib.Dec.{ltb}
 use borrow.Author.Tests.{ltb-true, ltb-false}
-use Rattle.alf.specs.Refusals.{Row, At, First, Order, Check, Never, RefusedWith, Passed}
+use Rattle.alf.specs.Refusals.{Row, At, First, Order, RefusedWith, Passed}
 
 abbrev pub Fixes : Row → Type 0
 Fixes row = (p q : ℕ) → row p → row q → p ≡ q

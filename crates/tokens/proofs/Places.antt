@@ -3,7 +3,7 @@
 --   over-first     the place of the first token over the limit is the first byte at which the number is over it
 --   over-none      where no token is, no byte is
 -- Assumes nothing.
-use mathlib.Core.Path.{_≡_, refl, sym, ap, _∙_}
+use mathlib.Core.Path.{_≡_, refl}
 use mathlib.Core.Bool.{Bool, true, false}
 use mathlib.Core.List.{List, [], _∷_}
 use Prim.Native.Nat.{ℕ, zero, suc, _+_, _≤_, _<_}
@@ -11,9 +11,7 @@ use native.Mathlib.Omega.{arith}
 use lib.Dec.{ltb, leb}
 use lib.ListN.{length, getD}
 use borrow.Author.Tests.{le-leb, lt-leb, leb-true, leb-false, ltb-true, ltb-false}
-use Rattle.alf.specs.Words.{if_then_else_}
 use Rattle.alf.specs.Refusals.{First}
-use Rattle.tokens.specs.Taking.{Taken}
 use Rattle.tokens.specs.Texts.{Token, Reads, running}
 use Rattle.tokens.specs.Texts.Reads.{done, blank, token}
 use Rattle.tokens.specs.Reading.{codesOf, placesOf}
@@ -43,7 +41,10 @@ rising-at (t ∷ ts) lo (suc k) r h =
     let j = rising-at ts (suc (t .place)) k (r .1) (omega arith) in let i = r .0 in omega arith
 
 module _ (f : ℕ → ℕ → ℕ) where
-  at-or-after : (n p : ℕ) (t : Token) (ts : List Token) → t .place ≤ p → running f n (t ∷ ts) p ≡ running f (f (t .code) n) ts p
+  at-or-after :
+      (n p : ℕ) (t : Token) (ts : List Token) →
+      t .place ≤ p →
+      running f n (t ∷ ts) p ≡ running f (f (t .code) n) ts p
   unfolding running
   at-or-after n p t ts h = rw (le-leb (t .place) p h)
 
@@ -67,7 +68,10 @@ module _ (f : ℕ → ℕ → ℕ) where
     unfolding overAt codesOf
     over-hit n t ts h = rw h
 
-    over-miss : (n : ℕ) (t : Token) (ts : List Token) → ltb limit (f (t .code) n) ≡ false → over n (t ∷ ts) ≡ suc (over (f (t .code) n) ts)
+    over-miss :
+        (n : ℕ) (t : Token) (ts : List Token) →
+        ltb limit (f (t .code) n) ≡ false →
+        over n (t ∷ ts) ≡ suc (over (f (t .code) n) ts)
     unfolding overAt codesOf
     over-miss n t ts h = rw h
 
@@ -91,9 +95,15 @@ module _ (f : ℕ → ℕ → ℕ) where
     abbrev Over : ℕ → List Token → ℕ → Type 0
     Over n ts p = limit < running f n ts p
 
-    later : (n q : ℕ) (t : Token) (ts : List Token) → n ≤ limit → t .place ≤ q → First (Over (f (t .code) n) ts) q → First (Over n (t ∷ ts)) q
+    later :
+        (n q : ℕ) (t : Token) (ts : List Token) →
+        n ≤ limit →
+        t .place ≤ q →
+        First (Over (f (t .code) n) ts) q →
+        First (Over n (t ∷ ts)) q
     later n q t ts h l first =
-        record { given = rw (at-or-after n q t ts l) (first .given); before = λ i k o. go i k o (leb (t .place) i) refl }
+        record
+        { given = rw (at-or-after n q t ts l) (first .given); before = λ i k o. go i k o (leb (t .place) i) refl }
       where
         go : (i : ℕ) → i < q → Over n (t ∷ ts) i → (y : Bool) → leb (t .place) i ≡ y → ⊥
         go i k o true g = first .before i k (rw (at-or-after n i t ts (leb-true _ i g)) at o)
@@ -120,7 +130,9 @@ module _ (f : ℕ → ℕ → ℕ) where
         go true e ih =
             rw (over-hit n t ts e)
             (record {
-              given = rw (at-or-after n (t .place) t ts (omega arith), not-yet (f (t .code) n) (t .place) ts (r .1)) (ltb-true limit _ e);
+              given =
+                  rw (at-or-after n (t .place) t ts (omega arith), not-yet (f (t .code) n) (t .place) ts (r .1))
+                  (ltb-true limit _ e);
               before = λ i l o. omega (arith, before n i t ts l);
             })
         go false e ih =

@@ -1,7 +1,7 @@
 -- A match on a byte against a definition, by a test that antt computes: one law for an arm of single numbers (keyed),
 -- one for an arm of ranges and for the last arm (ranged). Both are over any function of a byte.
 -- Main names: keyed, ranged, all-from-law. Assumes nothing.
-use mathlib.Core.Path.{_≡_, refl, sym, ap, _∙_}
+use mathlib.Core.Path.{_≡_, refl}
 use mathlib.Core.Bool.{Bool, true, false, _&&_, _||_}
 use mathlib.Core.List.{List, [], _∷_}
 use mathlib.Core.Logic.{_⊎_, inl, inr}
@@ -68,7 +68,8 @@ key-one-of (k ∷ (j ∷ ks)) b e = go (or-case (eqb b k) (key (j ∷ ks) b) e) 
     go (inl h) f = inl (eqb-true b k h)
     go (inr h) f = inr (f h)
 
--- What a match knows in an arm of ranges, and in its last arm: the byte is none of the single numbers of the other arms.
+-- What a match knows in an arm of ranges, and in its last arm: the byte is none of the single numbers of the other
+-- arms.
 abbrev pub Rest : List (List ℕ) → Type 0 → ℕ → Type 0
 Rest [] before b = before
 Rest (ks ∷ kss) before b = Rest kss (before × (OneOf ks b → ⊥)) b
@@ -81,7 +82,11 @@ rest-before : (kss : List (List ℕ)) (before : Type 0) (b : ℕ) → Rest kss b
 rest-before [] before b r = r
 rest-before (ks ∷ kss) before b r = rest-before kss (before × (OneOf ks b → ⊥)) b r .0
 
-not-key : (kss : List (List ℕ)) (before : Type 0) (b : ℕ) (x : Bool) → Rest kss before b → keys kss b || x ≡ true → x ≡ true
+not-key :
+    (kss : List (List ℕ)) (before : Type 0) (b : ℕ) (x : Bool) →
+    Rest kss before b →
+    keys kss b || x ≡ true →
+    x ≡ true
 not-key [] before b x r e = e
 not-key (ks ∷ kss) before b x r e =
     go (key ks b) refl e (not-key kss (before × (OneOf ks b → ⊥)) b x r)

@@ -3,27 +3,30 @@
 --   reading-unique   two readings of a text are the same
 --   reading-total    every text has one
 -- Assumes nothing.
-use mathlib.Core.Path.{_≡_, refl, sym, ap, _∙_}
+use mathlib.Core.Path.{_≡_, refl, ap}
 use mathlib.Core.Bool.{Bool, true, false}
-use mathlib.Core.Logic.{_⊎_, inl, inr}
-use mathlib.Core.List.{List, [], _∷_}
+use mathlib.Core.Logic.{inl, inr}
+use mathlib.Core.List.{List}
 use Prim.Native.Nat.{ℕ, _≤_, _<_}
 use native.Mathlib.Omega.{arith}
 use lib.Dec.{ltb}
 use lib.ListN.{length, getD}
 use borrow.Author.Tests.{ltb-true, ltb-false}
-use Rattle.alf.specs.Refusals.{Row, First, At, Never, check, RefusedWith, Passed, too-long, no-token}
+use Rattle.alf.specs.Refusals.{Row, First, Never, check, RefusedWith, Passed, too-long, no-token}
 use Rattle.tokens.specs.declared.Tokens.{Tokens}
 use Rattle.tokens.specs.Texts.{Token, Reads, Stuck, running, opened, counted, OfTokens, deep, many, order}
 use Rattle.tokens.specs.Reading.{codesOf, placesOf, made, refusedWith, Reading}
 use Rattle.tokens.specs.Reading.Reading.{refused, read}
-use Rattle.tokens.specs.Inner.{changed, overAt}
+use Rattle.tokens.specs.Inner.{overAt}
 use Rattle.tokens.proofs.TextLaws.{reads-unique, stuck-unique, reads-not-stuck, reads-or-stuck, Outcome}
 use Rattle.tokens.proofs.Places.{reads-rising, over-first, over-none}
 use Rattle.tokens.proofs.Orders.{Fixes, AllFix, at-unique, first-unique, refused-unique, refused-not-passed}
 
 -- each row fixes its place
-of-tokens-fixes : (text : List ℕ) (row : List Token → Row) → ((ts : List Token) → Fixes (row ts)) → Fixes (OfTokens text row)
+of-tokens-fixes :
+    (text : List ℕ) (row : List Token → Row) →
+    ((ts : List Token) → Fixes (row ts)) →
+    Fixes (OfTokens text row)
 of-tokens-fixes text row f p q a b =
     f (a .tokens) p q (a .holds) (rw (reads-unique (a .read) (b .read)) (b .holds))
 

@@ -3,7 +3,7 @@
 --   scan-start, scan-blank, scan-token   at the start; past a blank; past a token
 --   scan-stop, scan-end                  where no token starts; at the text's end
 -- Assumes nothing.
-use mathlib.Core.Path.{_≡_, refl, sym, ap, _∙_}
+use mathlib.Core.Path.{_≡_, refl, _∙_}
 use mathlib.Core.Bool.{true, false}
 use mathlib.Core.List.{List, [], _∷_, _++_, append-assoc, append-nil}
 use Prim.Native.Nat.{ℕ, suc, _+_, _≤_, _<_}
@@ -12,20 +12,20 @@ use native.Mathlib.Numerals.{add-one}
 use lib.ListN.{length, take, drop, getD, set, length-append, length-drop, length-take, drop-of-length-le}
 use lib.Seq.{drop-cons, drop-drop}
 use Rattle.tokens.specs.declared.Step.{Step}
-use Rattle.tokens.specs.declared.Tokens.{Tokens}
 use Rattle.tokens.specs.Classes.{isBlank}
-use Rattle.tokens.specs.Taking.{Taken, NoToken, Barred}
+use Rattle.tokens.specs.Taking.{Taken, NoToken}
 use Rattle.tokens.specs.Taking.Barred.{together, overlong, loose, lone, bad-half}
 use Rattle.tokens.specs.Taking.NoToken.{barred, tokenless}
 use Rattle.tokens.specs.Texts.{Token, tokenAt, Reads, Stuck}
 use Rattle.tokens.specs.Texts.Reads.{done, blank, token}
 use Rattle.tokens.specs.Texts.Stuck.{blank as blank-then, token as token-then, here}
 use Rattle.tokens.specs.Steps.{none, stepOf}
-use Rattle.tokens.specs.Reading.{zeros, filled, codesOf, placesOf, made, refusedWith}
+use Rattle.tokens.specs.Reading.{zeros, filled, codesOf, placesOf, made}
 use Rattle.tokens.specs.Inner.{Scan}
-use Rattle.tokens.specs.Inner.Scan.{stopped, whole}
+use Rattle.tokens.specs.Inner.Scan.{whole}
 use Rattle.tokens.proofs.Shapes.{token-size}
-use Rattle.tokens.proofs.Taking.{Right, right}
+use Rattle.tokens.proofs.Right.{Right}
+use Rattle.tokens.proofs.Taking.{right}
 use Rattle.tokens.proofs.Filling.{filled-none, filled-more, codes-more, places-more, codes-length, places-length}
 
 pub record Scanned (text : List ℕ) (p count : ℕ) (codes places : List ℕ) : Type 0 where
@@ -38,7 +38,11 @@ pub record Scanned (text : List ℕ) (p count : ℕ) (codes places : List ℕ) :
   pub reads : (ts : List Token) → Reads p (drop p text) ts → Reads 0 text (before ++ ts)
   pub stuck : (q : ℕ) → Stuck p (drop p text) q → Stuck 0 text q
 
-pub scan-start : (text : List ℕ) {codes places : List ℕ} → codes ≡ zeros → places ≡ zeros → Scanned text 0 0 codes places
+pub scan-start :
+    (text : List ℕ) {codes places : List ℕ} →
+    codes ≡ zeros →
+    places ≡ zeros →
+    Scanned text 0 0 codes places
 unfolding codesOf placesOf
 scan-start text e f =
     record {
@@ -136,7 +140,8 @@ module _ (text : List ℕ) (p : ℕ) (h : p < length text) where
               places-are =
                   rw (z .places-are, z .count-is, ← places-length (z .before), places-more)
                   (filled-more (placesOf (z .before)) p (omega (arith, places-length (z .before))));
-              reads = λ ts s. rw append-assoc (z .reads (tokenAt (r .code) p ∷ ts) (reads-token rest b taken (onward s)));
+              reads =
+                  λ ts s. rw append-assoc (z .reads (tokenAt (r .code) p ∷ ts) (reads-token rest b taken (onward s)));
               stuck = λ q s. z .stuck q (stuck-token rest b taken (onward-stuck s));
             }
           where

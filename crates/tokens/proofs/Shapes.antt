@@ -3,25 +3,25 @@
 --   shape          a name, a based literal or edge, an unbased edge, or one of the spellings
 --   token-unique   a token has one code
 -- Assumes nothing.
-use mathlib.Core.Path.{_≡_, refl, sym, ap, _∙_}
+use mathlib.Core.Path.{_≡_, refl}
 use mathlib.Core.Bool.{Bool, true, false, not, _&&_, _||_}
 use mathlib.Core.Logic.{_⊎_, inl, inr}
 use mathlib.Core.List.{List, [], _∷_, _++_}
-use Prim.Native.Nat.{ℕ, suc, _+_, _*_, _≤_, _<_}
+use Prim.Native.Nat.{ℕ, _≤_, _<_}
 use native.Mathlib.Omega.{arith}
-use lib.Dec.{eqb, ltb, leb}
-use lib.ListN.{length, drop, getD}
-use borrow.Author.Tests.{eqb-true, eq-eqb, leb-true, ltb-true, lt-ltb, not-true}
-use Rattle.alf.specs.Words.{if_then_else_, all}
-use Rattle.alf.specs.Names.{isLetter, isDecimal, startsName, goesOnName, isName}
+use lib.Dec.{eqb, leb}
+use lib.ListN.{length}
+use borrow.Author.Tests.{leb-true, lt-ltb, not-true}
+use Rattle.alf.specs.Words.{all}
+use Rattle.alf.specs.Names.{isLetter, startsName, goesOnName, isName}
 use Rattle.alf.specs.States.{among}
 use Rattle.tokens.specs.Classes.{halfOf}
-use Rattle.tokens.specs.Spelling.{Spelling, _means_, _In_, spellings, based, edgeCode, IsToken}
+use Rattle.tokens.specs.Spelling.{Spelling, _In_, spellings, IsToken}
 use Rattle.tokens.specs.Spelling.IsToken.{name, spelled, literal, edge, based-edge}
 use Rattle.tokens.specs.Taking.{byteAt, nameBytes, isPlain, isBased}
-use Rattle.tokens.specs.Steps.{starts, none}
+use Rattle.tokens.specs.Steps.{starts}
 use Rattle.tokens.proofs.Ranges.{and-left, and-right}
-use Rattle.tokens.proofs.Bytes.{contrary, plain-unnamed}
+use Rattle.tokens.proofs.Bytes.{contrary}
 use Rattle.tokens.proofs.Search.{all-in, in-all, starts-complete}
 
 -- what every entry of the spellings has
@@ -92,9 +92,19 @@ starts-goes-on b h = rw h
 
 pub data Shape (bs v : List ℕ) : Type 0 where
   as-name : startsName (byteAt bs 0) ≡ true → length v ≤ nameBytes bs → Shape bs v
-  as-based : byteAt bs 0 ≡ 39 → isBased bs 0 ≡ true → (length v ≡ 3) ⊎ ((length v ≡ 6) × (byteAt bs 3 ≡ 39)) → Shape bs v
+  as-based :
+      byteAt bs 0 ≡ 39 →
+      isBased bs 0 ≡ true →
+      (length v ≡ 3) ⊎ ((length v ≡ 6) × (byteAt bs 3 ≡ 39)) →
+      Shape bs v
   as-edge : isPlain (byteAt bs 0) ≡ true → isPlain (byteAt bs 1) ≡ true → length v ≡ 2 → Shape bs v
-  as-spelled : (e : Spelling) → e In spellings → v ≡ e .bytes → byteAt bs 0 ≡ byteAt v 0 → starts v bs ≡ true → Shape bs v
+  as-spelled :
+      (e : Spelling) →
+      e In spellings →
+      v ≡ e .bytes →
+      byteAt bs 0 ≡ byteAt v 0 →
+      starts v bs ≡ true →
+      Shape bs v
 
 first-byte : (v rest : List ℕ) → 0 < length v → byteAt (v ++ rest) 0 ≡ byteAt v 0
 first-byte [] rest h = absurd (omega arith)

@@ -1,27 +1,26 @@
--- The table of spellings as the code has it, four bytes an entry, and a search in it.
---   entry                      entry i of the code's table is entry i of the spellings, by a computed test
+-- The table of spellings as the code has it, a row of four bytes for each, and a search in it.
+--   entry                           row i of the table is entry i of the spellings, by a computed test
 --   find-hit, find-miss, find-end   one turn of the search, and its end
 -- Assumes nothing.
-use mathlib.Core.Path.{_≡_, refl, sym, ap, _∙_}
+use mathlib.Core.Path.{_≡_, refl, sym, _∙_}
 use mathlib.Core.Bool.{Bool, true, false, _&&_}
 use mathlib.Core.List.{List, [], _∷_}
-use Prim.Native.Nat.{ℕ, suc, _+_, _*_, _≤_, _<_}
+use Prim.Native.Nat.{ℕ, suc, _+_, _≤_, _<_}
 use native.Mathlib.Omega.{arith}
 use native.Mathlib.Numerals.{add-one}
 use lib.Dec.{eqb, ltb}
 use lib.ListN.{length, getD, drop, drop-of-length-le}
 use lib.Seq.{drop-cons}
 use borrow.Author.Tests.{eqb-true, ltb-true}
-use Rattle.tokens.specs.declared.Step.{Step}
 use Rattle.tokens.specs.Spelling.{Spelling, _means_, spellings}
 use Rattle.tokens.specs.Steps.{starts, firstOf, step, none}
 use Rattle.tokens.specs.Inner.{wordOf}
 use Rattle.tokens.proofs.Ranges.{and-left, and-right, all-from-law}
 
-abbrev pub flat : List Spelling → List ℕ
-flat [] = []
-flat (e ∷ es) =
-    getD (e .bytes) 0 0 ∷ (getD (e .bytes) 1 0 ∷ (getD (e .bytes) 2 0 ∷ (e .code ∷ flat es)))
+abbrev pub rows : List Spelling → List (List ℕ)
+rows [] = []
+rows (e ∷ es) =
+    (getD (e .bytes) 0 0 ∷ (getD (e .bytes) 1 0 ∷ (getD (e .bytes) 2 0 ∷ (e .code ∷ [])))) ∷ rows es
 
 abbrev pub same : List ℕ → List ℕ → Bool
 same [] [] = true
@@ -39,40 +38,49 @@ same-law (x ∷ xs) (y ∷ ys) e =
 abbrev nothing : Spelling
 nothing = [] means none
 
--- byte j of entry i
+-- byte j of row i
 abbrev pub cell : ℕ → ℕ → ℕ
-cell i j = getD (flat spellings) (4 * i + j) 0
+cell i j = getD (getD (rows spellings) i []) j 0
 
 abbrev pub word : ℕ → List ℕ
-word i = wordOf (getD (flat spellings) (4 * i) 0) (cell i 1) (cell i 2)
+word i = wordOf (cell i 0) (cell i 1) (cell i 2)
 
 pub record Entry (i : ℕ) : Type 0 where
   pub bytes : word i ≡ getD spellings i nothing .bytes
   pub code : cell i 3 ≡ getD spellings i nothing .code
-  pub first : 0 < getD (flat spellings) (4 * i) 0
+  pub first : 0 < cell i 0
 
 abbrev entry-test : ℕ → Bool
 entry-test i =
     same (word i) (getD spellings i nothing .bytes) &&
-    (eqb (cell i 3) (getD spellings i nothing .code) && ltb 0 (getD (flat spellings) (4 * i) 0))
+    (eqb (cell i 3) (getD spellings i nothing .code) && ltb 0 (cell i 0))
 
 entry-of : (i : ℕ) → entry-test i ≡ true → Entry i
 entry-of i t =
+    let bytes = same (word i) (getD spellings i nothing .bytes) in
+    let code = eqb (cell i 3) (getD spellings i nothing .code) in
+    let rest = and-right bytes _ t in
     record {
-      bytes = same-law _ _ (and-left _ _ t);
-      code = eqb-true _ _ (and-left _ _ (and-right (same (word i) (getD spellings i nothing .bytes)) _ t));
-      first = ltb-true _ _ (and-right (eqb (cell i 3) (getD spellings i nothing .code)) _ (and-right (same (word i) (getD spellings i nothing .bytes)) _ t));
+      bytes = same-law _ _ (and-left bytes _ t);
+      code = eqb-true _ _ (and-left code _ rest);
+      first = ltb-true _ _ (and-right code _ rest);
     }
 
 pub entry : (i : ℕ) → i < 26 → Entry i
 unfolding spellings wordOf
 entry i h = entry-of i (all-from-law entry-test 0 26 i refl (omega arith) (omega arith))
 
-first-hit : (e : Spelling) (es : List Spelling) (bs : List ℕ) → starts (e .bytes) bs ≡ true → firstOf (e ∷ es) bs ≡ step (e .code) (length (e .bytes))
+first-hit :
+    (e : Spelling) (es : List Spelling) (bs : List ℕ) →
+    starts (e .bytes) bs ≡ true →
+    firstOf (e ∷ es) bs ≡ step (e .code) (length (e .bytes))
 unfolding firstOf
 first-hit e es bs h = rw h
 
-first-miss : (e : Spelling) (es : List Spelling) (bs : List ℕ) → starts (e .bytes) bs ≡ false → firstOf (e ∷ es) bs ≡ firstOf es bs
+first-miss :
+    (e : Spelling) (es : List Spelling) (bs : List ℕ) →
+    starts (e .bytes) bs ≡ false →
+    firstOf (e ∷ es) bs ≡ firstOf es bs
 unfolding firstOf
 first-miss e es bs h = rw h
 
@@ -84,7 +92,12 @@ module _ (bs : List ℕ) (i : ℕ) (inv : firstOf (drop i spellings) bs ≡ firs
   next : i < 26 → firstOf (getD spellings i nothing ∷ drop (suc i) spellings) bs ≡ firstOf spellings bs
   next h = rw (drop-cons spellings i nothing (omega (arith, many))) at inv
 
-  pub find-hit : i < 26 → true ≡ starts (word i) bs → {n : ℕ} → n ≡ length (word i) → step (cell i 3) n ≡ firstOf spellings bs
+  pub find-hit :
+      i < 26 →
+      true ≡ starts (word i) bs →
+      {n : ℕ} →
+      n ≡ length (word i) →
+      step (cell i 3) n ≡ firstOf spellings bs
   find-hit h s {n} e =
       let k = entry i h in
       rw (k .code, e, k .bytes) (sym (first-hit _ _ bs (rw (k .bytes) at (sym s))) ∙ next h)

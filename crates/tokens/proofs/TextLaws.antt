@@ -7,30 +7,27 @@
 use mathlib.Core.Path.{_≡_, refl, sym, ap, _∙_}
 use mathlib.Core.Bool.{Bool, true, false, _&&_}
 use mathlib.Core.Logic.{_⊎_, inl, inr}
-use mathlib.Core.List.{List, [], _∷_, _++_}
-use Prim.Native.Nat.{ℕ, zero, suc, _+_, _≤_, _<_}
+use mathlib.Core.List.{List, [], _∷_}
+use Prim.Native.Nat.{ℕ, zero, suc, _+_, _≤_}
 use native.Mathlib.Omega.{arith}
 use lib.Dec.{eqb}
-use lib.ListN.{length, take, drop, getD, length-append, length-drop}
+use lib.ListN.{length, take, drop, length-append}
 use lib.Seq.{take-append-seam, drop-append-seam}
 use borrow.Author.Tests.{eq-eqb, ne-eqb, eqb-true, eqb-false}
 use Rattle.alf.specs.Words.{if_then_else_}
-use Rattle.alf.specs.Names.{startsName, goesOnName}
 use Rattle.tokens.specs.Classes.{isBlank}
-use Rattle.tokens.specs.Spelling.{IsToken}
-use Rattle.tokens.specs.Taking.{byteAt, isPlain, isBased, isHalf, Barred, Taken, NoToken}
+use Rattle.tokens.specs.Taking.{byteAt, isHalf, Barred, Taken, NoToken}
 use Rattle.tokens.specs.Taking.Barred.{together, overlong, loose, lone, bad-half}
 use Rattle.tokens.specs.Taking.NoToken.{barred, tokenless}
 use Rattle.tokens.specs.Texts.{Token, Reads, Stuck}
 use Rattle.tokens.specs.Texts.Reads.{done, blank, token}
 use Rattle.tokens.specs.Texts.Stuck.{blank as blank-then, token as token-then, here}
 use Rattle.tokens.specs.Steps.{none, stepOf}
-use Rattle.tokens.proofs.Ranges.{and-left, and-right}
 use Rattle.tokens.proofs.Bytes.{contrary, plain-unquoted, quote-unnamed}
 use Rattle.tokens.proofs.Lists.{and-false}
 use Rattle.tokens.proofs.Shapes.{token-size}
 use Rattle.tokens.proofs.Codes.{token-unique}
-use Rattle.tokens.proofs.Taking.{Right, right}
+use Rattle.tokens.proofs.Taking.{right}
 
 -- a token that is taken, by how many bytes it has
 module _ {bs w a : List ℕ} {c : ℕ} (t : Taken bs w c a) where

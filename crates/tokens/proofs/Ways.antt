@@ -3,11 +3,11 @@
 --   not-plain, not-second, third, pair                      `plain`
 --   by-class, short-name, long-name                         `take_token`
 -- Assumes nothing.
-use mathlib.Core.Path.{_≡_, refl, sym, ap, _∙_}
-use mathlib.Core.Bool.{Bool, true, false, _&&_}
+use mathlib.Core.Path.{_≡_, refl}
+use mathlib.Core.Bool.{Bool, true, false}
 use mathlib.Core.List.{List}
 use Prim.Native.Nat.{ℕ, _+_, _≤_, _<_}
-use lib.Dec.{eqb, ltb}
+use lib.Dec.{eqb}
 use borrow.Author.Tests.{eq-eqb, ne-eqb, lt-ltb, le-ltb, le-leb, lt-leb}
 use Rattle.alf.specs.Words.{if_then_else_}
 use Rattle.alf.specs.Names.{startsName, isDecimal}
@@ -18,7 +18,6 @@ use Rattle.tokens.specs.Classes.{isBlank, isOperator, classOf, halfOf}
 use Rattle.tokens.specs.Spelling.{spellings, edgeCode}
 use Rattle.tokens.specs.Taking.{byteAt, nameBytes}
 use Rattle.tokens.specs.Steps.{none, step, firstOf, nameStep, halfAt, basedStep, plainStep, stepOf}
-use Rattle.tokens.proofs.Lists.{and-false}
 
 module _ (bs : List ℕ) {f : ℕ} (ef : f ≡ halfAt bs 0) where
   pub no-half : f ≡ 9 → step none 0 ≡ basedStep bs
@@ -74,7 +73,9 @@ chosen Other bs = plainStep bs
 
 classed :
     (bs : List ℕ) (l q d k o : Bool) →
-    chosen (if l then Letter else if q then Quote else if d then Digit else if k then Blank else if o then Operator else Other) bs ≡
+    chosen
+    (if l then Letter else if q then Quote else if d then Digit else if k then Blank else if o then Operator else Other)
+    bs ≡
     (if l then nameStep bs else if q then basedStep bs else plainStep bs)
 classed bs true q d k o = refl
 classed bs false true d k o = refl
@@ -85,7 +86,8 @@ classed bs false false false false false = refl
 
 pub by-class : (bs : List ℕ) {x : Class} {b : ℕ} → x ≡ classOf b → b ≡ byteAt bs 0 → chosen x bs ≡ stepOf bs
 unfolding classOf stepOf
-by-class bs {x} {b} ex eb = rw (ex, ← eb) (classed bs (startsName b) (eqb b 39) (isDecimal b) (isBlank b) (isOperator b))
+by-class bs {x} {b} ex eb =
+    rw (ex, ← eb) (classed bs (startsName b) (eqb b 39) (isDecimal b) (isBlank b) (isOperator b))
 
 pub short-name : (bs : List ℕ) {n : ℕ} → n ≡ nameBytes bs → n ≤ 32 → step 0 n ≡ nameStep bs
 unfolding nameStep

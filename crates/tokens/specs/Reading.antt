@@ -1,8 +1,7 @@
 -- What `read_tokens` answers: the tokens of the text, or a refusal.
 use Prim.Native.Nat.{ℕ, _-_}
 use mathlib.Core.Bool.{true, false}
-use mathlib.Core.Path.{_≡_}
-use mathlib.Core.List.{List, [], _∷_, _++_, map}
+use mathlib.Core.List.{List, [], _∷_, _++_}
 use lib.ListN.{length, replicate}
 use Rattle.alf.specs.Refusals.{RefusedWith, Passed}
 use Rattle.tokens.specs.declared.Tokens.{Tokens}

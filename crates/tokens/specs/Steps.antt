@@ -1,9 +1,10 @@
--- One token step as a computation: what stands at the start of bs, as a code and a number of bytes, or `none` and how far
+-- One token step as a computation: what stands at the start of bs, as a code and a number of bytes, or `none` and how
+-- far
 -- on the byte refused is. That this is the token taken, or the place where none is, is shown in proofs/Steps.antt.
-use Prim.Native.Nat.{ℕ, zero, suc, _+_}
+use Prim.Native.Nat.{ℕ, _+_}
 use mathlib.Core.Bool.{Bool, true, false, _&&_}
 use mathlib.Core.List.{List, [], _∷_}
-use lib.Dec.{eqb, ltb, leb}
+use lib.Dec.{eqb, leb}
 use lib.ListN.{length}
 use Rattle.alf.specs.Words.{if_then_else_}
 use Rattle.alf.specs.Names.{startsName}

@@ -15,112 +15,34 @@ use crate::classes::is_name_byte;
 // The code that no token has.
 const NONE: u8 = 255;
 
-// What is spelled one way only: up to three bytes, then zeros, and the code. Longer ones come first.
-const SPELLINGS: [u8; 104] = [
-    60,
-    45,
-    62,
-    51, // <->
-    60,
-    38,
-    62,
-    53, // <&>
-    38,
-    38,
-    0,
-    40, // &&
-    124,
-    124,
-    0,
-    41, // ||
-    126,
-    94,
-    0,
-    43, // ~^
-    61,
-    61,
-    0,
-    44, // ==
-    33,
-    61,
-    0,
-    45, // !=
-    62,
-    61,
-    0,
-    48, // >=
-    60,
-    61,
-    0,
-    49, // <=
-    45,
-    62,
-    0,
-    50, // ->
-    38,
-    62,
-    0,
-    52, // &>
-    63,
-    33,
-    0,
-    145, // ?!
-    63,
-    45,
-    0,
-    146, // ?-
-    48,
-    0,
-    0,
-    32, // 0
-    49,
-    0,
-    0,
-    33, // 1
-    38,
-    0,
-    0,
-    40, // &
-    124,
-    0,
-    0,
-    41, // |
-    94,
-    0,
-    0,
-    42, // ^
-    62,
-    0,
-    0,
-    46, // >
-    60,
-    0,
-    0,
-    47, // <
-    63,
-    0,
-    0,
-    60, // ?
-    58,
-    0,
-    0,
-    61, // :
-    40,
-    0,
-    0,
-    62, // (
-    41,
-    0,
-    0,
-    63, // )
-    33,
-    0,
-    0,
-    147, // !
-    126,
-    0,
-    0,
-    147, // ~
+// What is spelled one way only: up to three bytes with zeros behind them, and the code. Longer ones come first.
+const SPELLINGS: [[u8; 4]; 26] = [
+    [b'<', b'-', b'>', 51],
+    [b'<', b'&', b'>', 53],
+    [b'&', b'&', 0, 40],
+    [b'|', b'|', 0, 41],
+    [b'~', b'^', 0, 43],
+    [b'=', b'=', 0, 44],
+    [b'!', b'=', 0, 45],
+    [b'>', b'=', 0, 48],
+    [b'<', b'=', 0, 49],
+    [b'-', b'>', 0, 50],
+    [b'&', b'>', 0, 52],
+    [b'?', b'!', 0, 145],
+    [b'?', b'-', 0, 146],
+    [b'0', 0, 0, 32],
+    [b'1', 0, 0, 33],
+    [b'&', 0, 0, 40],
+    [b'|', 0, 0, 41],
+    [b'^', 0, 0, 42],
+    [b'>', 0, 0, 46],
+    [b'<', 0, 0, 47],
+    [b'?', 0, 0, 60],
+    [b':', 0, 0, 61],
+    [b'(', 0, 0, 62],
+    [b')', 0, 0, 63],
+    [b'!', 0, 0, 147],
+    [b'~', 0, 0, 147],
 ];
 
 // Byte `k` from `at` on, 0 past the end.
@@ -238,15 +160,16 @@ fn find(text: &[u8], at: usize) -> Step
     requires { ⌜ at ≤ length (now text) ⌝ }
     ensures { λ r. ⌜ r ≡ firstOf spellings (drop at (now (text .entry))) ⌝ }
 {
-    let table = SPELLINGS;
-    let mut i = 0;
+    let rows = SPELLINGS;
+    let mut i: usize = 0;
     while i < 26 {
-        let x = table[4 * i];
-        let y = table[4 * i + 1];
-        let z = table[4 * i + 2];
+        let row = rows[i];
+        let x = row[0];
+        let y = row[1];
+        let z = row[2];
         if stands(text, at, x, y, z) {
             return Step {
-                code: table[4 * i + 3],
+                code: row[3],
                 size: size_of(x, y, z),
             };
         }

@@ -1,6 +1,5 @@
 -- `refuse` hands over no tokens. Assumes nothing.
 use borrow.Author.Needs.{needs}
-use mathlib.Core.Path.{refl}
 use Rattle.tokens.specs.Reading.{refusedWith}
 use Rattle.tokens.proofs.refuse.Statement.{statement}
 use Rattle.tokens.proofs.refuse.Tie as tie

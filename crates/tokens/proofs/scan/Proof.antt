@@ -2,11 +2,12 @@
 -- comes to (Scanned); the measure is what is left of the text. Assumes nothing.
 use borrow.Author.Needs.{needs}
 use native.Mathlib.Omega.{arith}
-use mathlib.Core.Path.{_≡_, sym, _∙_}
-use Prim.Native.Nat.{_-_}
+use mathlib.Core.Path.{sym, _∙_}
+use Prim.Native.Nat.{_+_, _-_, _≤_, _<_}
 use lib.ListN.{length}
 use Rattle.tokens.specs.Inner.Scan.{stopped}
-use Rattle.tokens.proofs.Scanning.{Scanned, scan-start, scan-blank, stop-fits, scan-stop, token-fits, scan-token, scan-end}
+use Rattle.tokens.proofs.Scanning.{Scanned, scan-start, scan-blank, stop-fits, scan-stop, token-fits}
+use Rattle.tokens.proofs.Scanning.{scan-token, scan-end}
 use Rattle.tokens.proofs.scan.Statement.{statement}
 use Rattle.tokens.proofs.scan.Tie as tie
 
@@ -16,74 +17,52 @@ Inv-loop text codes₀ places₀ count₀ at₀ codes places count at = Scanned 
 abbrev μ-loop : tie.MeasureT-loop
 μ-loop text codes₀ places₀ count₀ at₀ codes places count at = length text - at
 
-no-codes-requires : tie.Need-no-codes-requires Inv-loop μ-loop
-no-codes-requires c κs = search needs
-
-no-places-requires : tie.Need-no-places-requires Inv-loop μ-loop
-no-places-requires c κs = search needs
-
 loop-holds : tie.Need-loop-holds Inv-loop μ-loop
 loop-holds c = scan-start _ (c .before .no-codes .ensures) (c .no-places .ensures)
 
-shared-slice-read-is-blank : tie.Need-shared-slice-read-is-blank Inv-loop μ-loop
-shared-slice-read-is-blank c = search needs
-
-is-blank-requires : tie.Need-is-blank-requires Inv-loop μ-loop
-is-blank-requires c κs = search needs
-
-add-at : tie.Need-add-at Inv-loop μ-loop
-add-at c = search needs
-
-loop-less : tie.Need-loop-less Inv-loop μ-loop
-loop-less c = search needs
-
 loop-again : tie.Need-loop-again Inv-loop μ-loop
-loop-again c = scan-blank _ _ (c .before .before .before .loop-test .taken) (c .before .before .before .before .loop .inv) (sym (c .before .is-blank .ensures) ∙ c .if1 .taken)
-
-take-token-requires : tie.Need-take-token-requires Inv-loop μ-loop
-take-token-requires c κs = search needs
+loop-again c =
+    let turn = c .before .before .before in
+    scan-blank _ _ (turn .loop-test .taken) (turn .before .loop .inv)
+    (sym (c .before .is-blank .ensures) ∙ c .if1 .taken)
 
 add-refuse : tie.Need-add-refuse Inv-loop μ-loop
 add-refuse c =
-    let small = stop-fits _ _ (c .before .before .before .before .before .loop-test .taken) (c .before .before .before .before .before .before .loop .inv) (c .before .take-token .ensures) (c .if2 .taken) in omega arith
-
-refuse-requires : tie.Need-refuse-requires Inv-loop μ-loop
-refuse-requires c κs = search needs
+    let turn = c .before .before .before .before .before in
+    let step = c .before .take-token .ensures in
+    let small = stop-fits _ _ (turn .loop-test .taken) (turn .before .loop .inv) step (c .if2 .taken) in omega arith
 
 returns : tie.Need-returns Inv-loop μ-loop
 returns c =
-    rw (c .refuse .ensures)
-    (stopped _
-    (scan-stop _ _ (c .before .before .before .before .before .before .loop-test .taken) (c .before .before .before .before .before .before .before .loop .inv) (c .before .before .take-token .ensures)
-    (sym (c .before .before .before .before .is-blank .ensures) ∙ (c .before .before .before .if1 .left)) (c .before .if2 .taken)))
+    let turn = c .before .before .before .before .before .before in
+    let step = c .before .before .take-token .ensures in
+    let unblank = sym (c .before .before .before .before .is-blank .ensures) ∙ c .before .before .before .if1 .left in
+    let stuck = scan-stop _ _ (turn .loop-test .taken) (turn .before .loop .inv) step unblank (c .before .if2 .taken) in
+    rw (c .refuse .ensures) (stopped _ stuck)
 
-array-write-codes : tie.Need-array-write-codes Inv-loop μ-loop
-array-write-codes c = search needs
-
-cast-places : tie.Need-cast-places Inv-loop μ-loop
-cast-places c = search needs
-
-mul-places : tie.Need-mul-places Inv-loop μ-loop
-mul-places c = search needs
-
-array-write-places : tie.Need-array-write-places Inv-loop μ-loop
-array-write-places c = search needs
-
-add-count : tie.Need-add-count Inv-loop μ-loop
-add-count c = search needs
+-- where a token was taken: it has a byte, and ends in the text
+fits :
+    (c : tie.Else2 Inv-loop μ-loop) →
+    (0 < c .before .take-token .result .size) ×
+    (c .before .before .before .before .before .before .loop .at + c .before .take-token .result .size ≤
+    length (c .before .before .before .before .before .before .before .before .before .before .args .text .now))
+fits c =
+    let turn = c .before .before .before .before .before in
+    token-fits _ _ (turn .loop-test .taken) (turn .before .loop .inv) (c .before .take-token .ensures) (c .if2 .left)
 
 add-at-2 : tie.Need-add-at-2 Inv-loop μ-loop
-add-at-2 c =
-    let fits = token-fits _ _ (c .before .before .before .before .before .loop-test .taken) (c .before .before .before .before .before .before .loop .inv) (c .before .take-token .ensures) (c .if2 .left) in omega arith
+add-at-2 c = let inside = fits c in omega arith
 
 loop-less-2 : tie.Need-loop-less-2 Inv-loop μ-loop
-loop-less-2 c =
-    let fits = token-fits _ _ (c .before .before .before .before .before .loop-test .taken) (c .before .before .before .before .before .before .loop .inv) (c .before .take-token .ensures) (c .if2 .left) in omega arith
+loop-less-2 c = let inside = fits c in omega arith
 
 loop-again-2 : tie.Need-loop-again-2 Inv-loop μ-loop
 loop-again-2 c =
-    scan-token _ _ (c .before .before .before .before .before .loop-test .taken) (c .before .before .before .before .before .before .loop .inv) (c .before .take-token .ensures) (c .if2 .left)
-    (sym (c .before .before .before .is-blank .ensures) ∙ (c .before .before .if1 .left)) (c .before .before .before .before .before .before .before .before .before .before .pre)
+    let turn = c .before .before .before .before .before in
+    let step = c .before .take-token .ensures in
+    let unblank = sym (c .before .before .before .is-blank .ensures) ∙ c .before .before .if1 .left in
+    let start = turn .before .before .before .before .before in
+    scan-token _ _ (turn .loop-test .taken) (turn .before .loop .inv) step (c .if2 .left) unblank (start .pre)
 
 returns-2 : tie.Need-returns-2 Inv-loop μ-loop
 returns-2 c = scan-end _ (c .loop-test .left) (c .before .loop .inv)
@@ -94,23 +73,23 @@ scan-spec =
     (tie.spec
     Inv-loop
     μ-loop
-    no-codes-requires
-    no-places-requires
+    (λ c κs. search needs)  -- no-codes-requires
+    (λ c κs. search needs)  -- no-places-requires
     loop-holds
-    shared-slice-read-is-blank
-    is-blank-requires
-    add-at
-    loop-less
+    (λ c. search needs)  -- shared-slice-read-is-blank
+    (λ c κs. search needs)  -- is-blank-requires
+    (λ c. search needs)  -- add-at
+    (λ c. search needs)  -- loop-less
     loop-again
-    take-token-requires
+    (λ c κs. search needs)  -- take-token-requires
     add-refuse
-    refuse-requires
+    (λ c κs. search needs)  -- refuse-requires
     returns
-    array-write-codes
-    cast-places
-    mul-places
-    array-write-places
-    add-count
+    (λ c. search needs)  -- array-write-codes
+    (λ c. search needs)  -- cast-places
+    (λ c. search needs)  -- mul-places
+    (λ c. search needs)  -- array-write-places
+    (λ c. search needs)  -- add-count
     add-at-2
     loop-less-2
     loop-again-2

@@ -1,4 +1,5 @@
--- `class_of` puts each byte in its class: a computed test of each arm's range, or of its single numbers. Assumes nothing.
+-- `class_of` puts each byte in its class: a computed test of each arm's range, or of its single numbers. Assumes
+-- nothing.
 use native.Mathlib.Omega.{arith}
 use mathlib.Core.Path.{refl}
 use mathlib.Core.List.{List, [], _∷_}
@@ -32,7 +33,9 @@ returns c = of-keys Quote k₃ refl _ (c .match .keys3)
 
 returns-2 : tie.Need-returns-2
 unfolding classOf startsName isLetter isDecimal isBlank isOperator among
-returns-2 c = of-range Digit 48 10 single refl _ (c .before .before .before .before .before .before .before .match .rest) (omega arith) (omega arith)
+returns-2 c =
+    of-range Digit 48 10 single refl _ (c .before .before .before .before .before .before .before .match .rest)
+    (omega arith) (omega arith)
 
 returns-3 : tie.Need-returns-3
 unfolding classOf startsName isLetter isDecimal isBlank isOperator among
@@ -40,15 +43,20 @@ returns-3 c = of-range Other 0 9 single refl _ (c .before .before .match .rest) 
 
 returns-4 : tie.Need-returns-4
 unfolding classOf startsName isLetter isDecimal isBlank isOperator among
-returns-4 c = of-range Other 11 29 single refl _ (c .before .before .before .before .match .rest) (omega arith) (omega arith)
+returns-4 c =
+    of-range Other 11 29 single refl _ (c .before .before .before .before .match .rest) (omega arith) (omega arith)
 
 returns-5 : tie.Need-returns-5
 unfolding classOf startsName isLetter isDecimal isBlank isOperator among
-returns-5 c = of-range Other 42 6 single refl _ (c .before .before .before .before .before .before .match .rest) (omega arith) (omega arith)
+returns-5 c =
+    of-range Other 42 6 single refl _ (c .before .before .before .before .before .before .match .rest) (omega arith)
+    (omega arith)
 
 returns-6 : tie.Need-returns-6
 unfolding classOf startsName isLetter isDecimal isBlank isOperator among
-returns-6 c = of-range Other 58 2 single refl _ (c .before .before .before .before .before .before .before .match .rest) (omega arith) (omega arith)
+returns-6 c =
+    of-range Other 58 2 single refl _ (c .before .before .before .before .before .before .before .match .rest)
+    (omega arith) (omega arith)
 
 returns-7 : tie.Need-returns-7
 unfolding classOf startsName isLetter isDecimal isBlank isOperator among
@@ -56,11 +64,15 @@ returns-7 c = of-range Other 64 1 single refl _ (c .before .before .before .matc
 
 returns-8 : tie.Need-returns-8
 unfolding classOf startsName isLetter isDecimal isBlank isOperator among
-returns-8 c = of-range Other 91 6 single refl _ (c .before .before .before .before .before .match .rest) (omega arith) (omega arith)
+returns-8 c =
+    of-range Other 91 6 single refl _ (c .before .before .before .before .before .match .rest) (omega arith)
+    (omega arith)
 
 returns-9 : tie.Need-returns-9
 unfolding classOf startsName isLetter isDecimal isBlank isOperator among
-returns-9 c = of-range Other 123 133 single refl _ (c .before .before .before .before .before .before .match .rest) (omega arith) (omega arith)
+returns-9 c =
+    of-range Other 123 133 single refl _ (c .before .before .before .before .before .before .match .rest)
+    (omega arith) (omega arith)
 
 returns-10 : tie.Need-returns-10
 unfolding classOf startsName isLetter isDecimal isBlank isOperator among
@@ -68,11 +80,14 @@ returns-10 c = of-keys Letter k₄ refl _ (c .match .keys4)
 
 returns-11 : tie.Need-returns-11
 unfolding classOf startsName isLetter isDecimal isBlank isOperator among
-returns-11 c = of-range Letter 65 26 single refl _ (c .before .before .before .before .match .rest) (omega arith) (omega arith)
+returns-11 c =
+    of-range Letter 65 26 single refl _ (c .before .before .before .before .match .rest) (omega arith) (omega arith)
 
 returns-12 : tie.Need-returns-12
 unfolding classOf startsName isLetter isDecimal isBlank isOperator among
-returns-12 c = of-range Letter 97 26 single refl _ (c .before .before .before .before .before .before .match .rest) (omega arith) (omega arith)
+returns-12 c =
+    of-range Letter 97 26 single refl _ (c .before .before .before .before .before .before .match .rest) (omega arith)
+    (omega arith)
 
 returns-13 : tie.Need-returns-13
 unfolding classOf startsName isLetter isDecimal isBlank isOperator among
@@ -80,7 +95,9 @@ returns-13 c = of-keys Operator k₂ refl _ (c .match .keys2)
 
 returns-14 : tie.Need-returns-14
 unfolding classOf startsName isLetter isDecimal isBlank isOperator among
-returns-14 c = of-range Operator 38 4 single refl _ (c .before .before .before .before .before .match .rest) (omega arith) (omega arith)
+returns-14 c =
+    of-range Operator 38 4 single refl _ (c .before .before .before .before .before .match .rest) (omega arith)
+    (omega arith)
 
 returns-15 : tie.Need-returns-15
 unfolding classOf startsName isLetter isDecimal isBlank isOperator among

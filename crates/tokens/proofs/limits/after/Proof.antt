@@ -5,17 +5,13 @@ use Rattle.tokens.proofs.Counts.{opens, closes-none, closes, leaves, un
 use Rattle.tokens.proofs.limits.after.Statement.{statement}
 use Rattle.tokens.proofs.limits.after.Tie as tie
 
-add-result : tie.Need-add-result
-add-result c = search needs
-
 returns : tie.Need-returns
 returns c = opens _ _ (c .before .if1 .taken) (c .if2 .taken)
 
 returns-2 : tie.Need-returns-2
-returns-2 c = closes-none _ _ (c .before .before .before .if1 .taken) (c .before .before .if2 .left) (c .before .if3 .taken) (c .if4 .taken)
-
-sub-result : tie.Need-sub-result
-sub-result c = search needs
+returns-2 c =
+    closes-none _ _ (c .before .before .before .if1 .taken) (c .before .before .if2 .left) (c .before .if3 .taken)
+    (c .if4 .taken)
 
 returns-3 : tie.Need-returns-3
 returns-3 c = closes _ _ (c .before .before .before .if1 .taken) (c .before .before .if2 .left) (c .before .if3 .taken)
@@ -23,17 +19,11 @@ returns-3 c = closes _ _ (c .before .before .before .if1 .taken) (c .before .bef
 returns-4 : tie.Need-returns-4
 returns-4 c = leaves _ _ (c .before .before .if1 .taken) (c .before .if2 .left) (c .if3 .left)
 
-add-result-2 : tie.Need-add-result-2
-add-result-2 c = search needs
-
 returns-5 : tie.Need-returns-5
 returns-5 c = counts _ _ (c .before .if1 .left) (λ e. omega arith) (λ e. omega arith) (λ e. omega arith)
 
 returns-6 : tie.Need-returns-6
 returns-6 c = uncounted _ _ (c .before .before .if1 .left) (c .before .if5 .left) (c .if6 .taken)
-
-add-result-3 : tie.Need-add-result-3
-add-result-3 c = search needs
 
 returns-7 : tie.Need-returns-7
 returns-7 c = counts _ _ (c .before .before .if1 .left) (λ e. omega arith) (λ e. omega arith) (λ e. omega arith)
@@ -42,14 +32,14 @@ pub after-spec : {M : Type 1} → statement M
 after-spec =
     tie.close
     (tie.spec
-    add-result
+    (λ c. search needs)  -- add-result
     returns
     returns-2
-    sub-result
+    (λ c. search needs)  -- sub-result
     returns-3
     returns-4
-    add-result-2
+    (λ c. search needs)  -- add-result-2
     returns-5
     returns-6
-    add-result-3
+    (λ c. search needs)  -- add-result-3
     returns-7)

@@ -1,8 +1,9 @@
--- `first_over` gives the first token that goes over the limit. The invariant: those passed do not, and the search in the
+-- `first_over` gives the first token that goes over the limit. The invariant: those passed do not, and the search in
+-- the
 -- rest is the search in all. Assumes nothing.
 use borrow.Author.Needs.{needs}
 use native.Mathlib.Omega.{arith}
-use mathlib.Core.Path.{_≡_, refl}
+use mathlib.Core.Path.{_≡_}
 use Prim.Native.Nat.{_≤_, _+_, _-_}
 use lib.ListN.{take, drop}
 use Rattle.tokens.specs.Inner.{changed, overAt}
@@ -13,7 +14,8 @@ use Rattle.tokens.proofs.limits.first_over.Tie as tie
 abbrev Inv-loop : tie.InvT-loop
 Inv-loop codes count brackets limit n₀ i₀ n i =
     (i ≤ count) × (n ≤ limit) ×
-    (i + overAt (changed brackets) limit n (drop i (take count codes)) ≡ overAt (changed brackets) limit 0 (take count codes))
+    (i + overAt (changed brackets) limit n (drop i (take count codes)) ≡
+    overAt (changed brackets) limit 0 (take count codes))
 
 abbrev μ-loop : tie.MeasureT-loop
 μ-loop codes count brackets limit n₀ i₀ n i = count - i
@@ -21,33 +23,25 @@ abbrev μ-loop : tie.MeasureT-loop
 loop-holds : tie.Need-loop-holds Inv-loop μ-loop
 loop-holds c = (omega arith, omega arith, omega arith)
 
-element-copy-out-after : tie.Need-element-copy-out-after Inv-loop μ-loop
-element-copy-out-after c = search needs
-
-after-requires : tie.Need-after-requires Inv-loop μ-loop
-after-requires c κs = search needs
-
 returns : tie.Need-returns Inv-loop μ-loop
 returns c =
-    over-hit _ _ _ _ (c .before .before .before .before .before .pre .there) _ _ (c .before .before .before .before .loop .inv .2) (c .before .before .before .loop-test .taken)
+    over-hit _ _ _ _ (c .before .before .before .before .before .pre .there) _ _
+    (c .before .before .before .before .loop .inv .2) (c .before .before .before .loop-test .taken)
     (c .before .after .ensures) (c .if1 .taken)
-
-add-i : tie.Need-add-i Inv-loop μ-loop
-add-i c = search needs
-
-loop-less : tie.Need-loop-less Inv-loop μ-loop
-loop-less c = search needs
 
 loop-again : tie.Need-loop-again Inv-loop μ-loop
 loop-again c = (
   omega arith,
   c .if1 .left,
-  over-more _ _ _ _ (c .before .before .before .before .before .pre .there) _ _ (c .before .before .before .before .loop .inv .2) (c .before .before .before .loop-test .taken)
+  over-more _ _ _ _ (c .before .before .before .before .before .pre .there) _ _
+      (c .before .before .before .before .loop .inv .2) (c .before .before .before .loop-test .taken)
       (c .before .after .ensures) (c .if1 .left),
 )
 
 returns-2 : tie.Need-returns-2 Inv-loop μ-loop
-returns-2 c = over-end _ _ _ _ (c .before .before .pre .there) _ _ (c .before .loop .inv .2) (c .loop-test .left) (c .before .loop .inv .0)
+returns-2 c =
+    over-end _ _ _ _ (c .before .before .pre .there) _ _ (c .before .loop .inv .2) (c .loop-test .left)
+    (c .before .loop .inv .0)
 
 pub first-over-spec : {M : Type 1} → statement M
 first-over-spec =
@@ -56,10 +50,10 @@ first-over-spec =
     Inv-loop
     μ-loop
     loop-holds
-    element-copy-out-after
-    after-requires
+    (λ c. search needs)  -- element-copy-out-after
+    (λ c κs. search needs)  -- after-requires
     returns
-    add-i
-    loop-less
+    (λ c. search needs)  -- add-i
+    (λ c. search needs)  -- loop-less
     loop-again
     returns-2)

@@ -3,7 +3,7 @@
 use borrow.Author.Needs.{needs}
 use native.Mathlib.Omega.{arith}
 use mathlib.Core.Path.{_≡_, refl, sym, _∙_}
-use Prim.Native.Nat.{_≤_, _<_, _-_}
+use Prim.Native.Nat.{_≤_, _-_}
 use lib.ListN.{drop}
 use Rattle.tokens.specs.Spelling.{spellings}
 use Rattle.tokens.specs.Steps.{firstOf}
@@ -12,21 +12,25 @@ use Rattle.tokens.proofs.steps.find.Statement.{statement}
 use Rattle.tokens.proofs.steps.find.Tie as tie
 
 abbrev Inv-loop : tie.InvT-loop
-Inv-loop text at table i₀ i = (i ≤ 26) × (firstOf (drop i spellings) (drop at text) ≡ firstOf spellings (drop at text))
+Inv-loop text at rows i₀ i = (i ≤ 26) × (firstOf (drop i spellings) (drop at text) ≡ firstOf spellings (drop at text))
 
 abbrev μ-loop : tie.MeasureT-loop
-μ-loop text at table i₀ i = 26 - i
+μ-loop text at rows i₀ i = 26 - i
 
 stands-requires : tie.Need-stands-requires Inv-loop μ-loop
 unfolding spellings
 stands-requires c κs =
-    record { inside = c .before .before .before .pre; byte = entry (c .before .loop .i) (c .loop-test .taken) .first }
+    record {
+      inside = c .before .before .before .before .pre;
+      byte = entry (c .before .before .loop .i) (c .before .loop-test .taken) .first;
+    }
 
 returns : tie.Need-returns Inv-loop μ-loop
 unfolding spellings
 returns c =
-    find-hit _ (c .before .before .before .before .loop .i) (c .before .before .before .before .loop .inv .1)
-    (c .before .before .before .loop-test .taken)
+    find-hit _ (c .before .before .before .before .before .loop .i)
+    (c .before .before .before .before .before .loop .inv .1)
+    (c .before .before .before .before .loop-test .taken)
     (sym (c .before .if1 .taken) ∙ c .before .before .stands .ensures)
     (c .size-of .ensures)
 
@@ -34,8 +38,8 @@ loop-again : tie.Need-loop-again Inv-loop μ-loop
 unfolding spellings
 loop-again c = (
   search needs,
-  find-miss _ (c .before .before .before .loop .i) (c .before .before .before .loop .inv .1)
-      (c .before .before .loop-test .taken)
+  find-miss _ (c .before .before .before .before .loop .i) (c .before .before .before .before .loop .inv .1)
+      (c .before .before .before .loop-test .taken)
       (sym (c .if1 .left) ∙ c .before .stands .ensures),
 )
 
@@ -49,18 +53,13 @@ find-spec =
     Inv-loop
     μ-loop
     (λ c. (omega arith, refl))  -- loop-holds
-    (λ c. search needs)  -- mul-x
+    (λ c. search needs)  -- mul-row
+    (λ c. search needs)  -- array-copy-out-row
     (λ c. search needs)  -- array-read-x
-    (λ c. search needs)  -- mul-y
-    (λ c. search needs)  -- add-y
     (λ c. search needs)  -- array-read-y
-    (λ c. search needs)  -- mul-z
-    (λ c. search needs)  -- add-z
     (λ c. search needs)  -- array-read-z
     stands-requires
-    (λ c. search needs)  -- mul-t20
-    (λ c. search needs)  -- add-t21
-    (λ c. search needs)  -- array-read-t24
+    (λ c. search needs)  -- array-read
     (λ c κs. search needs)  -- size-of-requires
     returns
     (λ c. search needs)  -- add-i

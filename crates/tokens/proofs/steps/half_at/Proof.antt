@@ -5,49 +5,28 @@ use Rattle.tokens.proofs.Halves.{no-quote, no-b, name-byte, half}
 use Rattle.tokens.proofs.steps.half_at.Statement.{statement}
 use Rattle.tokens.proofs.steps.half_at.Tie as tie
 
-peek-requires : tie.Need-peek-requires
-peek-requires c κs = search needs
-
 returns : tie.Need-returns
 returns c = no-quote _ _ (c .before .peek .ensures) (c .if1 .taken)
 
-add-peek : tie.Need-add-peek
-add-peek c = search needs
-
-peek-requires-2 : tie.Need-peek-requires-2
-peek-requires-2 c κs = search needs
-
 returns-2 : tie.Need-returns-2
-returns-2 c = no-b _ _ (c .before .before .before .peek .ensures) (c .before .before .if1 .left) (c .before .peek2 .ensures) (c .if2 .taken)
-
-add-peek-2 : tie.Need-add-peek-2
-add-peek-2 c = search needs
-
-peek-requires-3 : tie.Need-peek-requires-3
-peek-requires-3 c κs = search needs
-
-is-name-byte-requires : tie.Need-is-name-byte-requires
-is-name-byte-requires c κs = search needs
+returns-2 c =
+    no-b _ _ (c .before .before .before .peek .ensures) (c .before .before .if1 .left) (c .before .peek2 .ensures)
+    (c .if2 .taken)
 
 returns-3 : tie.Need-returns-3
 returns-3 c =
-    name-byte _ _ (c .before .before .before .before .before .before .peek .ensures) (c .before .before .before .before .before .if1 .left)
-    (c .before .before .before .before .peek2 .ensures) (c .before .before .before .if2 .left) (c .before .before .peek3 .ensures)
+    name-byte _ _ (c .before .before .before .before .before .before .peek .ensures)
+    (c .before .before .before .before .before .if1 .left)
+    (c .before .before .before .before .peek2 .ensures) (c .before .before .before .if2 .left)
+    (c .before .before .peek3 .ensures)
     (sym (c .before .is-name-byte .ensures) ∙ c .if3 .taken)
-
-add-peek-3 : tie.Need-add-peek-3
-add-peek-3 c = search needs
-
-peek-requires-4 : tie.Need-peek-requires-4
-peek-requires-4 c κs = search needs
-
-half-of-requires : tie.Need-half-of-requires
-half-of-requires c κs = search needs
 
 returns-4 : tie.Need-returns-4
 returns-4 c =
-    half _ _ (c .before .before .before .before .before .before .before .before .peek .ensures) (c .before .before .before .before .before .before .before .if1 .left)
-    (c .before .before .before .before .before .before .peek2 .ensures) (c .before .before .before .before .before .if2 .left) (c .before .before .before .before .peek3 .ensures)
+    half _ _ (c .before .before .before .before .before .before .before .before .peek .ensures)
+    (c .before .before .before .before .before .before .before .if1 .left)
+    (c .before .before .before .before .before .before .peek2 .ensures)
+    (c .before .before .before .before .before .if2 .left) (c .before .before .before .before .peek3 .ensures)
     (sym (c .before .before .before .is-name-byte .ensures) ∙ (c .before .before .if3 .left))
     (c .before .peek4 .ensures) (c .half-of .ensures)
 
@@ -55,16 +34,16 @@ pub half-at-spec : {M : Type 1} → statement M
 half-at-spec =
     tie.close
     (tie.spec
-    peek-requires
+    (λ c κs. search needs)  -- peek-requires
     returns
-    add-peek
-    peek-requires-2
+    (λ c. search needs)  -- add-peek
+    (λ c κs. search needs)  -- peek-requires-2
     returns-2
-    add-peek-2
-    peek-requires-3
-    is-name-byte-requires
+    (λ c. search needs)  -- add-peek-2
+    (λ c κs. search needs)  -- peek-requires-3
+    (λ c κs. search needs)  -- is-name-byte-requires
     returns-3
-    add-peek-3
-    peek-requires-4
-    half-of-requires
+    (λ c. search needs)  -- add-peek-3
+    (λ c κs. search needs)  -- peek-requires-4
+    (λ c κs. search needs)  -- half-of-requires
     returns-4)

@@ -1,10 +1,11 @@
--- `name_size` counts the name bytes that stand together. The invariant: what was passed and what is left make the count.
+-- `name_size` counts the name bytes that stand together. The invariant: what was passed and what is left make the
+-- count.
 -- Assumes nothing.
 use borrow.Author.Needs.{needs}
 use borrow.Author.Tests.{not-true, not-false}
 use native.Mathlib.Omega.{arith}
 use mathlib.Core.Path.{_≡_, sym, _∙_}
-use Prim.Native.Nat.{ℕ, _≤_, _+_, _-_}
+use Prim.Native.Nat.{_≤_, _+_, _-_}
 use lib.ListN.{length, drop}
 use Rattle.tokens.specs.Taking.{nameBytes}
 use Rattle.tokens.proofs.Lists.{names-end, names-more, names-stop}
@@ -35,7 +36,9 @@ loop-again c =
 
 returns-2 : tie.Need-returns-2 Inv-loop μ-loop
 returns-2 c =
-    let end = names-end (c .before .before .before .args .text .now) (c .before .loop .i) (c .loop-test .left) in omega arith
+    let end =
+    names-end (c .before .before .before .args .text .now) (c .before .loop .i) (c .loop-test .left) in omega
+    arith
 
 pub name-size-spec : {M : Type 1} → statement M
 name-size-spec =
