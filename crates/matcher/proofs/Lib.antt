@@ -1,0 +1,5 @@
+-- The laws that the matcher is proved by.
+pub mod Cuts
+pub mod Matching
+pub mod Asked
+pub mod Walking
