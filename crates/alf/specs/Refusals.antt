@@ -82,17 +82,20 @@ bad-name byte good = At byte (good → ⊥)
 abbrev pub bad-slot : List ℕ → Row
 bad-slot names = First (λ k. (k < length names / 32) × (GoodSlot names k → ⊥))
 
--- 13: time not above the last row's; byte (of row r's time in a file), or index r. Row 0 has no row before it.
-abbrev pub not-above : ℕ → ℕ → ℕ → ℕ → Row
-not-above place r last now = At place ((1 ≤ r) × (now ≤ last))
+-- 13: time not above the last row's; byte (of a file's row record), or index r of a list of times
+abbrev pub early-time : ℕ → Type 0 → Row
+early-time byte early = At byte early
+
+abbrev pub not-above : List ℕ → ℕ → Row
+not-above times r = At r ((0 < r) × (getD times r 0 ≤ getD times (r - 1) 0))
 
 -- 14: file ends inside a record or before `EN`; file length
 abbrev pub cut-short : ℕ → Type 0 → Row
 cut-short bytes ends = At bytes ends
 
--- 15: state code above 7; byte, or index: the first such entry of a list, from one place up to another
-abbrev pub bad-code : List ℕ → ℕ → ℕ → Row
-bad-code codes from to = First (λ p. (from ≤ p) × (p < to) × (7 < getD codes p 0))
+-- 15: state code above 7; byte, or index: the first entry of a list that is so
+abbrev pub bad-code : List ℕ → Row
+bad-code states = First (λ i. (i < length states) × (7 < getD states i 0))
 
 -- 16: `EN` count wrong; byte
 abbrev pub wrong-count : ℕ → ℕ → ℕ → Row
