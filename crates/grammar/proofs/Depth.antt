@@ -2,13 +2,13 @@
 -- (written-shallowest). Assumes nothing.
 use Prim.Native.Nat.{ℕ, suc, pred, _+_, _≤_, max}
 use native.Mathlib.Omega.{arith}
-use mathlib.Core.Path.{_≡_, refl, ap, _∙_}
+use mathlib.Core.Path.{_≡_, refl, ap}
 use mathlib.Core.Bool.{Bool, true, false}
 use mathlib.Core.List.{List, [], _∷_, _++_, append-assoc, append-nil}
 use lib.Dec.{leb}
 use Rattle.alf.specs.Words.{if_then_else_}
 use Rattle.grammar.specs.declared.Token.{Token}
-use Rattle.grammar.specs.Tokens.{Kind, question, binary, kindOf}
+use Rattle.grammar.specs.Tokens.{Kind, binary, kindOf}
 use Rattle.grammar.specs.Grammar.{Tree, leaf, one, two, three, Expression}
 use Rattle.grammar.specs.Grammar.{Parses, alone, applied, bracketed, up, joined, chosen}
 use Rattle.grammar.specs.Written.{made, levelOf, fitted, written, Formed, leaf-is, one-is, two-is, three-is}

@@ -1,6 +1,6 @@
 -- A tree's text has the fewest brackets of all its texts (written-fewest), so leaving out a pair gives another tree or
 -- none; and its counted tokens are its nodes (counted-nodes). Assumes nothing.
-use Prim.Native.Nat.{ℕ, suc, pred, _+_, _≤_}
+use Prim.Native.Nat.{ℕ, suc, _+_, _≤_}
 use native.Mathlib.Omega.{arith}
 use mathlib.Core.Path.{_≡_, refl, ap, _∙_}
 use mathlib.Core.Bool.{Bool, true, false}
@@ -9,8 +9,8 @@ use lib.Dec.{leb}
 use lib.ListN.{length, length-append}
 use Rattle.alf.specs.Words.{if_then_else_}
 use Rattle.grammar.specs.declared.Token.{Token}
-use Rattle.grammar.specs.Tokens.{Kind, kindOf, weight, counted}
-use Rattle.grammar.specs.Grammar.{Tree, leaf, one, two, three, nodes, Expression}
+use Rattle.grammar.specs.Tokens.{kindOf, weight, counted}
+use Rattle.grammar.specs.Grammar.{Tree, leaf, one, two, three, nodes}
 use Rattle.grammar.specs.Grammar.{Parses, alone, applied, bracketed, up, joined, chosen}
 use Rattle.grammar.specs.Written.{made, levelOf, fitted, written, opens, brackets, deepened}
 use Rattle.grammar.proofs.Fitting.{deepened-open, deepened-more, deepened-plain, deepened-less}

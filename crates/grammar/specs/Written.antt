@@ -10,7 +10,7 @@ use Rattle.grammar.specs.declared.Token.{Token}
 use Rattle.grammar.specs.Tokens.{Kind, operand, prefix, question, colon, opening, closing, other, binary, kindOf}
 use Rattle.grammar.specs.Grammar.{Tree, leaf, one, two, three}
 
--- a token that the writer puts in: its place does not matter
+-- a token that the writer puts in, whose place does not matter: 61 is `:`, 62 `(`, 63 `)`
 abbrev pub made : ℕ → Token
 made c = record { code = c; place = 0 }
 
