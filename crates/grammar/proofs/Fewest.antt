@@ -1,19 +1,19 @@
 -- A tree's text has the fewest brackets of all its texts (written-fewest), so leaving out a pair gives another tree or
 -- none; and its counted tokens are its nodes (counted-nodes). Assumes nothing.
-use Prim.Native.Nat.{ℕ, suc, pred, _+_, _≤_}
+use Prim.Native.Nat.{ℕ, suc, _+_, _≤_}
 use native.Mathlib.Omega.{arith}
 use mathlib.Core.Path.{_≡_, refl, ap, _∙_}
 use mathlib.Core.Bool.{Bool, true, false}
 use mathlib.Core.List.{List, [], _∷_, _++_}
 use lib.Dec.{leb}
 use lib.ListN.{length, length-append}
-use borrow.Author.Tests.{le-leb, leb-true, leb-false}
 use Rattle.alf.specs.Words.{if_then_else_}
 use Rattle.grammar.specs.declared.Token.{Token}
-use Rattle.grammar.specs.Tokens.{Kind, kindOf, weight, counted}
-use Rattle.grammar.specs.Grammar.{Tree, leaf, one, two, three, nodes, Expression}
+use Rattle.grammar.specs.Tokens.{kindOf, weight, counted}
+use Rattle.grammar.specs.Grammar.{Tree, leaf, one, two, three, nodes}
 use Rattle.grammar.specs.Grammar.{Parses, alone, applied, bracketed, up, joined, chosen}
-use Rattle.grammar.specs.Written.{made, levelOf, fitted, written, opens, brackets}
+use Rattle.grammar.specs.Written.{made, levelOf, fitted, written, opens, brackets, deepened}
+use Rattle.grammar.proofs.Fitting.{deepened-open, deepened-more, deepened-plain, deepened-less}
 use Rattle.grammar.proofs.Written.{made-colon, made-opening, made-closing}
 use Rattle.grammar.proofs.Written.{written-leaf, written-one, written-two, written-three}
 
@@ -43,40 +43,24 @@ around ts =
       ap opens made-closing,
     )
 
-fitted-open : (l m : ℕ) (ts : List Token) → brackets (fitted l m ts) ≤ suc (brackets ts)
-unfolding fitted
-fitted-open l m ts = go (leb m l)
+fitted-brackets : (l m : ℕ) (ts : List Token) → brackets (fitted l m ts) ≡ deepened l m (brackets ts)
+unfolding fitted deepened
+fitted-brackets l m ts = go (leb m l)
   where
-    go : (b : Bool) → brackets (if b then ts else made 62 ∷ (ts ++ (made 63 ∷ []))) ≤ suc (brackets ts)
-    go true = omega arith
-    go false = omega (arith, around ts)
+    go :
+        (b : Bool) →
+        brackets (if b then ts else made 62 ∷ (ts ++ (made 63 ∷ []))) ≡ (if b then brackets ts else suc (brackets ts))
+    go true = refl
+    go false = around ts
 
-fitted-more : (l m : ℕ) (ts : List Token) → brackets ts ≤ brackets (fitted l m ts)
-unfolding fitted
-fitted-more l m ts = go (leb m l)
-  where
-    go : (b : Bool) → brackets ts ≤ brackets (if b then ts else made 62 ∷ (ts ++ (made 63 ∷ [])))
-    go true = omega arith
-    go false = omega (arith, around ts)
-
-fitted-plain : (l m : ℕ) (ts : List Token) → m ≤ l → fitted l m ts ≡ ts
-unfolding fitted
-fitted-plain l m ts h = rw (le-leb m l h)
-
-fitted-shut : (l m : ℕ) (ts : List Token) → leb m l ≡ false → brackets (fitted l m ts) ≡ suc (brackets ts)
-unfolding fitted
-fitted-shut l m ts e = rw e (around ts)
-
--- a weaker level asks for no more brackets
+-- a weaker level asks for no more brackets, the strongest for one pair more than the weakest
 fitted-less : (l m : ℕ) (ts : List Token) → brackets (fitted (suc l) m ts) ≤ brackets (fitted l m ts)
-fitted-less l m ts = go (leb m l) refl
-  where
-    go : (b : Bool) → leb m l ≡ b → brackets (fitted (suc l) m ts) ≤ brackets (fitted l m ts)
-    go true q =
-        let h : m ≤ l = leb-true m l q in
-        let k : m ≤ suc l = omega arith in
-        rw (fitted-plain l m ts h, fitted-plain (suc l) m ts k) (omega arith)
-    go false q = omega (arith, fitted-open (suc l) m ts, fitted-shut l m ts q)
+fitted-less l m ts = rw (fitted-brackets (suc l) m ts, fitted-brackets l m ts) (deepened-less l m (brackets ts))
+
+fitted-open : (l k m : ℕ) (ts : List Token) → brackets (fitted l m ts) ≤ suc (brackets (fitted k m ts))
+fitted-open l k m ts =
+    let n = brackets ts in
+    rw (fitted-brackets l m ts, fitted-brackets k m ts) (omega (arith, deepened-open l m n, deepened-more k m n))
 
 written-less : (e : Tree) (l : ℕ) → brackets (written (suc l) e) ≤ brackets (written l e)
 unfolding written
@@ -85,18 +69,15 @@ written-less (one t a) l = omega arith
 written-less (two t a b) l = fitted-less l (levelOf (kindOf t)) _
 written-less (three t c a b) l = fitted-less l 6 _
 
--- and the strongest one pair more than the weakest
 written-open : (e : Tree) (l : ℕ) → brackets (written l e) ≤ suc (brackets (written 6 e))
 unfolding written
 written-open (leaf t) l = omega arith
 written-open (one t a) l = omega arith
-written-open (two t a b) l =
-    let m = levelOf (kindOf t) in
-    let ts = written m a ++ (t ∷ written (pred m) b) in
-    omega (arith, fitted-open l m ts, fitted-more 6 m ts)
-written-open (three t c a b) l =
-    let ts = written 5 c ++ (t ∷ (written 6 a ++ (made 61 ∷ written 6 b))) in
-    omega (arith, fitted-open l 6 ts, fitted-more 6 6 ts)
+written-open (two t a b) l = fitted-open l 6 (levelOf (kindOf t)) _
+written-open (three t c a b) l = fitted-open l 6 6 _
+
+fitted-plain : (m : ℕ) (ts : List Token) → brackets (fitted m m ts) ≡ brackets ts
+fitted-plain m ts = fitted-brackets m m ts ∙ deepened-plain m m (brackets ts) (omega arith)
 
 -- the brackets of an operator between its operands, and of a choice
 two-brackets : (ts us : List Token) (t : Token) →
@@ -123,20 +104,20 @@ written-fewest (bracketed {t = t} {u = u} {ts = ts} {rest = rest} {e = e} k p k�
     )
 written-fewest (up {l = l} {e = e} p) = omega (arith, written-less e l, written-fewest p)
 written-fewest (joined {l = l} {t = t} {us = us} {a = a} {b = b} p k q) =
-    let w = written-two (suc l) l t a b k ∙ fitted-plain (suc l) (suc l) _ (omega arith) in
+    let w = ap brackets (written-two (suc l) l t a b k) ∙ fitted-plain (suc l) _ in
     omega (
       arith,
-      ap brackets w,
+      w,
       two-brackets (written (suc l) a) (written l b) t,
       brackets-next t us,
       written-fewest p,
       written-fewest q,
     )
 written-fewest (chosen {t = t} {u = u} {us = us} {vs = vs} {c = c} {a = a} {b = b} p k q k′ r) =
-    let w = written-three 6 t c a b ∙ fitted-plain 6 6 _ (omega arith) in
+    let w = ap brackets (written-three 6 t c a b) ∙ fitted-plain 6 _ in
     omega (
       arith,
-      ap brackets w,
+      w,
       two-brackets (written 5 c) (written 6 a ++ (made 61 ∷ written 6 b)) t,
       two-brackets (written 6 a) (written 6 b) (made 61),
       brackets-next t us,

@@ -14,7 +14,7 @@ use Rattle.grammar.specs.declared.Parsed.{Parsed}
 use Rattle.grammar.specs.Tokens.{tokens}
 use Rattle.grammar.specs.Grammar.{placeOf}
 use Rattle.grammar.specs.Answers.{Handed, placeAt, accepted, refusedAt, Answer, tree, no-tree}
-use Rattle.grammar.specs.Views.{View, going, stopped, Ends, whole, refused}
+use Rattle.grammar.specs.Views.{going, stopped, Ends, whole, refused}
 use Rattle.grammar.specs.Inner.{view, Halted, Ran, Given, Finished, Full}
 use Rattle.grammar.proofs.Refusals.{left, ends, ends-halted}
 use Rattle.grammar.proofs.Steps.{used-small}

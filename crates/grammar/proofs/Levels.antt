@@ -9,9 +9,9 @@ use lib.Dec.{eqb}
 use borrow.Author.Tests.{eqb-true, eqb-false}
 use Rattle.alf.specs.Words.{if_then_else_}
 use Rattle.grammar.specs.declared.Token.{Token}
-use Rattle.grammar.specs.Tokens.{operand, prefix, question, colon, opening, closing, other, binary, kindOf, ahead}
+use Rattle.grammar.specs.Tokens.{operand, prefix, question, colon, opening, binary, kindOf, ahead}
 use Rattle.grammar.specs.Grammar.{Tree, nodes, Parses, alone, applied, bracketed, up, joined, chosen}
-use Rattle.grammar.specs.Stops.{rank, starts, Stops, here, in-operand, in-bracket, unclosed, s-up, in-right}
+use Rattle.grammar.specs.Stops.{rank, starts, here, in-operand, in-bracket, unclosed, s-up, in-right}
 use Rattle.grammar.specs.Stops.{in-middle, no-colon, in-last}
 use Rattle.grammar.specs.Views.{View, going, stopped, aheadV, headV, tail, past, push, halt, eaten}
 use Rattle.grammar.specs.Views.{Does, read, stop, still}

@@ -1,5 +1,6 @@
 -- The laws. To cite: Unique and Total (a text has one tree or one place of refusal, and never both), Outcome (what
--- `parse` answers, both ways), RowFive (refusal 5 by places), Written and Fewest (a tree's text). The rest leads there.
+-- `parse` answers, both ways), RowFive (refusal 5 by places), Written, Fewest and Depth (a tree's text), Codes and
+-- Nodes (what tells a tree), Examples. The rest leads there.
 pub mod Table
 pub mod Unique
 pub mod Total
@@ -7,9 +8,11 @@ pub mod Outcome
 pub mod RowFive
 pub mod Written
 pub mod Fewest
+pub mod Depth
 pub mod Examples
 pub mod Codes
 pub mod Nodes
+mod Fitting
 mod Shunting
 mod Counting
 mod Goes

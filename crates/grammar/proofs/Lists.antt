@@ -2,11 +2,11 @@
 -- Assumes nothing.
 use Prim.Native.Nat.{ℕ, zero, suc, _+_, _≤_, _<_, min}
 use native.Mathlib.Omega.{arith}
-use mathlib.Core.Path.{_≡_, refl, ap}
+use mathlib.Core.Path.{_≡_, refl}
 use mathlib.Core.List.{List, [], _∷_}
 use lib.ListN.{length, getD, take, drop, drop-of-length-le}
 use Rattle.grammar.specs.declared.Token.{Token}
-use Rattle.grammar.specs.Tokens.{weight, kindOf, ahead, counted, tokens}
+use Rattle.grammar.specs.Tokens.{weight, ahead, counted, tokens}
 use Rattle.grammar.specs.Views.{nothing, head}
 
 pub tokens-length : (cs ps : List ℕ) → length (tokens cs ps) ≡ min (length cs) (length ps)

@@ -1,6 +1,6 @@
 -- A tree's nodes tell the tree: nodes-unique. They are read back from the left, operands before their operator, with a
 -- stack. Assumes nothing.
-use mathlib.Core.Path.{_≡_, refl, sym, ap, _∙_}
+use mathlib.Core.Path.{_≡_, sym, ap, _∙_}
 use mathlib.Core.List.{List, [], _∷_, _++_, append-assoc, append-nil}
 use Rattle.grammar.specs.declared.Token.{Token}
 use Rattle.grammar.specs.Tokens.{Kind, operand, prefix, question, colon, opening, closing, other, binary, kindOf}

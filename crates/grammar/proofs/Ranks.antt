@@ -3,7 +3,7 @@
 use Prim.Native.Nat.{ℕ, _<_}
 use native.Mathlib.Omega.{arith}
 use mathlib.Core.Path.{_≡_, refl, sym, ap, _∙_}
-use mathlib.Core.Bool.{true, false}
+use mathlib.Core.Bool.{false}
 use mathlib.Core.List.{List, [], _∷_}
 use lib.Dec.{eqb, lit<}
 use borrow.Author.Tests.{ne-eqb}
@@ -12,7 +12,7 @@ use Rattle.grammar.specs.declared.Token.{Token}
 use Rattle.grammar.specs.Tokens.{Kind, operand, prefix, question, colon, opening, closing, other, binary}
 use Rattle.grammar.specs.Tokens.{table, kindIn, kind, kindOf, ahead}
 use Rattle.grammar.specs.Stops.{rank, starts}
-use Rattle.grammar.specs.Views.{View, going, stopped, aheadV, head, headV}
+use Rattle.grammar.specs.Views.{View, going, stopped, aheadV, headV}
 use Rattle.grammar.proofs.Table.{binary-level}
 
 -- the kind that has a rank

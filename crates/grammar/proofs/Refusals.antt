@@ -1,15 +1,15 @@
 -- Reading stops where the document refuses: at the first token with which no expression goes on, or at the end.
 -- Main names: stops-refused, trailing-refused, ends, ends-halted. Assumes nothing.
-use Prim.Native.Nat.{ℕ, _<_}
+use Prim.Native.Nat.{_<_}
 use native.Mathlib.Omega.{arith}
-use mathlib.Core.Path.{_≡_, refl, sym, ap, _∙_}
+use mathlib.Core.Path.{_≡_, ap}
 use mathlib.Core.List.{List, [], _∷_, _++_, append-nil}
 use lib.ListN.{length}
 use Rattle.grammar.specs.declared.Token.{Token}
 use Rattle.grammar.specs.Tokens.{kindOf}
 use Rattle.grammar.specs.Grammar.{Tree, Parses, Begins, Refused, at-token, at-end}
 use Rattle.grammar.specs.Stops.{rank, Stops}
-use Rattle.grammar.specs.Views.{View, going, stopped, halt, Does, read, stop, still, Ends, whole, refused}
+use Rattle.grammar.specs.Views.{View, going, stopped, halt, Does, read, stop, Ends, whole, refused}
 use Rattle.grammar.proofs.Counting.{stuck-within, stuck-after, stuck-end}
 use Rattle.grammar.proofs.Goes.{Cut, cut, Via, via}
 

@@ -1,21 +1,21 @@
 -- Laws of a state's view, for the functions that make one step. Main names: seen-token, seen-end, seen-off (peek),
 -- ranked-law (rank_at), past-law (step), push-law (emit), halt-law (stop), eat-hit and eat-miss (eat). Assumes nothing.
-use Prim.Native.Nat.{ℕ, suc, _+_, _≤_, _<_}
+use Prim.Native.Nat.{ℕ, _+_, _≤_, _<_}
 use native.Mathlib.Omega.{arith}
 use native.Mathlib.Numerals.{add-one}
 use mathlib.Core.Path.{_≡_, refl, sym, ap, _∙_}
 use mathlib.Core.Bool.{Bool, true, false}
-use mathlib.Core.List.{List, [], _∷_, _++_}
-use lib.Dec.{eqb, ltb}
+use mathlib.Core.List.{List}
+use lib.Dec.{ltb}
 use lib.ListN.{length, getD, take, drop, set, drop-of-length-le, length-set}
 use lib.Seq.{drop-cons, take-suc-set}
 use borrow.Author.Tests.{eq-eqb, ne-eqb, ltb-true, ltb-false}
 use Rattle.alf.specs.Words.{if_then_else_}
 use Rattle.grammar.specs.declared.Token.{Token}
 use Rattle.grammar.specs.declared.State.{State}
-use Rattle.grammar.specs.Tokens.{kindOf, weight, ahead, counted, tokens}
+use Rattle.grammar.specs.Tokens.{kindOf, weight, ahead, tokens}
 use Rattle.grammar.specs.Stops.{rank}
-use Rattle.grammar.specs.Views.{View, going, stopped, nothing, head, headV, aheadV, tail, past, push, halt, eaten}
+use Rattle.grammar.specs.Views.{View, going, stopped, nothing, aheadV, tail, past, push, halt, eaten}
 use Rattle.grammar.specs.Inner.{view, used, Fine, Here, Moved, Seen, Ranked, Stepped, Halted}
 use Rattle.grammar.proofs.Ranks.{head-kind}
 use Rattle.grammar.proofs.Lists.{token-at, no-token-at, counted-next, counted-take}

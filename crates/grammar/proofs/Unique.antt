@@ -3,7 +3,7 @@
 use mathlib.Core.Path.{_≡_, refl, sym, _∙_}
 use mathlib.Core.List.{List, [], _∷_, _++_, append-assoc, append-nil}
 use Rattle.grammar.specs.declared.Token.{Token}
-use Rattle.grammar.specs.Grammar.{Tree, Parses, Expression, Begins, Refused, at-token, at-end}
+use Rattle.grammar.specs.Grammar.{Tree, Expression, Begins, Refused, at-token, at-end}
 use Rattle.grammar.proofs.Shunting.{one-tree}
 
 -- one tree

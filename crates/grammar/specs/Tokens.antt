@@ -26,11 +26,11 @@ table =
     span 0 0 operand  -- a name
     ∷ span 32 39 operand  -- a literal
     ∷ span 64 146 prefix  -- level 1: an edge
-    ∷ span 147 147 prefix  -- level 1: !
+    ∷ span 147 147 prefix  -- level 1: ! ~
     ∷ span 42 49 (binary 2)  -- level 2: ^ ~^ == != > < >= <=
-    ∷ span 40 40 (binary 3)  -- level 3: &
+    ∷ span 40 40 (binary 3)  -- level 3: & &&
     ∷ span 50 53 (binary 4)  -- level 4: -> <-> &> <&>
-    ∷ span 41 41 (binary 5)  -- level 5: |
+    ∷ span 41 41 (binary 5)  -- level 5: | ||
     ∷ span 60 60 question  -- level 6: ? :
     ∷ span 61 61 colon
     ∷ span 62 62 opening

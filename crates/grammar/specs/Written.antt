@@ -1,6 +1,7 @@
 -- Document 01, "Writing out": a tree's tokens with only needed brackets, and which trees there are. That they parse
--- back to the tree is shown in proofs/Written.antt, that no text of it has fewer brackets in proofs/Fewest.antt.
-use Prim.Native.Nat.{ℕ, suc, pred, _+_}
+-- back to the tree is shown in proofs/Written.antt; that no text of it has fewer brackets, or opens them less deep, in
+-- proofs/Fewest.antt and proofs/Depth.antt.
+use Prim.Native.Nat.{ℕ, suc, pred, _+_, max}
 use mathlib.Core.Path.{_≡_}
 use mathlib.Core.List.{List, [], _∷_, _++_}
 use lib.Dec.{leb}
@@ -9,7 +10,7 @@ use Rattle.grammar.specs.declared.Token.{Token}
 use Rattle.grammar.specs.Tokens.{Kind, operand, prefix, question, colon, opening, closing, other, binary, kindOf}
 use Rattle.grammar.specs.Grammar.{Tree, leaf, one, two, three}
 
--- a token that the writer puts in: its place does not matter
+-- a token that the writer puts in, whose place does not matter: 61 is `:`, 62 `(`, 63 `)`
 abbrev pub made : ℕ → Token
 made c = record { code = c; place = 0 }
 
@@ -59,3 +60,28 @@ opens (binary l) = 0
 unfoldable pub brackets : List Token → ℕ
 brackets [] = 0
 brackets (t ∷ ts) = opens (kindOf t) + brackets ts
+
+-- how deep brackets open, d being open before; a `)` with none open is skipped
+abbrev pub opened : Kind → ℕ → ℕ
+opened operand d = d
+opened prefix d = d
+opened question d = d
+opened colon d = d
+opened opening d = suc d
+opened closing d = pred d
+opened other d = d
+opened (binary l) d = d
+
+unfoldable pub depth : ℕ → List Token → ℕ
+depth d [] = d
+depth d (t ∷ ts) = max d (depth (opened (kindOf t) d) ts)
+
+-- how deep they open in a tree's text where level l is asked for, from the tree alone
+unfoldable pub deepened : ℕ → ℕ → ℕ → ℕ
+deepened l m n = if leb m l then n else suc n
+
+unfoldable pub depthOf : ℕ → Tree → ℕ
+depthOf l (leaf t) = 0
+depthOf l (one t a) = depthOf 1 a
+depthOf l (two t a b) = let m = levelOf (kindOf t) in deepened l m (max (depthOf m a) (depthOf (pred m) b))
+depthOf l (three t c a b) = deepened l 6 (max (depthOf 5 c) (max (depthOf 6 a) (depthOf 6 b)))

@@ -11,13 +11,13 @@ pub const QUESTION: u8 = 6;
 
 pub const OPERAND: u8 = 32;
 
+pub const PREFIX: u8 = 33;
+
 pub const COLON: u8 = 61;
 
 pub const OPENING: u8 = 62;
 
 pub const CLOSING: u8 = 63;
-
-pub const PREFIX: u8 = 33;
 
 // The rank of a code.
 fn rank_of(code: u8) -> u8

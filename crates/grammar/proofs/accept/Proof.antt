@@ -1,9 +1,9 @@
 -- `accept` copies the nodes, one by one, before zeros. Assumes nothing.
 use Prim.Native.Nat.{ℕ, _-_, _≤_}
 use native.Mathlib.Omega.{arith}
-use mathlib.Core.Path.{_≡_, refl}
+use mathlib.Core.Path.{_≡_}
 use mathlib.Core.List.{List}
-use lib.ListN.{length, take}
+use lib.ListN.{take}
 use borrow.Author.Needs.{needs}
 use Rattle.grammar.specs.declared.State.{State}
 use Rattle.grammar.specs.Answers.{padded, codesOf, placesOf}
