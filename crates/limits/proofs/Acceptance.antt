@@ -1,6 +1,6 @@
 -- A tree is accepted exactly if the tests of its kind, its nodes, its brackets and its size say so.
 -- Main names: is-over; shallow-yes, shallow-no; too-many, no-tree, not-vector, not-boolean, boolean-accepts,
--- vector-accepts, over-accepts. Assumes nothing.
+-- vector-accepts, over-accepts; decides-unique; accepted-boolean, accepted-vector. Assumes nothing.
 use Prim.Native.Nat.{ℕ, _<_, _≤_, min}
 use native.Mathlib.Omega.{arith}
 use mathlib.Core.Path.{_≡_, refl, ap, sym, _∙_}
@@ -9,7 +9,7 @@ use mathlib.Core.List.{List}
 use lib.ListN.{length}
 use Rattle.alf.specs.Words.{if_then_else_}
 use Rattle.alf.specs.Expressions.{Vector, Expression, boolean, vector}
-use Rattle.alf.specs.Bytes.{stackAt, topVector, isVector, Decodes}
+use Rattle.alf.specs.Bytes.{stackAt, topVector, isBoolean, isVector, Decodes}
 use Rattle.alf.specs.Alternatives.{alternatives, overLimit}
 use Rattle.alf.specs.declared.Sort.{Sort}
 use Rattle.alf.specs.declared.Sort.the-variants as sort
@@ -17,7 +17,8 @@ use Rattle.alf.proofs.Bools.{never}
 use Rattle.alf.proofs.Decoding.{decode-unique}
 use Rattle.trees.specs.declared.sorts.Kind.{Kind}
 use Rattle.trees.specs.declared.sorts.Kind.the-variants as kind
-use Rattle.trees.specs.Parts.{isWhole, top, Ends, EndsVector, expressionAt, vectorAt}
+use Rattle.trees.specs.Parts.{isWhole, top, Ends, EndsBoolean, EndsVector}
+use Rattle.trees.specs.Parts.{expressionAt, vectorAt}
 use Rattle.trees.specs.Sorts.{treeKind, Holds}
 use Rattle.trees.specs.Brackets.{depthOf}
 use Rattle.trees.proofs.Trees.{kind-decodes}
@@ -161,3 +162,28 @@ module _ (t : List ℕ) (names : ℕ) where
           let (p, h) = is-vector k in
           let e = decode-unique names t (vector p) (a .expression) h (a .decodes) in
           f (rw (vector-at-end p h) (ap overSize e ∙ a .sized))
+
+-- a test says one thing only
+pub decides-unique : (P : Type 0) (q r : Bool) → Decides q P → Decides r P → q ≡ r
+unfolding Decides
+decides-unique P true true h k = refl
+decides-unique P true false h k = absurd (k h)
+decides-unique P false true h k = absurd (h k)
+decides-unique P false false h k = refl
+
+-- what an accepted tree ends with
+pub accepted-boolean : (t : List ℕ) (names : ℕ) → Accepted names sort.Boolean t → EndsBoolean t names (length t)
+unfolding Decodes isBoolean isVector sortOf isVectorSort
+accepted-boolean t names a = go (a .expression) (a .decodes) (a .sorted)
+  where
+    go : (e : Expression) → Decodes names t e → sortOf e ≡ sort.Boolean → EndsBoolean t names (length t)
+    go (boolean c) h k = record { within = omega arith; whole = rw h refl }
+    go (vector p) h k = never (sym (ap isVectorSort k))
+
+pub accepted-vector : (t : List ℕ) (names : ℕ) → Accepted names sort.Vector t → EndsVector t names (length t)
+unfolding Decodes isBoolean isVector sortOf isVectorSort
+accepted-vector t names a = go (a .expression) (a .decodes) (a .sorted)
+  where
+    go : (e : Expression) → Decodes names t e → sortOf e ≡ sort.Vector → EndsVector t names (length t)
+    go (boolean c) h k = never (ap isVectorSort k)
+    go (vector p) h k = record { within = omega arith; whole = rw h refl }
