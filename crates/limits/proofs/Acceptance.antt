@@ -7,20 +7,17 @@ use mathlib.Core.Path.{_≡_, refl, ap, sym, _∙_}
 use mathlib.Core.Bool.{Bool, true, false}
 use mathlib.Core.List.{List}
 use lib.ListN.{length}
-use Rattle.alf.specs.Words.{if_then_else_}
 use Rattle.alf.specs.Expressions.{Vector, Expression, boolean, vector}
-use Rattle.alf.specs.Bytes.{stackAt, topVector, isBoolean, isVector, Decodes}
+use Rattle.alf.specs.Bytes.{topVector, isBoolean, isVector, Decodes}
 use Rattle.alf.specs.Alternatives.{alternatives, overLimit}
 use Rattle.alf.specs.declared.Sort.{Sort}
 use Rattle.alf.specs.declared.Sort.the-variants as sort
 use Rattle.alf.proofs.Bools.{never}
 use Rattle.alf.proofs.Decoding.{decode-unique}
-use Rattle.trees.specs.declared.sorts.Kind.{Kind}
 use Rattle.trees.specs.declared.sorts.Kind.the-variants as kind
 use Rattle.trees.specs.Parts.{isWhole, top, Ends, EndsBoolean, EndsVector}
 use Rattle.trees.specs.Parts.{expressionAt, vectorAt}
 use Rattle.trees.specs.Sorts.{treeKind, Holds}
-use Rattle.trees.specs.Brackets.{depthOf}
 use Rattle.trees.proofs.Trees.{kind-decodes}
 use Rattle.limits.specs.declared.sizes.Size.{Size}
 use Rattle.limits.specs.declared.sizes.Measured.{Measured}

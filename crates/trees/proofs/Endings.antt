@@ -1,10 +1,10 @@
 -- The kind of what a byte makes, from its operands' kinds, and where it starts.
 -- Main names: none, leaf-found, one-found, pair-found, three-found; no-right, no-left, no-first, where an operand is
 -- missing; ending-unique. Assumes nothing.
-use Prim.Native.Nat.{ℕ, zero, suc, _+_, _-_, _<_, _≤_}
+use Prim.Native.Nat.{ℕ, _-_, _<_, _≤_}
 use native.Mathlib.Omega.{arith}
-use mathlib.Core.Path.{_≡_, refl, ap, sym, _∙_, subst}
-use mathlib.Core.Bool.{Bool, true, false, _&&_}
+use mathlib.Core.Path.{_≡_, refl, ap, sym, _∙_}
+use mathlib.Core.Bool.{Bool, true, false}
 use mathlib.Core.List.{List}
 use lib.ListN.{getD, length}
 use lib.Dec.{ltb, eqb}
@@ -12,7 +12,7 @@ use native.Mathlib.Nat.{zero-add}
 use borrow.Author.Tests.{ltb-true, ltb-false, ne-eqb}
 use Rattle.alf.specs.Words.{if_then_else_}
 use Rattle.alf.specs.Expressions.{Boolean, boolean, Vector, vector}
-use Rattle.alf.specs.Bytes.{Stack, empty, broken, push, Operation, leafAt, pairAt, threeAt, oneAt, operationAt}
+use Rattle.alf.specs.Bytes.{Stack, empty, broken, push, Operation, leafAt, pairAt, threeAt, oneAt}
 use Rattle.alf.specs.Bytes.{isBoolean, isVector, under, ifSo, run, arityAt, stackAt}
 use Rattle.alf.proofs.Bools.{never}
 use Rattle.alf.proofs.Codes.{leaf-class, pair-class, three-class, one-class}

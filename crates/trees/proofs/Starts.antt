@@ -3,12 +3,11 @@
 -- start-unique. Assumes nothing.
 use Prim.Native.Nat.{ℕ, zero, suc, _+_, _-_, _<_, _≤_}
 use native.Mathlib.Omega.{arith}
-use mathlib.Core.Path.{_≡_, refl, ap, sym, _∙_}
-use mathlib.Core.Bool.{Bool, true, false}
+use mathlib.Core.Path.{_≡_, refl, ap, _∙_}
+use mathlib.Core.Bool.{true}
 use mathlib.Core.List.{List}
 use lib.ListN.{getD, length}
 use Rattle.alf.specs.Bytes.{bytesOf, Stack, empty, broken, push, under, arityAt, stackAt, isBoolean, isVector}
-use Rattle.alf.specs.Expressions.{boolean, vector}
 use Rattle.alf.proofs.Bools.{never}
 use Rattle.alf.proofs.Parts.{deep, unders, size, back, deep-le, deep-under, size-under}
 use Rattle.trees.specs.Parts.{isWhole, top, Ends, EndsBoolean, EndsVector, Start}
