@@ -6,18 +6,17 @@
 use Prim.Native.Nat.{ℕ, zero, suc, _+_, _-_, _*_, _/_, _%_, _<_, _≤_}
 use native.Mathlib.Omega.{arith}
 use native.Mathlib.Numerals.{add-one}
-use mathlib.Core.Path.{_≡_, refl, ap, ap₂, sym, _∙_}
-use mathlib.Core.Bool.{Bool, true, false}
+use mathlib.Core.Path.{_≡_, refl, ap, ap₂, _∙_}
+use mathlib.Core.Bool.{true}
 use lib.Dec.{ltb, eqb}
-use borrow.Author.Tests.{lt-ltb, le-ltb, ltb-true, ltb-false, eqb-true}
-use Rattle.alf.specs.Words.{if_then_else_}
-use Rattle.alf.specs.Expressions.{Boolean, name, literal, binary, choice}
+use borrow.Author.Tests.{lt-ltb, le-ltb, ltb-true, eqb-true}
+use Rattle.alf.specs.Expressions.{name, literal, binary, choice}
 use Rattle.alf.specs.Expressions.{Binary, and, or, xor, xnor, equals, differs, above, below, at-least, at-most}
-use Rattle.alf.specs.Expressions.{Half, any, the, Edge, pair, changes, stays, Vector, edge, join, while}
+use Rattle.alf.specs.Expressions.{Half, any, the, Edge, pair, changes, stays, edge, join}
 use Rattle.alf.specs.Expressions.{Join, followed-by, either-order, with-or-then, any-order, with, or-else}
-use Rattle.alf.specs.Expressions.{on-right, on-left, Expression, vector, HalfKnown, EdgeKnown}
+use Rattle.alf.specs.Expressions.{on-right, on-left, vector, HalfKnown, EdgeKnown}
 use Rattle.alf.specs.Bytes.{binaryByte, joinByte, halfNumber, edgeNumber, binaryAt, joinAt, halfAt, edgeAt}
-use Rattle.alf.specs.Bytes.{Operation, leaf, of-one, of-two, of-three, of-vectors, of-side, negation, edging}
+use Rattle.alf.specs.Bytes.{leaf, of-one, of-two, of-three, of-vectors, of-side, negation}
 use Rattle.alf.specs.Bytes.{leafAt, pairAt, threeAt, oneAt, operationAt}
 use Rattle.alf.proofs.Choices.{if-all, every, every-at}
 

@@ -1,14 +1,14 @@
 -- Whatever bytes decode to an expression are its bytes: same expression, same bytes, and a tree decodes to at most one.
 -- Main names: bytes-decode, decode-over, decode-unique, same-bytes. Assumes nothing.
-use Prim.Native.Nat.{ℕ, zero, suc, _+_, _-_, _<_, _≤_}
+use Prim.Native.Nat.{ℕ, zero, suc, _+_, _-_, _≤_}
 use native.Mathlib.Omega.{arith}
-use mathlib.Core.Path.{_≡_, refl, ap, sym, _∙_, subst}
+use mathlib.Core.Path.{_≡_, refl, ap, sym, _∙_}
 use mathlib.Core.List.{List, [], _∷_, _++_, append-assoc}
 use lib.ListN.{getD, length, take}
 use lib.Seq.{take-suc, take-length}
-use Rattle.alf.specs.Expressions.{Boolean, Vector, Expression, boolean, vector, Over, VectorOver, ExpressionOver}
-use Rattle.alf.specs.Bytes.{booleanBytes, vectorBytes, bytesOf, binaryByte, joinByte, edgeNumber}
-use Rattle.alf.specs.Bytes.{Stack, empty, broken, push, operationAt, run, stackAt, Decodes}
+use Rattle.alf.specs.Expressions.{Expression, Over, VectorOver, ExpressionOver}
+use Rattle.alf.specs.Bytes.{booleanBytes, vectorBytes, bytesOf}
+use Rattle.alf.specs.Bytes.{Stack, empty, broken, push, stackAt, Decodes}
 use Rattle.alf.proofs.Made.{Made, a-name, a-literal, a-negation, a-binary, a-choice, an-edge, a-join}
 use Rattle.alf.proofs.Made.{a-condition, a-condition-before, nothing, made}
 use Rattle.alf.proofs.Codes.{binary-byte, join-byte, edge-byte, edge-known}

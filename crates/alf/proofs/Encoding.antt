@@ -1,7 +1,7 @@
 -- Decoding the bytes of an expression gives the expression.
 -- Main names: runs (a list of bytes run on a stack), runs-stack, runs-boolean, runs-vector, decode-bytes.
 -- Assumes at most 32 names, as a name's byte is below 32.
-use Prim.Native.Nat.{ℕ, zero, suc, _+_, _<_, _≤_}
+use Prim.Native.Nat.{ℕ, zero, suc, _≤_}
 use native.Mathlib.Omega.{arith}
 use mathlib.Core.Path.{_≡_, refl, ap, sym, _∙_}
 use mathlib.Core.List.{List, [], _∷_, _++_}
@@ -10,9 +10,8 @@ use lib.Seq.{take-suc, take-length}
 use Rattle.alf.specs.Expressions.{Boolean, name, literal, negated, binary, choice, Vector, edge, join, while}
 use Rattle.alf.specs.Expressions.{on-right, on-left, Expression, boolean, vector}
 use Rattle.alf.specs.Expressions.{Over, VectorOver, ExpressionOver}
-use Rattle.alf.specs.Bytes.{booleanBytes, vectorBytes, bytesOf, Stack, empty, push, Operation, operationAt, run}
+use Rattle.alf.specs.Bytes.{booleanBytes, vectorBytes, bytesOf, Stack, empty, push, operationAt, run}
 use Rattle.alf.specs.Bytes.{ifSo, isBoolean, isVector, topBoolean, topVector, under, stackAt, Decodes}
-use Rattle.alf.specs.Bytes.{binaryByte, joinByte, edgeNumber}
 use Rattle.alf.proofs.Codes.{name-operation, literal-operation, binary-operation, join-operation, edge-operation}
 use Rattle.alf.proofs.Codes.{negation-operation, choice-operation, right-operation, left-operation}
 

@@ -1,14 +1,13 @@
 -- What a byte makes of a stack of expressions, one case for each kind of byte: laws about bytes go by these cases.
 -- Main names: Made, made. Assumes nothing.
 use Prim.Native.Nat.{ℕ, _-_, _<_, _≤_}
-use native.Mathlib.Omega.{arith}
 use mathlib.Core.Path.{_≡_, refl, ap, _∙_}
-use mathlib.Core.Bool.{Bool, true, false}
+use mathlib.Core.Bool.{false}
 use lib.Dec.{ltb, eqb}
 use borrow.Author.Tests.{ltb-true, ltb-false, eqb-true}
 use Rattle.alf.specs.Expressions.{Boolean, name, literal, negated, binary, choice, Vector, edge, join, while}
-use Rattle.alf.specs.Expressions.{Side, on-right, on-left, Expression, boolean, vector}
-use Rattle.alf.specs.Bytes.{Stack, empty, broken, push, Operation, leaf, of-one, of-two, of-three, of-vectors}
+use Rattle.alf.specs.Expressions.{on-right, on-left, Expression, boolean, vector}
+use Rattle.alf.specs.Bytes.{Stack, empty, broken, push, Operation, of-one, of-two, of-three, of-vectors}
 use Rattle.alf.specs.Bytes.{of-side, wrong, binaryAt, joinAt, edgeAt, leafAt, pairAt, threeAt, oneAt, operationAt}
 use Rattle.alf.specs.Bytes.{isBoolean, isVector, topBoolean, topVector, under, ifSo, run}
 use Rattle.alf.proofs.Choices.{if-all}

@@ -4,9 +4,9 @@
 -- Assumes nothing.
 use Prim.Native.Nat.{ℕ, _-_, _<_, _≤_}
 use native.Mathlib.Omega.{arith}
-use mathlib.Core.Path.{_≡_, refl, ap}
-use mathlib.Core.Bool.{Bool, true, false}
-use Rattle.alf.specs.Expressions.{Boolean, name, literal, negated, binary, choice, Vector, edge, join, while}
+use mathlib.Core.Path.{_≡_, refl}
+use mathlib.Core.Bool.{true}
+use Rattle.alf.specs.Expressions.{name, literal, negated, binary, choice, edge, join, while}
 use Rattle.alf.specs.Expressions.{on-right, on-left}
 use Rattle.alf.specs.Bytes.{Stack, binaryAt, joinAt, edgeAt, isBoolean, isVector, topBoolean, topVector, under}
 use Rattle.alf.proofs.Bools.{never}

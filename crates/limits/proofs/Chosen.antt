@@ -1,20 +1,20 @@
 -- Alternative t of the vector expression that ends at a place, from its operands' alternatives.
 -- Main names: edge-shape; before-chosen, before-shape; condition-chosen, condition-shape; join-picking, left-chosen,
 -- right-chosen, join-shape. Assumes nothing.
-use Prim.Native.Nat.{ℕ, zero, suc, _-_, _*_, _<_, _≤_, min}
+use Prim.Native.Nat.{ℕ, zero, suc, _-_, _*_, _<_, _≤_}
 use native.Mathlib.Omega.{arith}
 use native.Mathlib.Nat.{le-mul-of-pos-right, mul-comm}
-use mathlib.Core.Path.{_≡_, refl, ap, sym, _∙_, subst}
-use mathlib.Core.List.{List, [], _∷_}
-use lib.ListN.{getD, length}
+use mathlib.Core.Path.{_≡_, refl}
+use mathlib.Core.List.{List, []}
+use lib.ListN.{getD}
 use Rattle.alf.specs.Words.{sumOf}
 use Rattle.alf.specs.Expressions.{Boolean, Edge, Vector, edge, join, while, Side}
 use Rattle.alf.specs.Expressions.{Join, followed-by, either-order, with-or-then, any-order, with, or-else}
 use Rattle.alf.specs.Bytes.{joinAt}
-use Rattle.alf.specs.Alternatives.{Alternative, conditioned, rewritten, alternatives, numberOfAlternatives, tests}
+use Rattle.alf.specs.Alternatives.{Alternative, conditioned, alternatives, numberOfAlternatives, tests}
 use Rattle.limits.specs.declared.picking.How.{How}
-use Rattle.trees.specs.Parts.{EndsVector, vectorAt}
-use Rattle.limits.specs.Picks.{countOf, put, Picked, Operands, Picking}
+use Rattle.trees.specs.Parts.{vectorAt}
+use Rattle.limits.specs.Picks.{countOf, put, Picked, Picking}
 use Rattle.limits.specs.Sizes.{alternativeAt, Chosen, Shaped, Held, Combined, Small}
 use Rattle.limits.proofs.Lists.{getD-map}
 use Rattle.trees.proofs.Vectors.{Conditioned, Joined, edge-is, before-is, before-ends}

@@ -3,11 +3,11 @@
 -- its byte; number-edge, number-while, number-join, the number of an expression from its operands'. Assumes nothing.
 use Prim.Native.Nat.{ℕ, zero, suc, _+_, _-_, _*_, _<_, _≤_, min}
 use native.Mathlib.Omega.{arith}
-use native.Mathlib.Nat.{le-mul-of-pos-right, mul-comm, mul-le-mul, mul-pos}
-use mathlib.Core.Path.{_≡_, refl, ap, ap₂, sym, _∙_}
+use native.Mathlib.Nat.{le-mul-of-pos-right, mul-comm}
+use mathlib.Core.Path.{_≡_, refl}
 use mathlib.Core.Bool.{Bool, true, false}
 use lib.Dec.{ltb}
-use lib.ListN.{length, length-map}
+use lib.ListN.{length-map}
 use borrow.Author.Tests.{ltb-true, ltb-false}
 use Rattle.alf.specs.Expressions.{Boolean, Edge, Vector, edge, join, while, Side}
 use Rattle.alf.specs.Expressions.{Join, followed-by, either-order, with-or-then, any-order, with, or-else}

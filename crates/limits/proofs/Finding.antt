@@ -4,8 +4,8 @@
 use Prim.Native.Nat.{ℕ, zero, suc, _+_, _-_, _*_, _/_, _%_, _<_, _≤_}
 use native.Mathlib.Omega.{arith}
 use native.Mathlib.Nat.{mul-le-mul}
-use mathlib.Core.Path.{_≡_, refl, ap, sym, _∙_, subst}
-use Rattle.alf.specs.Expressions.{Join, followed-by, either-order, with-or-then, any-order, with, or-else}
+use mathlib.Core.Path.{_≡_, refl, ap, _∙_, subst}
+use Rattle.alf.specs.Expressions.{Join, any-order}
 use Rattle.alf.specs.Bytes.{joinAt}
 use Rattle.limits.specs.declared.picking.How.{How}
 use Rattle.limits.specs.declared.picking.How.the-variants.{Left, Right, LeftFirst, RightFirst, Together}

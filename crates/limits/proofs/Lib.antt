@@ -7,3 +7,4 @@ pub mod Numbers
 pub mod Shapes
 pub mod Chosen
 pub mod Measures
+pub mod Acceptance

@@ -1,22 +1,21 @@
 -- The greatest over the alternatives, one after the other, and limit 8.
 -- Main names: first-measure, next-measure, measured-all, chosen-at; over-number, over-steps, over-tests, within.
 -- Assumes nothing.
-use Prim.Native.Nat.{ℕ, zero, suc, _+_, _<_, _≤_, min, max}
+use Prim.Native.Nat.{ℕ, _+_, _<_, _≤_, min, max}
 use native.Mathlib.Omega.{arith}
 use native.Mathlib.Numerals.{add-one}
 use native.Mathlib.Nat.{le-antisymm}
-use mathlib.Core.Path.{_≡_, refl, ap, sym, _∙_}
-use mathlib.Core.Bool.{Bool, true, false, _||_}
-use mathlib.Core.List.{List, [], _∷_, _++_}
+use mathlib.Core.Path.{_≡_, refl, _∙_}
+use mathlib.Core.Bool.{true, false}
+use mathlib.Core.List.{List, []}
 use lib.Dec.{ltb}
 use lib.ListN.{length, getD, take}
 use lib.Seq.{take-suc, take-length}
 use borrow.Author.Tests.{lt-ltb, le-ltb}
-use Rattle.alf.specs.Words.{if_then_else_, greatestOf}
+use Rattle.alf.specs.Words.{greatestOf}
 use Rattle.alf.specs.Expressions.{Vector}
 use Rattle.alf.specs.Alternatives.{Alternative, alternatives, tests, numberOfAlternatives, stepsOf, testsOf, overLimit}
 use Rattle.alf.proofs.Extremes.{greatestOf-append}
-use Rattle.limits.specs.declared.sizes.Measured.{Measured}
 use Rattle.limits.specs.declared.sizes.Measured.the-variants.{Over, Within}
 use Rattle.trees.specs.Parts.{EndsVector, vectorAt}
 use Rattle.limits.specs.Sizes.{Chosen, Shaped, measured}

@@ -1,15 +1,15 @@
 -- The number of alternatives of the vector expression that ends at a place, counted no further than 65, from those of
 -- its operands.
 -- Main names: counts-small, edge-number, before-number, condition-number, join-number, joins. Assumes nothing.
-use Prim.Native.Nat.{ℕ, _-_, _*_, _<_, _≤_, min}
+use Prim.Native.Nat.{ℕ, _-_, _*_, _≤_, min}
 use native.Mathlib.Omega.{arith}
 use native.Mathlib.Nat.{mul-le-mul}
-use mathlib.Core.Path.{_≡_, refl, ap, sym, _∙_}
+use mathlib.Core.Path.{_≡_, refl}
 use mathlib.Core.List.{List}
-use lib.ListN.{getD, length}
+use lib.ListN.{getD}
 use Rattle.alf.specs.Bytes.{joinAt}
 use Rattle.alf.specs.Alternatives.{numberOfAlternatives}
-use Rattle.trees.specs.Parts.{EndsVector, vectorAt, Start}
+use Rattle.trees.specs.Parts.{EndsVector, vectorAt}
 use Rattle.limits.specs.Picks.{countOf}
 use Rattle.limits.specs.Sizes.{Counts}
 use Rattle.trees.proofs.Vectors.{Conditioned, Joined, edge-is, before-is}

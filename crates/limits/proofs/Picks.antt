@@ -1,11 +1,11 @@
 -- Alternative t of those that an operator makes: how many there are, and how t is put together.
 -- Main names: count-rewritten, getD-each, picked-left, picked-right, picked-block. Assumes nothing.
-use Prim.Native.Nat.{ℕ, zero, suc, _+_, _-_, _*_, _/_, _%_, _<_, _≤_, min, max}
+use Prim.Native.Nat.{ℕ, zero, suc, _+_, _-_, _*_, _/_, _%_, _<_, _≤_}
 use native.Mathlib.Omega.{arith}
 use native.Mathlib.Nat.{suc-mul, mul-comm, mod-lt, div-lt-iff-lt-mul, div-eq-of-lt, mod-eq-of-lt}
 use native.Mathlib.Nat.{add-div-left, add-mod-left}
 use native.Mathlib.Numerals.{add-one}
-use mathlib.Core.Path.{_≡_, refl, ap, ap₂, sym, _∙_, subst}
+use mathlib.Core.Path.{_≡_, refl, ap, sym, _∙_}
 use mathlib.Core.Bool.{Bool, true, false}
 use mathlib.Core.List.{List, [], _∷_, _++_, map, append-assoc}
 use lib.Seq.{getD-append-add}
@@ -16,7 +16,6 @@ use Rattle.alf.specs.Expressions.{Join, followed-by, either-order, with-or-then
 use Rattle.alf.specs.Bytes.{joinAt}
 use Rattle.alf.specs.Alternatives.{Alternative, each, chained, overlaid, overlapped, rewritten}
 use Rattle.alf.proofs.Growth.{length-each}
-use Rattle.limits.specs.declared.picking.How.{How}
 use Rattle.limits.specs.declared.picking.How.the-variants.{Left, Right, LeftFirst, RightFirst, Together}
 use Rattle.limits.specs.Picks.{countOf, put, Picked}
 use Rattle.limits.proofs.Lists.{getD-map, getD-second}

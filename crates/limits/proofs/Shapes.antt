@@ -1,16 +1,14 @@
 -- The steps and tests of an alternative, counted no further than 65, from those of the alternatives it is made of.
 -- Main names: held; left-combined, right-combined, left-first, right-first, together. Assumes nothing.
-use Prim.Native.Nat.{ℕ, _+_, _≤_, min, max}
+use Prim.Native.Nat.{ℕ, _+_, min, max}
 use native.Mathlib.Omega.{arith}
-use mathlib.Core.Path.{_≡_, refl}
-use mathlib.Core.List.{_++_}
-use lib.ListN.{length, length-append}
-use Rattle.alf.specs.Alternatives.{Alternative}
+use mathlib.Core.Path.{_≡_}
+use lib.ListN.{length-append}
 use Rattle.alf.proofs.Steps.{overlaid-length, conditioned-length}
 use Rattle.alf.proofs.Growth.{tests-append, tests-overlaid, tests-conditioned}
 use Rattle.limits.specs.declared.picking.How.the-variants.{Left, Right, LeftFirst, RightFirst, Together}
 use Rattle.limits.specs.Picks.{put}
-use Rattle.limits.specs.Sizes.{Shaped, Held, Combined}
+use Rattle.limits.specs.Sizes.{Held, Combined}
 
 pub held : {s n k : ℕ} → k ≡ min 65 (n + s) → Held s n s k
 held e =

@@ -1,7 +1,6 @@
 -- Document 01, limit 8, for trees: the size of a vector expression in alternatives, steps and tests.
 use Prim.Native.Nat.{ℕ, _<_, _≤_, min}
 use mathlib.Core.Path.{_≡_}
-use mathlib.Core.Bool.{true, false}
 use mathlib.Core.List.{List, []}
 use lib.ListN.{length, getD}
 use Rattle.alf.specs.Words.{if_then_else_}

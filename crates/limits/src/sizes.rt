@@ -3,7 +3,7 @@ use crate::picking;
 use crate::picking::How;
 use trees::parts;
 ghost use mathlib.Core.Path.{_≡_};
-ghost use Prim.Native.Nat.{_-_, _<_, _≤_, min, max};
+ghost use Prim.Native.Nat.{_-_, _<_, min, max};
 ghost use Rattle.alf.specs.Bytes.{joinAt};
 ghost use Rattle.alf.specs.Alternatives.{numberOfAlternatives};
 ghost use Rattle.trees.specs.Parts.{EndsVector, vectorAt};

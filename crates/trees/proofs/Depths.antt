@@ -2,13 +2,12 @@
 -- Main names: Depth, Placed, depth-small, bracket-is; leaf-depth, one-depth, pair-depth, three-depth. Assumes nothing.
 use Prim.Native.Nat.{ℕ, _+_, _-_, _<_, _≤_, min, max}
 use native.Mathlib.Omega.{arith}
-use mathlib.Core.Path.{_≡_, refl, ap, sym, _∙_}
+use mathlib.Core.Path.{_≡_, refl, _∙_}
 use mathlib.Core.Bool.{Bool, true, false}
 use mathlib.Core.List.{List}
 use lib.Dec.{ltb}
 use lib.ListN.{getD}
 use Rattle.alf.specs.Words.{if_then_else_}
-use Rattle.alf.specs.Expressions.{Expression}
 use Rattle.alf.specs.Bytes.{Stack, under, stackAt}
 use Rattle.alf.proofs.Bools.{never}
 use Rattle.alf.proofs.Made.{Made, a-name, a-literal, a-negation, a-binary, a-choice, an-edge, a-join}

@@ -1,10 +1,10 @@
 -- The kind of what a byte makes, from its operands' kinds, and where it starts.
 -- Main names: none, leaf-found, one-found, pair-found, three-found; no-right, no-left, no-first, where an operand is
--- missing. Assumes nothing.
-use Prim.Native.Nat.{ℕ, zero, suc, _+_, _-_, _<_, _≤_}
+-- missing; ending-unique. Assumes nothing.
+use Prim.Native.Nat.{ℕ, _-_, _<_, _≤_}
 use native.Mathlib.Omega.{arith}
-use mathlib.Core.Path.{_≡_, refl, ap, sym, _∙_, subst}
-use mathlib.Core.Bool.{Bool, true, false, _&&_}
+use mathlib.Core.Path.{_≡_, refl, ap, sym, _∙_}
+use mathlib.Core.Bool.{Bool, true, false}
 use mathlib.Core.List.{List}
 use lib.ListN.{getD, length}
 use lib.Dec.{ltb, eqb}
@@ -12,7 +12,7 @@ use native.Mathlib.Nat.{zero-add}
 use borrow.Author.Tests.{ltb-true, ltb-false, ne-eqb}
 use Rattle.alf.specs.Words.{if_then_else_}
 use Rattle.alf.specs.Expressions.{Boolean, boolean, Vector, vector}
-use Rattle.alf.specs.Bytes.{Stack, empty, broken, push, Operation, leafAt, pairAt, threeAt, oneAt, operationAt}
+use Rattle.alf.specs.Bytes.{Stack, empty, broken, push, Operation, leafAt, pairAt, threeAt, oneAt}
 use Rattle.alf.specs.Bytes.{isBoolean, isVector, under, ifSo, run, arityAt, stackAt}
 use Rattle.alf.proofs.Bools.{never}
 use Rattle.alf.proofs.Codes.{leaf-class, pair-class, three-class, one-class}
@@ -20,7 +20,7 @@ use Rattle.alf.proofs.Parts.{last, arity-zero, arity-one, arity-two, arity-thre
 use Rattle.trees.specs.Parts.{isWhole, Ends, Start}
 use Rattle.trees.specs.Sorts.{kindOf, givenOne, givenTwo, leafKind, oneKind, pairKind, threeKind, placed, Ending}
 use Rattle.trees.proofs.Operands.{arity-some, arity-more}
-use Rattle.trees.proofs.Starts.{Going, going-first, going-on, going-part, going-done, whole-at}
+use Rattle.trees.proofs.Starts.{Going, going-first, going-on, going-part, going-done, whole-at, start-unique}
 
 boolean-kind : (s : Stack) → isBoolean s ≡ eqb (kindOf s) 1
 unfolding isBoolean kindOf
@@ -182,3 +182,18 @@ module _ (t : List ℕ) (names end : ℕ) (p : 0 < end) (u : end ≤ length t) w
                 let h = going-part t names end _ 2 m (rw (arity-three _ k j) at g) (a .from q) in
                 let i = going-part t names end m 1 o h (c .from w) in
                 going-done (going-part t names end o 0 n i (y .from x)) (omega arith))
+
+-- bytes end with one thing only
+pub ending-unique : {t : List ℕ} {names end k m k′ m′ : ℕ} → Ending t names end k m → Ending t names end k′ m′
+    → (k ≡ k′) × (m ≡ m′)
+ending-unique {k = k} {m = m} {k′ = k′} {m′ = m′} x y = (x .is ∙ sym (y .is), go (ltb 0 k) refl)
+  where
+    same : k ≡ k′
+    same = x .is ∙ sym (y .is)
+
+    go : (q : Bool) → ltb 0 k ≡ q → m ≡ m′
+    go true h = let l = ltb-true 0 k h in start-unique (x .from l) (y .from (rw same at l))
+    go false h =
+        let l = ltb-false 0 k h in
+        let e = same in
+        x .nowhere (omega arith) ∙ sym (y .nowhere (omega arith))

@@ -1,18 +1,16 @@
 -- The operands of an expression end where the code looks for them.
 -- Main names: arity-some, arity-more; right-whole, left-whole, first-whole. Assumes nothing.
-use Prim.Native.Nat.{ℕ, zero, suc, _+_, _-_, _<_, _≤_}
+use Prim.Native.Nat.{ℕ, _-_, _<_, _≤_}
 use native.Mathlib.Omega.{arith}
 use native.Mathlib.Nat.{zero-add}
-use mathlib.Core.Path.{_≡_, ap, sym, _∙_}
-use mathlib.Core.Bool.{true}
 use mathlib.Core.List.{List}
 use lib.Dec.{ltb}
 use lib.ListN.{getD, length}
 use borrow.Author.Tests.{lt-ltb, le-ltb}
-use Rattle.alf.specs.Bytes.{Stack, under, arityAt, stackAt}
+use Rattle.alf.specs.Bytes.{arityAt, stackAt}
 use Rattle.alf.proofs.Choices.{if-all}
 use Rattle.alf.proofs.Parts.{deep, unders, back, arity-three}
-use Rattle.trees.specs.Parts.{isWhole, Ends, Start}
+use Rattle.trees.specs.Parts.{Ends, Start}
 use Rattle.trees.proofs.Starts.{ends-pos, whole-deep, whole-at}
 
 pub arity-some : (b : ℕ) → 40 ≤ b → 0 < arityAt b

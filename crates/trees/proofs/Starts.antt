@@ -1,14 +1,13 @@
 -- The way back from the end of a part to its start, by bytes or by whole parts.
--- Main names: Going, going-first, going-on (a byte), going-part (a part), going-done; ends-pos, whole-deep, whole-at.
--- Assumes nothing.
+-- Main names: Going, going-first, going-on (a byte), going-part (a part), going-done; ends-pos, whole-deep, whole-at,
+-- start-unique. Assumes nothing.
 use Prim.Native.Nat.{ℕ, zero, suc, _+_, _-_, _<_, _≤_}
 use native.Mathlib.Omega.{arith}
-use mathlib.Core.Path.{_≡_, refl, ap, sym, _∙_}
-use mathlib.Core.Bool.{Bool, true, false}
+use mathlib.Core.Path.{_≡_, refl, ap, _∙_}
+use mathlib.Core.Bool.{true}
 use mathlib.Core.List.{List}
 use lib.ListN.{getD, length}
 use Rattle.alf.specs.Bytes.{bytesOf, Stack, empty, broken, push, under, arityAt, stackAt, isBoolean, isVector}
-use Rattle.alf.specs.Expressions.{boolean, vector}
 use Rattle.alf.proofs.Bools.{never}
 use Rattle.alf.proofs.Parts.{deep, unders, size, back, deep-le, deep-under, size-under}
 use Rattle.trees.specs.Parts.{isWhole, top, Ends, EndsBoolean, EndsVector, Start}
@@ -135,3 +134,7 @@ going-done {t} {names} {end} {at} {need = zero} g p =
     let k = g .left in
     record { is = omega arith; before = omega arith; left = g .same }
 going-done {t} {names} {end} {at} {need = suc n} g p = absurd (omega arith)
+
+-- a part starts in one place only
+pub start-unique : {t : List ℕ} {names end a b : ℕ} → Start t names end a → Start t names end b → a ≡ b
+start-unique x y = let e = x .is in let d = y .is in omega arith

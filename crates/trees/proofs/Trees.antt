@@ -1,21 +1,18 @@
 -- What a tree is, from what it ends with and where that starts; and what that says of the expression it is.
 -- Main names: whole-boolean, whole-vector, whole-more, whole-none; kind-decodes. Assumes nothing.
-use Prim.Native.Nat.{ℕ, zero, suc, _<_, _≤_}
+use Prim.Native.Nat.{ℕ, _<_}
 use native.Mathlib.Omega.{arith}
 use native.Mathlib.Nat.{pos-of-ne-zero}
-use mathlib.Core.Path.{_≡_, refl, ap, sym, _∙_, subst}
+use mathlib.Core.Path.{_≡_, refl, ap, sym, _∙_}
 use mathlib.Core.Bool.{Bool, true, false}
 use mathlib.Core.List.{List}
-use lib.Dec.{ltb, eqb}
-use lib.ListN.{getD, length}
-use borrow.Author.Tests.{ltb-true, ltb-false}
-use Rattle.alf.specs.Expressions.{Boolean, Vector, Expression, boolean, vector}
+use lib.ListN.{length}
+use Rattle.alf.specs.Expressions.{Boolean, Vector, boolean, vector}
 use Rattle.alf.specs.Bytes.{Stack, empty, broken, push, under, stackAt, Decodes}
 use Rattle.alf.proofs.Bools.{never}
 use Rattle.alf.proofs.Made.{Made, a-name, a-literal, a-negation, a-binary, a-choice, an-edge, a-join}
 use Rattle.alf.proofs.Made.{a-condition, a-condition-before, nothing}
 use Rattle.alf.proofs.Parts.{made-last}
-use Rattle.trees.specs.declared.sorts.Kind.{Kind}
 use Rattle.trees.specs.declared.sorts.Kind.the-variants as kinds
 use Rattle.trees.specs.Parts.{isWhole}
 use Rattle.trees.specs.Sorts.{kindOf, Ending, wholeKind, treeKind, Holds}

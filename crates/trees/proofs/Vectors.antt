@@ -4,14 +4,14 @@
 -- Assumes nothing.
 use Prim.Native.Nat.{ℕ, _-_, _<_, _≤_}
 use native.Mathlib.Omega.{arith}
-use mathlib.Core.Path.{_≡_, refl, ap, sym, _∙_}
+use mathlib.Core.Path.{_≡_, refl}
 use mathlib.Core.Bool.{Bool, true, false}
 use mathlib.Core.List.{List}
-use lib.Dec.{ltb, eqb}
+use lib.Dec.{eqb}
 use lib.ListN.{getD, length}
 use borrow.Author.Tests.{eqb-true, eqb-false}
 use Rattle.alf.specs.Expressions.{edge, join, while, on-right, on-left}
-use Rattle.alf.specs.Bytes.{Stack, edgeAt, joinAt, isBoolean, isVector, topBoolean, topVector, under, stackAt}
+use Rattle.alf.specs.Bytes.{edgeAt, joinAt, isBoolean, isVector, topBoolean, topVector, under, stackAt}
 use Rattle.alf.proofs.Made.{Made}
 use Rattle.alf.proofs.Parts.{made-last}
 use Rattle.alf.proofs.Tops.{edge-top, join-top, condition-top, condition-before-top, vector-class}

@@ -1,6 +1,5 @@
 // What a tree is: a boolean expression, a vector expression, or neither.
 ghost use mathlib.Core.Path.{_≡_};
-ghost use mathlib.Core.Bool.{_&&_};
 ghost use Prim.Native.Nat.{_≤_};
 ghost use lib.ListN.{length};
 ghost use Rattle.trees.specs.Sorts.{givenOne, givenTwo, leafKind, oneKind, pairKind, threeKind};

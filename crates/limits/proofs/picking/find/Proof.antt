@@ -1,5 +1,4 @@
 -- `limits::picking::find` meets its contract. Assumes nothing.
-use native.Mathlib.Omega.{arith}
 use Rattle.limits.proofs.Finding.{block-small, in-left, in-right, in-later, later}
 use Rattle.limits.proofs.Finding.{in-together, in-with, in-chained}
 use borrow.Author.Needs.{needs}

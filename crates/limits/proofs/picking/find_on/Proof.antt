@@ -1,5 +1,4 @@
 -- `limits::picking::find_on` meets its contract. Assumes nothing.
-use native.Mathlib.Omega.{arith}
 use Rattle.limits.proofs.Finding.{block-small, on-either, on-with-or-then, on-any-together, on-any-back}
 use borrow.Author.Needs.{needs}
 use Rattle.limits.proofs.picking.find_on.Statement.{statement}

@@ -1,5 +1,4 @@
 -- `limits::sizes::count_of` meets its contract, by recursion on the bytes before `end`. Assumes nothing.
-use borrow.Author.Needs.{needs}
 use native.Mathlib.Omega.{arith}
 use Rattle.limits.proofs.Numbers.{edge-number, before-number, condition-number, join-number, joins}
 use Rattle.trees.proofs.Vectors.{vector-pos, right-ends, before-ends, ends-left, condition-is, join-is}

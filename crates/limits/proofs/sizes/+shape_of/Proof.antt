@@ -1,5 +1,4 @@
 -- `limits::sizes::shape_of` meets its contract, by recursion on the bytes before `end`. Assumes nothing.
-use borrow.Author.Needs.{needs}
 use native.Mathlib.Omega.{arith}
 use Rattle.limits.proofs.Chosen.{edge-shape, before-chosen, before-shape, condition-chosen, condition-shape}
 use Rattle.limits.proofs.Chosen.{join-picking, left-chosen, right-chosen, join-shape, shaped-small}

@@ -1,5 +1,4 @@
 -- `limits::sizes::join_counts` meets its contract. Assumes nothing.
-use native.Mathlib.Omega.{arith}
 use Rattle.limits.proofs.Counts.{count-sum, count-thrice, count-either, count-with-or-then, count-once}
 use Rattle.limits.proofs.Numbers.{counts-small}
 use borrow.Author.Needs.{needs}
