@@ -1,5 +1,5 @@
--- Laws of a list from a rule: listed-length, listed-more (one entry more); fill-none, fill-step, fill-all (a list filled
--- from the front, entry by entry). Assumes nothing.
+-- Laws of a list from a rule: listed-length, listed-more (one entry more); fill-none, fill-step, fill-all (a list
+-- filled from the front, entry by entry). Assumes nothing.
 use Prim.Native.Nat.{ℕ, zero, suc, _+_, _<_, _≤_}
 use native.Mathlib.Omega.{arith}
 use native.Mathlib.Nat.{add-zero, zero-add}

@@ -1,5 +1,5 @@
--- `rows::best_at` meets its contract. The loop's invariant: `best` is the greatest over the windows passed; the window of
--- the row alone answers no. Assumes nothing.
+-- `rows::best_at` meets its contract. The loop's invariant: `best` is the greatest over the windows passed; the window
+-- of the row alone answers no. Assumes nothing.
 use Prim.Native.Nat.{_-_, _≤_}
 use native.Mathlib.Omega.{arith}
 use mathlib.Core.Path.{_≡_, sym, _∙_}
