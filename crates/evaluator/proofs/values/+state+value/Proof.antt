@@ -2,7 +2,7 @@
 use borrow.Author.Needs.{needs}
 use native.Mathlib.Omega.{arith}
 use Rattle.trees.proofs.Starts.{of-boolean}
-use Rattle.evaluator.proofs.Booleans.{some-bytes, name-known, operator-known, right-ends, left-ends, first-ends}
+use Rattle.evaluator.proofs.Booleans.{some-bytes, operator-known, right-ends, left-ends, first-ends}
 use Rattle.evaluator.proofs.Booleans.{name-room, name-state, literal-state, negation-state, binary-state}
 use Rattle.evaluator.proofs.Booleans.{choice-state, value-state}
 use Prim.Native.Nat.{ℕ, _+_, _*_, _<_}
