@@ -11,7 +11,7 @@ use Rattle.alf.specs.Words.{greatest}
 use Rattle.alf.specs.Windows.{Window, followedBy, together, joined}
 use Rattle.alf.specs.Bytes.{joinAt}
 use Rattle.evaluator.specs.Spans.{JoinByte}
-use Rattle.evaluator.proofs.Spans.{all-passed}
+use Rattle.evaluator.proofs.Lists.{all-passed}
 
 pub min-of : {x y u v r : ℕ} → r ≡ min x y → x ≡ u → y ≡ v → r ≡ min u v
 min-of h e d = rw (← e, ← d) h

@@ -6,3 +6,4 @@ pub mod Spans
 pub mod Joining
 pub mod Vectors
 pub mod RowAnswers
+pub mod Traces

@@ -1,15 +1,20 @@
--- Laws of a list from a rule: listed-length, listed-more (one entry more); fill-none, fill-step, fill-all (a list filled
--- from the front, entry by entry). Assumes nothing.
+-- Laws of loops and of a list from a rule: all-passed (all turns are done); listed-length, listed-more (one entry
+-- more); fill-none, fill-step, fill-all (a list filled from the front, entry by entry). Assumes nothing.
 use Prim.Native.Nat.{ℕ, zero, suc, _+_, _<_, _≤_}
 use native.Mathlib.Omega.{arith}
 use native.Mathlib.Nat.{add-zero, zero-add}
 use native.Mathlib.Numerals.{add-one}
-use mathlib.Core.Path.{_≡_, refl, ap, sym, _∙_}
+use mathlib.Core.Path.{_≡_, refl, ap}
 use mathlib.Core.List.{List, [], _∷_, _++_, append-assoc}
-use lib.ListN.{length, getD, drop, set}
+use lib.ListN.{length, set}
 use lib.Seq.{drop-cons, set-at}
 use Rattle.alf.specs.Words.{listed}
 use Rattle.evaluator.specs.Rows.{filled}
+
+-- a loop has gone through all its n turns
+pub all-passed : {A B : Type 0} {i n : ℕ} {r : A} (fold : ℕ → B → A) (x : B) → i ≤ n → n ≤ i → r ≡ fold i x
+    → r ≡ fold n x
+all-passed {i = i} {n = n} fold x l u h = let e : n ≡ i = omega arith in rw e h
 
 module _ {A : Type 0} where
   pub listed-length : (a n : ℕ) (f : ℕ → A) → length (listed a n f) ≡ n
@@ -36,4 +41,4 @@ fill-step {n} {v} f d h e g =
 
 pub fill-all : {i n : ℕ} {out : List ℕ} (f : ℕ → ℕ) (d : List ℕ) → i ≤ n → n ≤ i → out ≡ filled i f d
     → out ≡ filled n f d
-fill-all {i} {n} f d l u h = let e : n ≡ i = omega arith in rw e h
+fill-all f d = all-passed (λ k (g : ℕ → ℕ). filled k g d) f

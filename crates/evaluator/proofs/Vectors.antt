@@ -3,13 +3,13 @@
 --   edge-ends, inner-ends, join-byte, join-both, condition-ends, before-ends   its operands
 --   edge-answer, join-answer, condition-answer, before-answer                  its answer
 -- Assumes nothing.
-use Prim.Native.Nat.{ℕ, _+_, _-_, _<_, _≤_, min}
+use Prim.Native.Nat.{ℕ, _-_, _<_, _≤_, min}
 use native.Mathlib.Omega.{arith}
-use mathlib.Core.Path.{_≡_, refl}
-use mathlib.Core.Bool.{true, false}
+use mathlib.Core.Path.{_≡_}
+use mathlib.Core.Bool.{true}
 use mathlib.Core.Logic.{_⊎_, inl, inr}
 use mathlib.Core.List.{List}
-use lib.ListN.{getD, length}
+use lib.ListN.{length}
 use Rattle.alf.specs.Windows.{Window, held, joined, answer}
 use Rattle.alf.specs.Bytes.{joinAt, edgeAt, isBoolean, isVector, stackAt}
 use Rattle.alf.proofs.Bools.{below?, equal?}

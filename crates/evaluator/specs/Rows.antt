@@ -1,6 +1,5 @@
 -- A trace's rows, as the functions over a tree ask for them, and what a part of a tree comes to there.
 use Prim.Native.Nat.{ℕ, _+_, _*_, _<_, _≤_}
-use mathlib.Core.Bool.{Bool}
 use mathlib.Core.Path.{_≡_}
 use mathlib.Core.List.{List, _++_}
 use lib.Dec.{ltb}

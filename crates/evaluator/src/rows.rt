@@ -40,7 +40,8 @@ pub fn name_of(rank: u8) -> Answer
 pub fn row_answer(tree: &[u8], end: usize, states: &[u8], names: usize, row: usize) -> Answer
     requires { ⌜ EndsVector (now tree) names end ⌝ }
     requires { ⌜ Within (now states) names row ⌝ }
-    ensures { λ r. ⌜ r ≡ rowAnswer (stateAt names (now (states .entry))) (vectorAt (now (tree .entry)) names end) row ⌝ }
+    ensures { λ r. ⌜ r ≡ rowAnswer (stateAt names (now (states .entry)))
+        (vectorAt (now (tree .entry)) names end) row ⌝ }
 {
     if row == 0 {
         return Answer::NoEvent;

@@ -55,7 +55,8 @@ pub fn value(tree: &[u8], end: usize, states: &[u8], names: usize, row: usize) -
 pub fn values(tree: &[u8], end: usize, states: &[u8], names: usize, n: usize, out: &mut [u8])
     requires { ⌜ EndsBoolean (now tree) names end ⌝ }
     requires { ⌜ Filling (now states) names n (now out) ⌝ }
-    ensures { λ _. ⌜ now (out .exit) ≡ filled n (valueOf (now (tree .entry)) names (now (states .entry)) end) (now (out .entry)) ⌝ }
+    ensures { λ _. ⌜ now (out .exit)
+        ≡ filled n (valueOf (now (tree .entry)) names (now (states .entry)) end) (now (out .entry)) ⌝ }
 {
     let mut i = 0;
     while i < n {

@@ -119,7 +119,7 @@ fn join(
     greater(greater(x, y), sequence(tree, q, p, states, names, a, b))
 }
 
-// `P -> Q`: over each row m between `a` and `b`.
+// `P -> Q`: over each row a + 1 + i between `a` and `b`, P up to it and Q from it on.
 fn sequence(tree: &[u8], p: usize, q: usize, states: &[u8], names: usize, a: usize, b: usize) -> u8
     requires { ⌜ Both (now tree) names p q ⌝ }
     requires { ⌜ Span (now states) names a b ⌝ }
@@ -130,9 +130,8 @@ fn sequence(tree: &[u8], p: usize, q: usize, states: &[u8], names: usize, a: usi
     let mut best: u8 = 0;
     let mut i = 0;
     while i < n {
-        let m = a + 1 + i;
-        let x = answer(tree, p, states, names, a, m);
-        let y = answer(tree, q, states, names, m, b);
+        let x = answer(tree, p, states, names, a, a + 1 + i);
+        let y = answer(tree, q, states, names, a + 1 + i, b);
         best = greater(best, lesser(x, y));
         i += 1;
     }

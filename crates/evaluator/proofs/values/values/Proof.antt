@@ -22,7 +22,7 @@ loop-holds c = (omega arith, fill-none _ _, refl)
 value-requires : tie.Need-value-requires Inv-loop μ-loop
 value-requires c κs =
     let s = c .before .before .before .before .before .pre in
-    (s .0, s .1 .rows _ (c .loop-test .taken))
+    (s .0, s .1 .rows _ (omega arith))
 
 inside : (c : tie.After-value Inv-loop μ-loop) → c .before .before .loop .i < length (c .before .before .loop .out)
 inside c = omega (arith, c .before .before .before .before .before .before .pre .1 .room)

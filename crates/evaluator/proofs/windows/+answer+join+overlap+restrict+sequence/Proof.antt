@@ -1,6 +1,7 @@
 -- `windows::answer` and the functions of its cycle meet their contracts, by recursion: where the operands end falls at
 -- each call. The loops' invariants: `best` is the greatest over the entries passed. Assumes nothing.
 use Prim.Native.Nat.{ℕ, _+_, _-_, _*_, _<_, _≤_, max}
+use borrow.Author.Needs.{needs}
 use native.Mathlib.Omega.{arith}
 use mathlib.Core.Path.{_≡_, sym}
 use borrow.Fn.Kinds.{In}
@@ -144,37 +145,29 @@ unfolding joined joinAt either
     )
     (and 2 join-kinds.ps (is 2 join-kinds.ps μ-join t) join.Pre)
     join.Post
-    (λ c κs. let c3 = c .before .before .before in
-    (omega (arith, c3 .pre .0), (c3 .pre .1 .0 .left, c3 .pre .1 .1 .0 .last)))
-    (λ c κs. let c4 = c .before .before .before .before in
-    (omega (arith, c4 .pre .0), (c4 .pre .1 .0 .right, c4 .pre .1 .1 .0 .last)))
-    (λ c κs. tt)
+    (λ c κs. search needs)
+    (λ c κs. search needs)
+    (λ c κs. search needs)
     (λ c. let c2 = c .before .before in let c3 = c2 .before in
     joined-by _ _ _ _ 55 (c3 .if1 .taken)
     (max-of (c .greater .ensures) (c2 .answer .ensures) (c .before .answer2 .ensures)))
-    (λ c κs. let c4 = c .before .before .before .before in
-    (omega (arith, c4 .pre .0), (c4 .pre .1 .0, c4 .pre .1 .1 .0)))
+    (λ c κs. search needs)
     (λ c. joined-by _ _ _ _ 54 (c .before .if2 .taken) (c .overlap .ensures))
-    (λ c κs. let c4 = c .before .before .before .before in
-    (omega (arith, c4 .pre .0), (c4 .pre .1 .0, c4 .pre .1 .1 .0)))
+    (λ c κs. search needs)
     (λ c. joined-by _ _ _ _ 50 (c .if3 .taken) (c .before .sequence .ensures))
-    (λ c κs. let c7 = c .before .before .before .before .before .before .before in let s = c7 .pre .1 .0 in
-    (omega (arith, c7 .pre .0), (record { left = s .right; right = s .left }, c7 .pre .1 .1 .0)))
-    (λ c κs. tt)
+    (λ c κs. search needs)
+    (λ c κs. search needs)
     (λ c. let c2 = c .before .before in let c4 = c2 .before .before in
     joined-by _ _ _ _ 51 (c2 .if4 .taken)
     (max-of (c .greater2 .ensures) (c4 .sequence .ensures) (c .before .sequence2 .ensures)))
-    (λ c κs. let c7 = c .before .before .before .before .before .before .before in
-    (omega (arith, c7 .pre .0), (c7 .pre .1 .0, c7 .pre .1 .1 .0)))
-    (λ c κs. tt)
+    (λ c κs. search needs)
+    (λ c κs. search needs)
     (λ c. let c2 = c .before .before in let c5 = c2 .before .before .before in
     joined-by _ _ _ _ 52 (c .before .if5 .taken)
     (max-of (c .greater3 .ensures) (c2 .overlap2 .ensures) (c5 .sequence .ensures)))
-    (λ c κs. tt)
-    (λ c κs. let c10 = c .before .before .before .before .before .before .before .before .before .before in
-    let s = c10 .pre .1 .0 in
-    (omega (arith, c10 .pre .0), (record { left = s .right; right = s .left }, c10 .pre .1 .1 .0)))
-    (λ c κs. tt)
+    (λ c κs. search needs)
+    (λ c κs. search needs)
+    (λ c κs. search needs)
     (λ c. let c2 = c .before .before in let c3 = c2 .before in let c4 = c3 .before in let c5 = c4 .before in
     let c6 = c5 .before in let c7 = c6 .before in let c8 = c7 .before in let c9 = c8 .before in
     let c12 = c9 .before .before .before in
@@ -190,19 +183,18 @@ unfolding joined joinAt either
     overlap-μ-loop
     (λ c. omega arith)
     (λ c. omega arith)
-    (λ c κs. let s = c .before .before .pre in (omega (arith, s .0), (s .1 .0 .left, s .1 .1 .last)))
-    (λ c κs. let c3 = c .before .before .before in
-    (omega (arith, c3 .pre .0), (c3 .pre .1 .0 .right, c3 .pre .1 .1 .last)))
+    (λ c κs. search needs)
+    (λ c κs. search needs)
     (λ c. (omega arith, greatest-none _))
     (λ c. omega arith)
     (λ c κs. let c6 = c .before .before .before .before .before .before in
-    (omega (arith, c6 .pre .0), (c6 .pre .1 .0 .right, c6 .pre .1 .1 .last)))
+    (omega (arith, c6 .pre .0), (c6 .pre .1 .0 .right, row-inside _ (omega arith) (c6 .pre .1 .1))))
     (λ c κs. let c7 = c .before .before .before .before .before .before .before in
-    (omega (arith, c7 .pre .0), (c7 .pre .1 .0 .left, c7 .pre .1 .1 .last)))
-    (λ c κs. tt)
-    (λ c κs. tt)
-    (λ c κs. tt)
-    (λ c κs. tt)
+    (omega (arith, c7 .pre .0), (c7 .pre .1 .0 .left, row-inside _ (omega arith) (c7 .pre .1 .1))))
+    (λ c κs. search needs)
+    (λ c κs. search needs)
+    (λ c κs. search needs)
+    (λ c κs. search needs)
     (λ c. omega arith)
     (λ c. omega arith)
     (λ c. let c2 = c .before .before in let c3 = c2 .before in let c4 = c3 .before in let c5 = c4 .before in
@@ -216,9 +208,9 @@ unfolding joined joinAt either
     (answer-below t, answer.Post, held-over.Asked, held-over.Learnt, lesser.Asked, lesser.Learnt)
     (and 2 restrict-kinds.ps (is 2 restrict-kinds.ps μ-restrict t) restrict.Pre)
     restrict.Post
-    (λ c κs. let s = c .before .before .pre in (omega (arith, s .0), (s .1 .0 .pattern, s .1 .1 .last)))
-    (λ c κs. let c3 = c .before .before .before in (c3 .pre .1 .0 .condition, c3 .pre .1 .1))
-    (λ c κs. tt)
+    (λ c κs. search needs)
+    (λ c κs. search needs)
+    (λ c κs. search needs)
     (λ c. min-of (c .lesser .ensures) (c .before .before .answer .ensures) (c .before .held-over .ensures)))
     λ t. sequence-lts.spec
     (answer-below t, answer.Post, lesser.Asked, lesser.Learnt, greater.Asked, greater.Learnt)
@@ -233,10 +225,11 @@ unfolding joined joinAt either
     (λ c. omega arith)
     (λ c κs. let c4 = c .before .before .before .before in
     (omega (arith, c4 .pre .0), (c4 .pre .1 .0 .left, row-inside _ (omega arith) (c4 .pre .1 .1))))
-    (λ c κs. let c5 = c .before .before .before .before .before in
-    (omega (arith, c5 .pre .0), (c5 .pre .1 .0 .right, c5 .pre .1 .1 .last)))
-    (λ c κs. tt)
-    (λ c κs. tt)
+    (λ c. omega arith)
+    (λ c. omega arith)
+    (λ c κs. search needs)
+    (λ c κs. search needs)
+    (λ c κs. search needs)
     (λ c. omega arith)
     (λ c. omega arith)
     (λ c. let c2 = c .before .before in let c3 = c2 .before in let c5 = c3 .before .before in
