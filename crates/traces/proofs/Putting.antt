@@ -120,7 +120,7 @@ rows-none k times states out at = record { is = paste-zero out at [] }
 
 -- rows
 module _ (k : ℕ) (times states : List ℕ) (n : ℕ) (all : length states ≡ n * k) where
-  codes-all : (r : ℕ) → r < n → length (codesOf k states r) ≡ k
+  pub codes-all : (r : ℕ) → r < n → length (codesOf k states r) ≡ k
   unfolding codesOf
   codes-all r h =
       length-take-le k (drop (r * k) states) (rw length-drop (omega (arith, room-for r n k h, all)))
