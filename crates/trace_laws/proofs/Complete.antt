@@ -45,20 +45,20 @@ module _ {names times states : List ℕ} {n : ℕ} (t : Trace names times states
   name-facts : (j : ℕ) → j < count names → NameFacts (fileOf names times states n) j
   name-facts j h =
       let e : place (fileOf names times states n) j 0 ≡ length (nameRecords names j) =
-        place-zero (fileOf names times states n) j ∙ name-place j (omega arith)
+      place-zero (fileOf names times states n) j ∙ name-place j (omega arith)
       in
-      record
-      { mark = rw e (name-there j h .mark)
-      ; few = omega (arith, t .slots .few)
-      ; fits = rw (e, name-there j h .size) (name-there j h .fits)
-      ; good =
-          record
-          { named = rw (name-held j h) (t .good j h .named)
-          ; new =
-              λ i l f.
-              let li : i < count names = omega arith in
-              t .good j h .new i l (sym (name-held i li) ∙ f ∙ name-held j h)
-          }
+      record {
+        mark = rw e (name-there j h .mark);
+        few = omega (arith, t .slots .few);
+        fits = rw (e, name-there j h .size) (name-there j h .fits);
+        good =
+            record {
+              named = rw (name-held j h) (t .good j h .named);
+              new =
+                  λ i l f.
+                  let li : i < count names = omega arith in
+                  t .good j h .new i l (sym (name-held i li) ∙ f ∙ name-held j h);
+            };
       }
 
   -- the rows
@@ -79,14 +79,14 @@ module _ {names times states : List ℕ} {n : ℕ} (t : Trace names times states
   unfolding fileOf rowRecords
   row-parted r h =
       let p =
-        split (rowRecords (count names) times states)
-        (λ i. rowRecord (getD times i 0) (codesOf (count names) states i)) (λ i. refl) r n h (endRecord n)
+      split (rowRecords (count names) times states)
+      (λ i. rowRecord (getD times i 0) (codesOf (count names) states i)) (λ i. refl) r n h (endRecord n)
       in
-      record
-      { rest = p .rest
-      ; is =
-          ap (λ (l : List ℕ). nameRecords names (count names) ++ l) (p .is)
-          ∙ sym (append-assoc (nameRecords names (count names)) (rowRecords (count names) times states r) _)
+      record {
+        rest = p .rest;
+        is =
+            ap (λ (l : List ℕ). nameRecords names (count names) ++ l) (p .is)
+            ∙ sym (append-assoc (nameRecords names (count names)) (rowRecords (count names) times states r) _);
       }
 
   row-there :
@@ -120,22 +120,22 @@ module _ {names times states : List ℕ} {n : ℕ} (t : Trace names times states
 
   row-facts : (r : ℕ) → r < n → RowFacts (fileOf names times states n) (count names) r
   row-facts r h =
-      record
-      { mark = row-there r h .mark
-      ; named = t .slots .some
-      ; few = omega (arith, t .lists .few)
-      ; fits = rw (codes-all (count names) times states n all r h) at (row-there r h .fits)
-      ; above =
-          λ l.
-          let e : suc (r - 1) ≡ r = omega arith in
-          rw (time-held r h, time-held (r - 1) (omega arith)) (rw e at (t .rising (r - 1) (omega arith)))
-      ; codes =
-          λ p b.
-          let i : ℕ = p - (place (fileOf names times states n) (count names) r + 6) in
-          let e : place (fileOf names times states n) (count names) r + 6 + i ≡ p = omega (arith, b .from) in
-          let l : i < count names = omega (arith, b .from, b .to) in
-          let x : getD (fileOf names times states n) p 0 ≡ getD states (r * count names + i) 0 = rw e at (code-in r i h l) in
-          omega (arith, x, b .above, t .codes (r * count names + i) (omega (arith, room-for r n (count names) h, all)))
+      record {
+        mark = row-there r h .mark;
+        named = t .slots .some;
+        few = omega (arith, t .lists .few);
+        fits = rw (codes-all (count names) times states n all r h) at (row-there r h .fits);
+        above =
+            λ l.
+            let e : suc (r - 1) ≡ r = omega arith in
+            rw (time-held r h, time-held (r - 1) (omega arith)) (rw e at (t .rising (r - 1) (omega arith)));
+        codes =
+            λ p b.
+            let i : ℕ = p - (place (fileOf names times states n) (count names) r + 6) in
+            let e : place (fileOf names times states n) (count names) r + 6 + i ≡ p = omega (arith, b .from) in
+            let l : i < count names = omega (arith, b .from, b .to) in
+            let x : getD (fileOf names times states n) p 0 ≡ getD states (r * count names + i) 0 = rw e at (code-in r i h l) in
+            omega (arith, x, b .above, t .codes (r * count names + i) (omega (arith, room-for r n (count names) h, all)));
       }
 
   end-facts : EndFacts (fileOf names times states n) (count names) n
@@ -143,7 +143,7 @@ module _ {names times states : List ℕ} {n : ℕ} (t : Trace names times states
       let small : n < 2 ^ 32 = omega (arith, t .lists .few) in
       let front : List ℕ = nameRecords names (count names) ++ rowRecords (count names) times states n in
       let e : EndRead (fileOf names times states n) (place (fileOf names times states n) (count names) n) n =
-        rw (← front-length n (omega arith)) (rw whole (end-read front n small))
+      rw (← front-length n (omega arith)) (rw whole (end-read front n small))
       in record { mark = e .mark; some = t .lists .some; last = e .last; counted = e .counted }
     where
       whole : fileOf names times states n ≡ (nameRecords names (count names) ++ rowRecords (count names) times states n) ++ endRecord n
@@ -151,13 +151,13 @@ module _ {names times states : List ℕ} {n : ℕ} (t : Trace names times states
 
   pub trace-accepted : Accepted (fileOf names times states n) (count names) n
   trace-accepted =
-      record
-      { before =
-          record
-          { names = λ j h. name-good (fileOf names times states n) j (name-facts j h)
-          ; rows = λ r h. row-good (fileOf names times states n) (count names) r (row-facts r h)
-          }
-      ; ends = end-good (fileOf names times states n) (count names) n end-facts
+      record {
+        before =
+            record {
+              names = λ j h. name-good (fileOf names times states n) j (name-facts j h);
+              rows = λ r h. row-good (fileOf names times states n) (count names) r (row-facts r h);
+            };
+        ends = end-good (fileOf names times states n) (count names) n end-facts;
       }
 
   -- what they hold

@@ -3,3 +3,4 @@ pub mod Places
 pub mod Unspelt
 pub mod Complete
 pub mod Theorems
+pub mod RoundTrips

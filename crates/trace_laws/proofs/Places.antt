@@ -51,21 +51,22 @@ module _ {file : List ℕ} {k r k′ r′ : ℕ} (here : Before file k r) (there
     where
       g : Good Name file k 0
       g = there .names k h
+
       go : (x : ℕ) → r ≡ x → GoesOn file k r
       go zero e =
           rw e
-          (record
-          { passed = g .passed
-          ; more = λ f. let u : Name ≡ End = sym (g .mark) ∙ f in let z : _≡_ {A = ℕ} 0 1 = cc in omega arith
+          (record {
+            passed = g .passed;
+            more = λ f. let u : Name ≡ End = sym (g .mark) ∙ f in let z : _≡_ {A = ℕ} 0 1 = cc in omega arith;
           })
       go (suc x) e = absurd (named-row g (here .rows 0 (omega arith)))
 
   earlier-rows : k ≡ k′ → r < r′ → GoesOn file k r
   earlier-rows e h =
       let g : Good Row file k r = rw e (there .rows r h) in
-      record
-      { passed = g .passed
-      ; more = λ f. let u : Row ≡ End = sym (g .mark) ∙ f in let z : _≡_ {A = ℕ} 0 1 = cc in omega arith
+      record {
+        passed = g .passed;
+        more = λ f. let u : Row ≡ End = sym (g .mark) ∙ f in let z : _≡_ {A = ℕ} 0 1 = cc in omega arith;
       }
 
 pub accepted-unique :

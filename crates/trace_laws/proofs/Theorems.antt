@@ -41,13 +41,13 @@ exact-accepted t = rw (t .bytes, t .counted) (trace-accepted (t .trace))
 
 pub exact-trace : {file : List ℕ} {k n : ℕ} → ((i : ℕ) → getD file i 0 < 256) → Accepted file k n → TraceOf file k n
 exact-trace {file} {k} {n} bytes a =
-    record
-    { names = namesOf file k
-    ; times = timesOf file k n
-    ; states = statesOf file k n
-    ; trace = accepted-trace a bytes
-    ; bytes = accepted-bytes a bytes
-    ; counted = sym (Rattle.traces.proofs.Sound.counted a)
+    record {
+      names = namesOf file k;
+      times = timesOf file k n;
+      states = statesOf file k n;
+      trace = accepted-trace a bytes;
+      bytes = accepted-bytes a bytes;
+      counted = sym (Rattle.traces.proofs.Sound.counted a);
     }
 
 -- what a trace of a file holds
@@ -72,11 +72,11 @@ pub one-trace :
     Same (t .names) (t .times) (t .states) n (u .names) (u .times) (u .states) n′
 one-trace {file} {k} {n} {k′} {n′} t u =
     let e = accepted-unique (exact-accepted t) (exact-accepted u) in
-    record
-    { names-same = names-of t ∙ ap (namesOf file) (e .0) ∙ sym (names-of u)
-    ; times-same = times-of t ∙ (λ i. timesOf file (e .0 i) (e .1 i)) ∙ sym (times-of u)
-    ; states-same = states-of t ∙ (λ i. statesOf file (e .0 i) (e .1 i)) ∙ sym (states-of u)
-    ; rows-same = e .1
+    record {
+      names-same = names-of t ∙ ap (namesOf file) (e .0) ∙ sym (names-of u);
+      times-same = times-of t ∙ (λ i. timesOf file (e .0 i) (e .1 i)) ∙ sym (times-of u);
+      states-same = states-of t ∙ (λ i. statesOf file (e .0 i) (e .1 i)) ∙ sym (states-of u);
+      rows-same = e .1;
     }
 
 pub refused-none : {file : List ℕ} {number p k n : ℕ} → FileRefused file number p → TraceOf file k n → ⊥
@@ -84,17 +84,17 @@ refused-none f t = accepted-refused (exact-accepted t) f
 
 -- a reading
 module _ {file names times states : List ℕ} where
-  got-trace : {k n : ℕ} {names′ times′ states′ : List ℕ} → Got file names times states k n names′ times′ states′ → TraceOf file k n
+  abbrev pub got-trace : {k n : ℕ} {names′ times′ states′ : List ℕ} → Got file names times states k n names′ times′ states′ → TraceOf file k n
   got-trace g =
       record { names = g .ns; times = g .ts; states = g .ss; trace = g .trace; bytes = g .bytes; counted = g .named }
 
-room-fixed : (names times states : List ℕ) (k n : ℕ) → AllFixed (roomOrder names times states k n)
+pub room-fixed : (names times states : List ℕ) (k n : ℕ) → AllFixed (roomOrder names times states k n)
 room-fixed names times states k n = (at-fixed _ _, (at-fixed _ _, (at-fixed _ _, tt)))
 
 pub record OneReading
     (r : Reading) (names times states : List ℕ) (r′ : Reading) (names′ times′ states′ : List ℕ) : Type 0
   where
-  pub answer : r ≡ r′
-  pub names-now : names ≡ names′
-  pub times-now : times ≡ times′
-  pub states-now : states ≡ states′
+    pub answer : r ≡ r′
+    pub names-now : names ≡ names′
+    pub times-now : times ≡ times′
+    pub states-now : states ≡ states′

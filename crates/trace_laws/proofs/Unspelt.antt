@@ -34,6 +34,7 @@ split all each step j (suc k) h tail = go (eqb j k) refl (λ l. split all each s
   where
     next : all (suc k) ++ tail ≡ all k ++ (each k ++ tail)
     next = ap (λ (l : List ℕ). l ++ tail) (step k) ∙ append-assoc (all k) (each k) tail
+
     go :
         (b : Bool) →
         eqb j k ≡ b →
@@ -79,11 +80,11 @@ pub name-read : (front x rest : List ℕ) → NameRead (front ++ (nameRecord x +
 unfolding nameRecord markOf
 name-read front x rest =
     let l : List ℕ = 78 ∷ 77 ∷ length x ∷ (x ++ rest) in
-    record
-    { mark = rw (byte₀ front l, byte front l 1)
-    ; size = byte front l 2
-    ; name = rw (drop-append-add front l 3) (take-append-seam x rest)
-    ; fits = rw (length-append front l, length-append x rest) (omega arith)
+    record {
+      mark = rw (byte₀ front l, byte front l 1);
+      size = byte front l 2;
+      name = rw (drop-append-add front l 3) (take-append-seam x rest);
+      fits = rw (length-append front l, length-append x rest) (omega arith);
     }
 
 pub record RowRead (file : List ℕ) (p t : ℕ) (codes : List ℕ) : Type 0 where
@@ -103,11 +104,11 @@ row-read front t codes rest h =
     let w₂ : ℕ = t / 65536 % 256 in
     let w₃ : ℕ = t / 16777216 % 256 in
     let l : List ℕ = 82 ∷ 87 ∷ w₀ ∷ w₁ ∷ w₂ ∷ w₃ ∷ (codes ++ rest) in
-    record
-    { mark = rw (byte₀ front l, byte front l 1)
-    ; time = rw (byte front l 2, byte-at front l 2 1, byte-at front l 2 2, byte-at front l 2 3) (word-value t h)
-    ; held = rw (drop-append-add front l 6) (take-append-seam codes rest)
-    ; fits = rw (length-append front l, length-append codes rest) (omega arith)
+    record {
+      mark = rw (byte₀ front l, byte front l 1);
+      time = rw (byte front l 2, byte-at front l 2 1, byte-at front l 2 2, byte-at front l 2 3) (word-value t h);
+      held = rw (drop-append-add front l 6) (take-append-seam codes rest);
+      fits = rw (length-append front l, length-append codes rest) (omega arith);
     }
 
 pub record EndRead (file : List ℕ) (p n : ℕ) : Type 0 where
@@ -123,8 +124,8 @@ end-read front n h =
     let w₂ : ℕ = n / 65536 % 256 in
     let w₃ : ℕ = n / 16777216 % 256 in
     let l : List ℕ = 69 ∷ 78 ∷ w₀ ∷ w₁ ∷ w₂ ∷ w₃ ∷ [] in
-    record
-    { mark = rw (byte₀ front l, byte front l 1)
-    ; counted = rw (byte front l 2, byte-at front l 2 1, byte-at front l 2 2, byte-at front l 2 3) (word-value n h)
-    ; last = rw (length-append front l) (omega arith)
+    record {
+      mark = rw (byte₀ front l, byte front l 1);
+      counted = rw (byte front l 2, byte-at front l 2 1, byte-at front l 2 2, byte-at front l 2 3) (word-value n h);
+      last = rw (length-append front l) (omega arith);
     }
