@@ -22,8 +22,11 @@ use Rattle.traces.proofs.Sound.{few-names, few-rows, counted, accepted-
 abbrev Short : Reading → ℕ → Type 0
 Short r needed = r ≡ Refused (record { number = 9; place = needed })
 
+pub codes-bound : {k n : ℕ} → n ≤ 65535 → k ≤ 32 → n * k ≤ 2097120
+codes-bound h l = mul-le-mul h l
+
 pub codes-few : {file : List ℕ} {k n : ℕ} → Accepted file k n → n * k ≤ 2097120
-codes-few a = mul-le-mul (few-rows a) (few-names a)
+codes-few a = codes-bound (few-rows a) (few-names a)
 
 module _ {file : List ℕ} {k n : ℕ} (accepted : Accepted file k n) where
   pub names-fit : {names : List ℕ} → k * 32 ≤ length names → NamesFit file k names

@@ -3,20 +3,19 @@
 --   name-good, row-good, end-good     a record with the facts is good
 -- Assumes nothing.
 use mathlib.Core.Path.{_≡_, refl, sym, ap, _∙_}
-use mathlib.Core.Bool.{Bool, true, false}
+use mathlib.Core.Bool.{true}
 use mathlib.Core.List.{List, [], _∷_}
 use Prim.Native.Nat.{ℕ, zero, suc, _+_, _-_, _*_, _<_, _≤_}
 use native.Mathlib.Omega.{arith}
-use lib.Dec.{ltb, eqb}
 use lib.ListN.{length, getD}
-use borrow.Author.Tests.{ltb-true, ltb-false, eqb-true, eqb-false}
 use Rattle.alf.specs.Names.{isName}
-use Rattle.alf.specs.Refusals.{First, Passed}
+use Rattle.alf.specs.Refusals.{Passed}
 use Rattle.traces.specs.declared.Mark.{Mark}
 use Rattle.traces.specs.declared.Mark.the-variants.{Name, Row, End, Other}
 use Rattle.traces.specs.Records.{place, timeIn, nameIn, wordAt, markHere, markedOrder, Due, sizeOf, contents}
 use Rattle.traces.specs.Records.{GoodName, BadCode, Good}
 use Rattle.traces.specs.Steps.{Above}
+use Rattle.traces.proofs.Stable.{none-first, lt-stable, eq-stable, true-stable}
 
 pub record NameFacts (file : List ℕ) (k : ℕ) : Type 0 where
   pub mark : markHere file k 0 ≡ Name
@@ -37,40 +36,6 @@ pub record EndFacts (file : List ℕ) (k r : ℕ) : Type 0 where
   pub some : 1 ≤ r
   pub last : place file k r + 6 ≡ length file
   pub counted : wordAt file (place file k r + 2) ≡ r
-
--- nothing is so where it is so nowhere first
-no-first : (so : ℕ → Type 0) → ((p : ℕ) → First so p → ⊥) → (n i : ℕ) → i < n → so i → ⊥
-no-first so none zero i h x = omega arith
-no-first so none (suc n) i h x = go (ltb i n) refl (no-first so none n)
-  where
-    go : (b : Bool) → ltb i n ≡ b → ((j : ℕ) → j < n → so j → ⊥) → ⊥
-    go true e below = below i (ltb-true i n e) x
-    go false e below =
-        let f : i ≡ n = omega (arith, ltb-false i n e) in
-        none i (record { given = x; before = λ j l. below j (omega arith) })
-
-pub none-first : (so : ℕ → Type 0) → ((p : ℕ) → First so p → ⊥) → (i : ℕ) → so i → ⊥
-none-first so none i x = no-first so none (suc i) i (omega arith) x
-
--- what is not refused holds
-module _ (x y : ℕ) where
-  lt-stable : ((x < y → ⊥) → ⊥) → x < y
-  lt-stable n = go (ltb x y) refl
-    where
-      go : (b : Bool) → ltb x y ≡ b → x < y
-      go true e = ltb-true x y e
-      go false e = absurd (n (λ l. omega (arith, ltb-false x y e)))
-
-  eq-stable : ((x ≡ y → ⊥) → ⊥) → x ≡ y
-  eq-stable n = go (eqb x y) refl
-    where
-      go : (b : Bool) → eqb x y ≡ b → x ≡ y
-      go true e = eqb-true x y e
-      go false e = absurd (n (eqb-false x y e))
-
-true-stable : (b : Bool) → ((b ≡ true → ⊥) → ⊥) → b ≡ true
-true-stable true n = refl
-true-stable false n = absurd (n (λ e. let z : _≡_ {A = ℕ} 0 1 = cc in omega arith))
 
 -- the first three checks of a record
 module _ (file : List ℕ) (k r : ℕ) (m : Mark) (passed : Passed (markedOrder file k r m)) where

@@ -5,6 +5,7 @@ pub mod Orders
 pub mod NameWalk
 pub mod Cursors
 pub mod RowCursors
+pub mod Stable
 pub mod Goods
 pub mod Passes
 pub mod Pastes
@@ -16,3 +17,6 @@ pub mod Sound
 pub mod Filled
 pub mod Put
 pub mod PutRecords
+pub mod Putting
+pub mod RowOrders
+pub mod Written

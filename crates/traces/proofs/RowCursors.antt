@@ -25,7 +25,7 @@ use Rattle.traces.specs.Steps.{Stands, StandsAt, StandsWhole, Checks, Ab
 use Rattle.traces.proofs.Orders.{Is}
 use Rattle.traces.proofs.Cursors.{undue, cut, inside, done}
 
-not-above : (r a b : ℕ) → ((1 ≤ r → a < b) → ⊥) → (1 ≤ r) × (b ≤ a)
+pub not-above : (r a b : ℕ) → ((1 ≤ r → a < b) → ⊥) → (1 ≤ r) × (b ≤ a)
 not-above r a b n = (some (ltb 0 r) refl, least (ltb a b) refl)
   where
     some : (x : Bool) → ltb 0 r ≡ x → 1 ≤ r

@@ -1,7 +1,12 @@
--- What the steps of writing need: that there is room.
-use Prim.Native.Nat.{ℕ, _+_, _≤_}
+-- What the steps of writing need and hand on: lists of the right lengths, and room.
+use Prim.Native.Nat.{ℕ, _+_, _-_, _*_, _<_, _≤_}
+use mathlib.Core.Path.{_≡_}
 use mathlib.Core.List.{List}
-use lib.ListN.{length}
+use lib.ListN.{length, getD}
+use Rattle.alf.specs.Names.{GoodSlot}
+use Rattle.alf.specs.Refusals.{Passed}
+use Rattle.traces.specs.Format.{nameRecords, count}
+use Rattle.traces.specs.Writing.{AllLists, rowsOrder, Put}
 
 -- a name of n bytes, and room for its record
 pub record NameFits (names : List ℕ) (from n : ℕ) (out : List ℕ) (at : ℕ) : Type 0 where
@@ -13,3 +18,48 @@ pub record NameFits (names : List ℕ) (from n : ℕ) (out : List ℕ) (at : ℕ
 pub record RowFits (states : List ℕ) (from k : ℕ) (out : List ℕ) (at : ℕ) : Type 0 where
   pub there : from + k ≤ length states
   pub room : at + 6 + k ≤ length out
+
+-- the time of row r is above the last row's
+abbrev pub Later : List ℕ → ℕ → Type 0
+Later times r = 0 < r → getD times (r - 1) 0 < getD times r 0
+
+-- n rows of k codes each
+pub record RowsLent (k : ℕ) (times states : List ℕ) (n : ℕ) : Type 0 where
+  pub times-all : length times ≡ n
+  pub states-all : length states ≡ n * k
+
+-- k slots, no more than 32
+pub record SlotsLent (names : List ℕ) (k : ℕ) : Type 0 where
+  pub there : k * 32 ≤ length names
+  pub few : k ≤ 32
+
+-- the records of k names have so many bytes
+pub record NamesSize (names : List ℕ) (k size : ℕ) : Type 0 where
+  pub is : size ≡ length (nameRecords names k)
+  pub few : size ≤ k * 35
+
+-- k slots, and room for their records
+pub record SlotsFit (names : List ℕ) (k : ℕ) (out : List ℕ) : Type 0 where
+  pub there : k * 32 ≤ length names
+  pub room : length (nameRecords names k) ≤ length out
+
+-- the records of k names stand at the front
+pub record NamesPut (names : List ℕ) (k : ℕ) (out out′ : List ℕ) (at : ℕ) : Type 0 where
+  pub put : Put out 0 (nameRecords names k) out′
+  pub there : at ≡ length (nameRecords names k)
+
+-- n rows of k codes each, and room for their records
+pub record RowsPut (k : ℕ) (times states : List ℕ) (n : ℕ) (out : List ℕ) (at : ℕ) : Type 0 where
+  pub lent : RowsLent k times states n
+  pub room : at + n * (6 + k) ≤ length out
+
+-- lists that pass 18 and 12
+pub record NamesGood (names times states : List ℕ) (n k : ℕ) : Type 0 where
+  pub all : AllLists names times states n
+  pub good : (j : ℕ) → j < count names → GoodSlot names j
+  pub counted : k ≡ count names
+
+-- lists that pass 13 and 15 too
+pub record Good (names times states : List ℕ) (n k : ℕ) : Type 0 where
+  pub named : NamesGood names times states n k
+  pub passed : Passed (rowsOrder k times states n)

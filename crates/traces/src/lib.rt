@@ -6,6 +6,7 @@ mod copies;
 mod parts;
 mod puts;
 pub mod read;
+pub mod write;
 
 // The mark of a record.
 pub enum Mark {

@@ -1,0 +1,192 @@
+-- Outcomes are unique, and both ways round give back what was put in.
+--   reads-unique     any two outcomes of a reading coincide, and so does the memory
+--   writes-unique    likewise of a writing
+--   read-write       reading what was written gives the same names, times and states
+--   write-read       writing what was read gives the same bytes
+-- Assumes nothing.
+use mathlib.Core.Path.{_≡_, refl, sym, ap, _∙_}
+use mathlib.Core.List.{List, [], _∷_, _++_}
+use mathlib.Core.Logic.{_⊎_, inl, inr}
+use Prim.Native.Nat.{ℕ, zero, suc, _+_, _-_, _*_, _/_, _<_, _≤_}
+use native.Mathlib.Omega.{arith}
+use lib.ListN.{length, getD}
+use Rattle.alf.specs.declared.Outcome.{Outcome}
+use Rattle.alf.specs.declared.Outcome.the-variants as Outcome
+use Rattle.alf.specs.Refusals.{Order, RefusedWith, Passed, Comes}
+use Rattle.names.proofs.Unique.{AllFixed, at-fixed, first-fixed, refused-passed, refused-unique, comes-unique}
+use Rattle.traces.specs.declared.Reading.{Reading}
+use Rattle.traces.specs.declared.Reading.the-variants.{Read, Refused}
+use Rattle.traces.specs.Format.{fileOf, count, Trace}
+use Rattle.traces.specs.Reading.{Accepted, FileRefused, RoomRefused, roomOrder, over, Got, Reads}
+use Rattle.traces.specs.Writing.{rowsOrder, writeOrder, after, Writes, BadState}
+use Rattle.traces.proofs.RowOrders.{passed-both}
+use Rattle.traces.proofs.Copying.{room-for}
+use Rattle.trace_laws.proofs.Places.{accepted-unique, accepted-refused, refusal-unique}
+use Rattle.trace_laws.proofs.Complete.{trace-accepted}
+use Rattle.trace_laws.proofs.Theorems.{TraceOf, exact-accepted, one-trace, refused-none, got-trace, room-fixed}
+use Rattle.trace_laws.proofs.Theorems.{OneReading}
+
+module _ (file names times states : List ℕ) where
+  -- not both read and refused
+  not-both :
+      {k n number p : ℕ} {names′ times′ states′ : List ℕ} →
+      Got file names times states k n names′ times′ states′ →
+      FileRefused file number p ⊎ RoomRefused file names times states number p →
+      ⊥
+  not-both g (inl f) = refused-none f (got-trace g)
+  not-both {k} {n} {number} {p} g (inr q) =
+      let e = accepted-unique (exact-accepted (got-trace g)) (q .accepted) in
+      refused-passed (roomOrder names times states (q .k) (q .n)) number p (rw (e .0, e .1) at (g .room)) (q .refused)
+
+  one-refusal :
+      {number p number′ p′ : ℕ} →
+      FileRefused file number p ⊎ RoomRefused file names times states number p →
+      FileRefused file number′ p′ ⊎ RoomRefused file names times states number′ p′ →
+      (number ≡ number′) × (p ≡ p′)
+  one-refusal (inl f) (inl g) = refusal-unique f g
+  one-refusal (inl f) (inr q) = absurd (accepted-refused (q .accepted) f)
+  one-refusal (inr q) (inl f) = absurd (accepted-refused (q .accepted) f)
+  one-refusal (inr q) (inr s) =
+      let e = accepted-unique (q .accepted) (s .accepted) in
+      refused-unique (roomOrder names times states (s .k) (s .n)) (room-fixed names times states (s .k) (s .n))
+      (rw (e .0, e .1) at (q .refused)) (s .refused)
+
+  pub reads-unique :
+      (r r′ : Reading) {n₁ t₁ s₁ n₂ t₂ s₂ : List ℕ} →
+      Reads file names times states n₁ t₁ s₁ r →
+      Reads file names times states n₂ t₂ s₂ r′ →
+      OneReading r n₁ t₁ s₁ r′ n₂ t₂ s₂
+  unfolding Reads
+  reads-unique (Read k n) (Read k′ n′) g h =
+      let e = accepted-unique (exact-accepted (got-trace g)) (exact-accepted (got-trace h)) in
+      let o = one-trace (got-trace g) (got-trace h) in
+      record {
+        answer = λ i. Read (e .0 i) (e .1 i);
+        names-now = g .names-now ∙ ap (λ (x : List ℕ). over x names) (o .names-same) ∙ sym (h .names-now);
+        times-now = g .times-now ∙ ap (λ (x : List ℕ). over x times) (o .times-same) ∙ sym (h .times-now);
+        states-now = g .states-now ∙ ap (λ (x : List ℕ). over x states) (o .states-same) ∙ sym (h .states-now);
+      }
+  reads-unique (Read k n) (Refused q) g h = absurd (not-both g (h .0))
+  reads-unique (Refused p) (Read k n) g h = absurd (not-both h (g .0))
+  reads-unique (Refused p) (Refused q) g h =
+      let e = one-refusal (g .0) (h .0) in
+      record {
+        answer = λ i. Refused (record { number = e .0 i; place = e .1 i });
+        names-now = g .1 .names-kept ∙ sym (h .1 .names-kept);
+        times-now = g .1 .times-kept ∙ sym (h .1 .times-kept);
+        states-now = g .1 .states-kept ∙ sym (h .1 .states-kept);
+      }
+
+-- each row of the order of writing fixes its place
+both-fixed : (a b : Order) → AllFixed a → AllFixed b → AllFixed (a ++ b)
+both-fixed [] b f g = g
+both-fixed (c ∷ a) b f g = (f .0, both-fixed a b (f .1) g)
+
+rows-fixed : (k : ℕ) (times states : List ℕ) (n : ℕ) → AllFixed (rowsOrder k times states n)
+unfolding rowsOrder
+rows-fixed k times states zero = tt
+rows-fixed k times states (suc n) =
+    both-fixed (rowsOrder k times states n) _ (rows-fixed k times states n) (at-fixed _ _, (first-fixed _, tt))
+
+pub record OneWriting (r : Outcome) (out : List ℕ) (r′ : Outcome) (out′ : List ℕ) : Type 0 where
+  pub answer : r ≡ r′
+  pub memory : out ≡ out′
+
+module _ {names times states : List ℕ} {n : ℕ} {out : List ℕ} where
+  pub writes-unique :
+      {r r′ : Outcome} {o₁ o₂ : List ℕ} →
+      Writes names times states n out o₁ r →
+      Writes names times states n out o₂ r′ →
+      OneWriting r o₁ r′ o₂
+  writes-unique {r} {r′} w v =
+      let e : r ≡ r′ =
+      comes-unique (writeOrder names times states n (length out)) _ (
+        at-fixed _ _,
+        (
+          first-fixed _,
+          both-fixed (rowsOrder (count names) times states n) _ (rows-fixed (count names) times states n)
+              (at-fixed _ _, tt),
+        ),
+      )
+      (λ j k x y. x ∙ sym y) r r′ (w .outcome) (v .outcome)
+      in
+      record {
+        answer = e;
+        memory = w .memory ∙ ap (after (fileOf names times states n) out) e ∙ sym (v .memory);
+      }
+
+-- a trace passes the checks of writing
+module _ {names times states : List ℕ} {n : ℕ} (t : Trace names times states n) where
+  rows-pass : (r : ℕ) → r ≤ n → Passed (rowsOrder (count names) times states r)
+  unfolding rowsOrder Passed
+  rows-pass zero h = tt
+  rows-pass (suc r) h =
+      passed-both (rowsOrder (count names) times states r) _ (rows-pass r (omega arith)) (
+        (λ p a.
+            let l : 0 < r = a .given .0 in
+            let e : suc (r - 1) ≡ r = omega arith in
+            omega (arith, rw e at (t .rising (r - 1) (omega arith)), a .given .1)),
+        (
+          (λ p a.
+              let b : BadState (count names) states r p = a .given in
+              omega (arith, b .above, t .codes p (omega (arith, b .to, room-for r n (count names) h, t .lists .states-all)))),
+          tt,
+        ),
+      )
+
+  pub writing-passes : {room : ℕ} → length (fileOf names times states n) ≤ room → Passed (writeOrder names times states n room)
+  unfolding Passed
+  writing-passes h = (
+    (λ p a. a .given (record { slots = t .slots; lists = t .lists })),
+    (
+      (λ p a. a .given .1 (t .good p (a .given .0))),
+      passed-both (rowsOrder (count names) times states n) _ (rows-pass n (omega arith))
+          ((λ p a. omega (arith, a .given)), tt),
+    ),
+  )
+
+  -- writing a trace into enough room gives its bytes
+  pub writes-bytes :
+      {out out′ : List ℕ} (r : Outcome) →
+      length (fileOf names times states n) ≤ length out →
+      Writes names times states n out out′ r →
+      OneWriting r out′ (Outcome.Done (length (fileOf names times states n))) (over (fileOf names times states n) out)
+  unfolding Comes after
+  writes-bytes (Outcome.Done m) h w = record { answer = ap Outcome.Done (w .outcome .1); memory = w .memory }
+  writes-bytes {out} (Outcome.Refused r) h w =
+      absurd (refused-passed (writeOrder names times states n (length out)) _ _ (writing-passes h) (w .outcome))
+
+  -- reading what was written gives the same names, times and states
+  pub read-write :
+      (n₀ t₀ s₀ : List ℕ) {n₁ t₁ s₁ : List ℕ} (r : Reading) →
+      length names ≤ length n₀ →
+      n ≤ length t₀ →
+      n * count names ≤ length s₀ →
+      Reads (fileOf names times states n) n₀ t₀ s₀ n₁ t₁ s₁ r →
+      OneReading r n₁ t₁ s₁ (Read (count names) n) (over names n₀) (over times t₀) (over states s₀)
+  unfolding Reads Passed
+  read-write n₀ t₀ s₀ r hn ht hs w =
+      reads-unique (fileOf names times states n) n₀ t₀ s₀ r (Read (count names) n) w
+      (record {
+        ns = names;
+        ts = times;
+        ss = states;
+        trace = t;
+        bytes = refl;
+        named = refl;
+        room = (
+          (λ p a. omega (arith, a .given, t .slots .whole)),
+          ((λ p a. omega (arith, a .given)), ((λ p a. omega (arith, a .given)), tt)),
+        );
+        names-now = refl;
+        times-now = refl;
+        states-now = refl;
+      })
+
+-- writing what was read gives the same bytes
+pub write-read :
+    {file n₀ t₀ s₀ n₁ t₁ s₁ : List ℕ} {k n : ℕ} (g : Got file n₀ t₀ s₀ k n n₁ t₁ s₁) {out out′ : List ℕ} (r : Outcome) →
+    length file ≤ length out →
+    Writes (g .ns) (g .ts) (g .ss) n out out′ r →
+    OneWriting r out′ (Outcome.Done (length file)) (over file out)
+write-read g r h w = rw (g .bytes) (writes-bytes (g .trace) r (rw (g .bytes) at h) w)

@@ -1,0 +1,1 @@
+// The theorems of the trace files: nothing but proofs.

@@ -1,0 +1,119 @@
+-- 13 and 15 row by row: what the check of a row means for the rows' order, and orders one behind the other.
+--   refused-left, refused-right, passed-both, passed-left   orders one behind the other
+--   row-late, row-bad, row-passes                           a row that is refused or passes
+-- Assumes nothing.
+use mathlib.Core.Path.{_≡_, refl, sym, ap, _∙_}
+use mathlib.Core.Bool.{Bool, true, false}
+use mathlib.Core.List.{List, [], _∷_, _++_}
+use mathlib.Core.Logic.{_⊎_, inl, inr}
+use Prim.Native.Nat.{ℕ, zero, suc, _+_, _-_, _*_, _≤_, _<_}
+use native.Mathlib.Omega.{arith}
+use native.Mathlib.Numerals.{add-one}
+use lib.Dec.{eqb}
+use lib.ListN.{length, getD}
+use borrow.Author.Tests.{eqb-true, eqb-false}
+use Rattle.alf.specs.declared.Outcome.{Outcome}
+use Rattle.alf.specs.declared.Outcome.the-variants.{Done, Refused}
+use Rattle.alf.specs.Refusals.{Order, RefusedWith, Passed, Comes}
+use Rattle.names.specs.Check.{Tells}
+use Rattle.names.proofs.Slots.{told-true, told-false}
+use Rattle.traces.specs.Parts.{CodesTo}
+use Rattle.traces.specs.Putting.{Later}
+use Rattle.traces.specs.Writing.{rowsOrder, BadState}
+use Rattle.traces.proofs.Orders.{Is}
+use Rattle.traces.proofs.RowCursors.{not-above}
+
+module _ (n p : ℕ) where
+  pub refused-left : (a b : Order) → RefusedWith a n p → RefusedWith (a ++ b) n p
+  unfolding RefusedWith
+  refused-left [] b r = absurd r
+  refused-left (c ∷ a) b (inl r) = inl r
+  refused-left (c ∷ a) b (inr r) = inr (r .0, refused-left a b (r .1))
+
+  pub refused-right : (a b : Order) → Passed a → RefusedWith b n p → RefusedWith (a ++ b) n p
+  unfolding RefusedWith Passed
+  refused-right [] b h r = r
+  refused-right (c ∷ a) b h r = inr (h .0, refused-right a b (h .1) r)
+
+pub passed-both : (a b : Order) → Passed a → Passed b → Passed (a ++ b)
+unfolding Passed
+passed-both [] b h k = k
+passed-both (c ∷ a) b h k = (h .0, passed-both a b (h .1) k)
+
+pub passed-left : (a b : Order) → Passed (a ++ b) → Passed a
+unfolding Passed
+passed-left [] b h = tt
+passed-left (c ∷ a) b h = (h .0, passed-left a b (h .1))
+
+pub passed-right : (a b : Order) → Passed (a ++ b) → Passed b
+unfolding Passed
+passed-right [] b h = h
+passed-right (c ∷ a) b h = passed-right a b (h .1)
+
+module _ (k : ℕ) (times states : List ℕ) where
+  further : (m n number p : ℕ) → m ≤ n → RefusedWith (rowsOrder k times states m) number p → RefusedWith (rowsOrder k times states n) number p
+  unfolding rowsOrder
+  further m zero number p h r = let e : m ≡ 0 = omega arith in rw e at r
+  further m (suc n) number p h r = go (eqb m (suc n)) refl (further m n number p)
+    where
+      go :
+          (b : Bool) →
+          eqb m (suc n) ≡ b →
+          (m ≤ n → RefusedWith (rowsOrder k times states m) number p → RefusedWith (rowsOrder k times states n) number p) →
+          RefusedWith (rowsOrder k times states (suc n)) number p
+      go true e ih = rw (eqb-true m (suc n) e) at r
+      go false e ih =
+          refused-left number p (rowsOrder k times states n) _ (ih (omega (arith, eqb-false m (suc n) e)) r)
+
+  module _
+      {n r : ℕ} (made : ℕ → Type 0) (before : r < n) (passed : Passed (rowsOrder k times states r))
+      {b : Bool} (tested : Tells (Later times r) b)
+    where
+      pub row-late : {o : Outcome} → Is o 13 r → b ≡ false → Comes (rowsOrder k times states n) made o
+      unfolding Comes RefusedWith rowsOrder
+      row-late e f =
+          rw e
+          (further (suc r) n 13 r before
+          (refused-right 13 r (rowsOrder k times states r) _ passed
+          (inl (refl, record { given = not-above r _ _ (told-false tested f); there = refl }))))
+
+      module _ (later : b ≡ true) where
+        above : (p : ℕ) → Rattle.alf.specs.Refusals.not-above times r p → ⊥
+        above p a = omega (arith, told-true tested later (a .given .0), a .given .1)
+
+        module _ {from bad : ℕ} (there : from ≡ r * k) (codes : CodesTo states from (from + k) bad) where
+          no-bad : (i : ℕ) → i < bad → BadState k states r i → ⊥
+          no-bad i l w = omega (arith, codes .good i (omega (arith, w .from)) l, w .above)
+
+          pub row-bad : {o : Outcome} → Is o 15 bad → bad < from + k → Comes (rowsOrder k times states n) made o
+          unfolding Comes RefusedWith rowsOrder
+          row-bad e l =
+              rw e
+              (further (suc r) n 15 bad before
+              (refused-right 15 bad (rowsOrder k times states r) _ passed
+              (inr (
+                above,
+                inl (
+                  refl,
+                  record {
+                    given =
+                        record { from = omega (arith, codes .low); to = omega arith; above = codes .bad l };
+                    before = no-bad;
+                  },
+                ),
+              ))))
+
+          pub row-passes : from + k ≤ bad → Passed (rowsOrder k times states (r + 1))
+          unfolding Passed rowsOrder
+          row-passes l =
+              rw add-one
+              (passed-both (rowsOrder k times states r) _ passed
+              (above, ((λ p a. no-bad p (omega (arith, a .given .to)) (a .given)), tt)))
+
+  pub rows-none : Passed (rowsOrder k times states 0)
+  unfolding Passed rowsOrder
+  rows-none = tt
+
+  pub rows-passed : {r n : ℕ} → r ≡ n → Passed (rowsOrder k times states r) → Comes (rowsOrder k times states n) (λ m. m ≡ n) (Done n)
+  unfolding Comes
+  rows-passed e p = (rw e at p, refl)

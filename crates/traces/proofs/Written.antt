@@ -1,0 +1,210 @@
+-- What writing comes to: 18, 12, 13 or 15, 9, or the file in front of the buffer.
+-- Main names: writes-18, writes-12, writes-row, writes-9, written. Assumes nothing.
+use mathlib.Core.Path.{_≡_, refl, sym, ap, _∙_}
+use mathlib.Core.Bool.{Bool, true, false}
+use mathlib.Core.List.{List, [], _∷_, _++_}
+use mathlib.Core.Logic.{_⊎_, inl, inr}
+use Prim.Native.Nat.{ℕ, _+_, _*_, _≤_, _<_}
+use native.Mathlib.Omega.{arith}
+use native.Mathlib.Nat.{mul-le-mul}
+use lib.ListN.{length, length-append}
+use Rattle.alf.specs.declared.Refusal.{Refusal}
+use Rattle.alf.specs.declared.Outcome.{Outcome}
+use Rattle.alf.specs.declared.Outcome.the-variants.{Done, Refused}
+use Rattle.alf.specs.Names.{GoodSlot}
+use Rattle.alf.specs.Refusals.{Order, RefusedWith, Passed, Comes}
+use Rattle.names.specs.Check.{Slots, Tells, namesOrder}
+use Rattle.names.proofs.Slots.{told-true, told-false}
+use Rattle.traces.specs.Format.{nameRecords, rowRecords, endRecord, word, fileOf, count}
+use Rattle.traces.specs.Writing.{AllLists, rowsOrder, writeOrder, after, Writes, Put}
+use Rattle.traces.specs.Putting.{RowsLent, SlotsLent, SlotsFit, NamesSize, NamesPut, RowsPut, NamesGood, Good}
+use Rattle.traces.proofs.Orders.{Is}
+use Rattle.traces.proofs.RowOrders.{refused-left, refused-right, passed-both}
+use Rattle.traces.proofs.Put.{put-put, put-over, put-length}
+use Rattle.traces.proofs.PutRecords.{word-length}
+use Rattle.traces.proofs.Putting.{rows-length}
+use Rattle.traces.proofs.Stable.{none-first, slot-stable}
+
+module _ {names times states : List ℕ} {n : ℕ} (out : List ℕ) where
+  stopped :
+      (o : Outcome) (number p : ℕ) →
+      Is o number p →
+      RefusedWith (writeOrder names times states n (length out)) number p →
+      Writes names times states n out out o
+  unfolding Comes after
+  stopped o number p e r = rw e (record { outcome = r; memory = refl })
+
+  pub writes-18 :
+      {b : Bool} {o : Outcome} →
+      Tells (AllLists names times states n) b →
+      b ≡ false →
+      Is o 18 0 →
+      Writes names times states n out out o
+  unfolding RefusedWith
+  writes-18 t f e = stopped _ 18 0 e (inl (refl, record { given = told-false t f; there = refl }))
+
+  module _ (all : AllLists names times states n) where
+    -- a list of names that is refused is refused with 12
+    pub writes-12 :
+        {o : Outcome} {r : Refusal} →
+        Comes (namesOrder names) (λ m. m ≡ count names) o →
+        o ≡ Refused r →
+        Writes names times states n out out (Refused r)
+    unfolding Comes RefusedWith
+    writes-12 {o} {r} c e = stopped (Refused r) (r .number) (r .place) refl (go (rw e at c))
+      where
+        go :
+            RefusedWith (namesOrder names) (r .number) (r .place) →
+            RefusedWith (writeOrder names times states n (length out)) (r .number) (r .place)
+        go (inl h) = absurd (h .1 .given (all .slots))
+        go (inr (h, inl i)) = inr ((λ p a. a .given all), inl i)
+        go (inr (h, inr i)) = absurd (i .1)
+
+module _ {names times states : List ℕ} {n : ℕ} (all : AllLists names times states n) where
+  pub names-good :
+      {o : Outcome} {k : ℕ} →
+      Comes (namesOrder names) (λ m. m ≡ count names) o →
+      o ≡ Done k →
+      NamesGood names times states n k
+  unfolding Comes Passed
+  names-good {o} {k} c e =
+      let d : Comes (namesOrder names) (λ m. m ≡ count names) (Done k) = rw e at c in
+      record {
+        all = all;
+        good =
+            λ j h.
+            slot-stable names j
+            (λ n.
+            none-first (λ i. (i < count names) × (GoodSlot names i → ⊥)) (d .0 .1 .0) j (h, n));
+        counted = d .1;
+      }
+
+-- the lists that pass 18 and 12
+module _ {names times states : List ℕ} {n k : ℕ} (g : NamesGood names times states n k) where
+  pub rows-lent : RowsLent k times states n
+  rows-lent =
+      record { times-all = g .all .lists .times-all; states-all = rw (g .counted) (g .all .lists .states-all) }
+
+  no-18 : (p : ℕ) → Rattle.alf.specs.Refusals.At 0 (AllLists names times states n → ⊥) p → ⊥
+  no-18 p a = a .given (g .all)
+
+  no-12 : (p : ℕ) → Rattle.alf.specs.Refusals.bad-slot names p → ⊥
+  no-12 p a = a .given .1 (g .good p (a .given .0))
+
+  room-check : ℕ → Order
+  room-check room =
+      Rattle.alf.specs.Refusals.check 9 (Rattle.alf.specs.Refusals.no-room (length (fileOf names times states n)) room) ∷ []
+
+  pub writes-row :
+      (out : List ℕ) {o : Outcome} {r : Refusal} →
+      Comes (rowsOrder k times states n) (λ m. m ≡ n) o →
+      o ≡ Refused r →
+      Writes names times states n out out (Refused r)
+  unfolding Comes RefusedWith
+  writes-row out {o} {r} c e =
+      stopped out (Refused r) (r .number) (r .place) refl
+      (inr (
+        no-18,
+        inr (
+          no-12,
+          refused-left (r .number) (r .place) (rowsOrder (count names) times states n) _
+              (rw (g .counted) at (rw e at c)),
+        ),
+      ))
+
+  pub rows-good :
+      {o : Outcome} {m : ℕ} → Comes (rowsOrder k times states n) (λ m. m ≡ n) o → o ≡ Done m → Good names times states n k
+  unfolding Comes
+  rows-good {o} {m} c e =
+      let d : Comes (rowsOrder k times states n) (λ m. m ≡ n) (Done m) = rw e at c in
+      record { named = g; passed = d .0 }
+
+-- a good trace
+module _ {names times states : List ℕ} {n k : ℕ} (g : Good names times states n k) where
+  few-names : k ≤ 32
+  few-names = rw (g .named .counted) (g .named .all .slots .few)
+
+  few-rows : n ≤ 65535
+  few-rows = g .named .all .lists .few
+
+  pub names-lent : SlotsLent names k
+  names-lent = record { there = rw (g .named .counted) (omega arith); few = few-names }
+
+  pub rows-few : n * (6 + k) ≤ 2490330
+  rows-few = let h : 6 + k ≤ 38 = omega (arith, few-names) in mul-le-mul few-rows h
+
+  pub file-length : length (fileOf names times states n) ≡ length (nameRecords names k) + n * (6 + k) + 6
+  unfolding fileOf endRecord
+  file-length =
+      let e : count names ≡ k = sym (g .named .counted) in
+      rw (e, length-append, length-append, rows-length k times states n (rows-lent (g .named) .states-all) n (omega arith), word-length n)
+      (omega arith)
+
+  module _ (out : List ℕ) {s : ℕ} (size : NamesSize names k s) where
+    all-size : length (fileOf names times states n) ≡ s + n * (6 + k) + 6
+    all-size = omega (arith, file-length, size .is)
+
+    passed-rows : Passed (rowsOrder (count names) times states n)
+    passed-rows = rw (g .named .counted) at (g .passed)
+
+    pub writes-9 :
+        {o : Outcome} →
+        Is o 9 (s + n * (6 + k) + 6) →
+        length out < s + n * (6 + k) + 6 →
+        Writes names times states n out out o
+    unfolding RefusedWith
+    writes-9 {o} e h =
+        stopped out o 9 (s + n * (6 + k) + 6) e
+        (inr (
+          no-18 (g .named),
+          inr (
+            no-12 (g .named),
+            refused-right 9 (s + n * (6 + k) + 6) (rowsOrder (count names) times states n) _ passed-rows
+                (inl (refl, record { given = omega (arith, all-size); there = sym all-size })),
+          ),
+        ))
+
+    module _ (room : s + n * (6 + k) + 6 ≤ length out) where
+      pub slots-fit : SlotsFit names k out
+      slots-fit = record { there = names-lent .there; room = omega (arith, size .is) }
+
+      pub rows-fit : {out₁ : List ℕ} {at : ℕ} → NamesPut names k out out₁ at → RowsPut k times states n out₁ at
+      rows-fit p =
+          record {
+            lent = rows-lent (g .named);
+            room = omega (arith, p .there, size .is, put-length (p .put) (omega (arith, size .is)));
+          }
+
+      pub end-fits : {out₁ : List ℕ} {at room₂ : ℕ} → NamesPut names k out out₁ at → room₂ ≡ length out₁ → at + n * (6 + k) + 6 ≤ room₂
+      end-fits p e = omega (arith, p .there, size .is, put-length (p .put) (omega (arith, size .is)))
+
+      pub written :
+          {out₁ out₂ out₃ : List ℕ} {at : ℕ} →
+          NamesPut names k out out₁ at →
+          Put out₁ at (rowRecords k times states n) out₂ →
+          Put out₂ (at + n * (6 + k)) (endRecord n) out₃ →
+          Writes names times states n out out₃ (Done (s + n * (6 + k) + 6))
+      unfolding Comes Passed after fileOf
+      written {out₁} p q r =
+          let rows : length (rowRecords k times states n) ≡ n * (6 + k) =
+          rows-length k times states n (rows-lent (g .named) .states-all) n (omega arith)
+          in
+          let l₁ : length out₁ ≡ length out = put-length (p .put) (omega (arith, size .is)) in
+          record {
+            outcome = (
+              (
+                no-18 (g .named),
+                (
+                  no-12 (g .named),
+                  passed-both (rowsOrder (count names) times states n) _ passed-rows
+                      ((λ p a. omega (arith, a .given, all-size)), tt),
+                ),
+              ),
+              sym all-size,
+            );
+            memory =
+                rw (sym (g .named .counted))
+                (put-over out
+                (put-put (p .put) (put-put q r (omega arith) (omega (arith, p .there, size .is))) (omega (arith, p .there))
+                (omega (arith, size .is))));
+          }
