@@ -1,0 +1,3 @@
+-- What a correction promises.
+pub mod Copies
+pub mod Corrections
