@@ -1,11 +1,9 @@
 -- Lists of state codes: codes-append, codes-take, codes-drop. Assumes nothing.
 use mathlib.Core.List.{List, [], _∷_, _++_}
-use Prim.Native.Nat.{ℕ, zero, suc, _+_, _<_}
+use Prim.Native.Nat.{ℕ, zero, suc, _+_}
 use native.Mathlib.Omega.{arith}
-use lib.ListN.{length, getD, take, drop}
-
-abbrev pub Codes : List ℕ → Type 0
-Codes l = (i : ℕ) → i < length l → getD l i 0 < 8
+use lib.ListN.{take, drop}
+use Rattle.updates.specs.Copies.{Codes}
 
 pub codes-append : (xs ys : List ℕ) → Codes xs → Codes ys → Codes (xs ++ ys)
 codes-append [] ys h k i l = k i l

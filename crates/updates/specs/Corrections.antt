@@ -2,11 +2,12 @@
 use Prim.Native.Nat.{ℕ, _+_, _-_, _<_, _≤_}
 use mathlib.Core.Path.{_≡_}
 use mathlib.Core.List.{List}
-use lib.ListN.{length, getD}
+use lib.ListN.{length}
 use Rattle.alf.specs.Words.{greatestOf}
 use Rattle.alf.specs.Values.{stateAt}
 use Rattle.alf.specs.Alternatives.{Alternative}
 use Rattle.alf.specs.Traces.{corrected, lastRewritten}
+use Rattle.updates.specs.Copies.{Codes}
 use Rattle.matcher.specs.Tables.{RowsAsked, numberAt, written}
 
 -- m rows from r on, of n rows
@@ -23,7 +24,7 @@ pub record CorrectionAsked (tree : List ℕ) (names : ℕ) (states steps tests e
   pub there : r < n
   pub room : n ≤ length answers
   pub full : length new ≡ names
-  pub codes : (i : ℕ) → i < length new → getD new i 0 < 8
+  pub codes : Codes new
 
 -- row r of n rows, and the steps of the longest alternative, a byte
 pub record Reaching (k n r : ℕ) : Type 0 where
