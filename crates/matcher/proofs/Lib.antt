@@ -3,3 +3,6 @@ pub mod Cuts
 pub mod Matching
 pub mod Asked
 pub mod Walking
+pub mod Written
+pub mod Filling
+pub mod Agreement

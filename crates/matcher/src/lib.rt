@@ -1,3 +1,4 @@
-// Matching by alternatives that stand in lists: answers and tries of a row and of all rows.
+// Matching by alternatives that stand in lists: answers and tries of a row and of all rows, totals.
 pub mod answers;
 pub mod shapes;
+pub mod tables;

@@ -1,0 +1,49 @@
+-- What is promised of all rows: the list of answers by document 01's numbers, the list of numbers tried, the totals.
+use Prim.Native.Nat.{ℕ, _+_, _*_, _<_, _≤_}
+use mathlib.Core.Path.{_≡_}
+use mathlib.Core.List.{List, _++_}
+use lib.Dec.{eqb}
+use lib.ListN.{length, getD, take, drop}
+use Rattle.alf.specs.declared.Answer.{Answer}
+use Rattle.alf.specs.declared.Answer.the-variants.{No, Yes, Unknown}
+use Rattle.alf.specs.Words.{count, listed}
+use Rattle.alf.specs.Expressions.{Boolean}
+use Rattle.alf.specs.Windows.{numberOf}
+use Rattle.alf.specs.Alternatives.{Alternative, answerOf, tries}
+use Rattle.matcher.specs.Shapes.{Shape}
+
+-- n rows of a trace of 1 to 32 names, each state a code
+pub record Rows (states : List ℕ) (names n : ℕ) : Type 0 where
+  pub some : 1 ≤ names
+  pub most : names ≤ 32
+  pub few : n ≤ 65535
+  pub room : n * names ≤ length states
+  pub codes : (i : ℕ) → i < length states → getD states i 0 < 8
+
+-- n rows, asked of all alternatives
+pub record RowsAsked (tree : List ℕ) (names : ℕ) (states steps tests edges operands : List ℕ) (n : ℕ) : Type 0 where
+  pub shape : Shape tree names steps tests edges operands
+  pub rows : Rows states names n
+
+-- the number of row i's answer
+abbrev pub numberAt : (Boolean → ℕ → ℕ) → List Alternative → ℕ → ℕ
+numberAt st xs = λ i. numberOf (answerOf st xs i)
+
+-- a list whose m entries from r on are written anew, entry i as f i; the others stay
+unfoldable pub written : List ℕ → ℕ → ℕ → (ℕ → ℕ) → List ℕ
+written l r m f = take r l ++ (listed r m f ++ drop (r + m) l)
+
+-- of n rows: each one's answer and number tried; what stands behind them stays
+pub record Filled (st : Boolean → ℕ → ℕ) (xs : List Alternative) (n : ℕ) (answers tried answers′ tried′ : List ℕ)
+    : Type 0 where
+  pub answered : answers′ ≡ written answers 0 n (numberAt st xs)
+  pub counted : tried′ ≡ written tried 0 n (tries st xs)
+
+-- how many of n rows have an answer
+unfoldable pub totalOf : (Boolean → ℕ → ℕ) → List Alternative → ℕ → Answer → ℕ
+totalOf st xs n a = count n (λ i. eqb (numberAt st xs i) (numberOf a))
+
+pub record Totals (st : Boolean → ℕ → ℕ) (xs : List Alternative) (n yes no unknown : ℕ) : Type 0 where
+  pub yeses : yes ≡ totalOf st xs n Yes
+  pub noes : no ≡ totalOf st xs n No
+  pub unknowns : unknown ≡ totalOf st xs n Unknown
