@@ -1,65 +1,69 @@
--- The outcome scheme: if each row of the table fixes its place, a call's outcome is unique.
---   at-fixes, first-fixes, first-of-fixes    each kind of row fixes its place
---   refused-not-passed, refused-unique       a call is refused or passed, with one number and place
---   comes-unique                             so any two outcomes that a contract allows coincide
+-- The outcome of a call is unique: any two outcomes that `Comes` allows coincide, whatever the call's order of checks,
+-- where each of its rows fixes its place.
+--   at-fixed, first-fixed, first-of-fixed   the three kinds of rows fix their places
+--   refused-unique    one number and one place
+--   refused-passed    nothing is refused and passed
+--   comes-unique      one outcome
 -- Assumes nothing.
-use mathlib.Core.Path.{_≡_, refl, ap, sym, _∙_}
+use mathlib.Core.Path.{_≡_, refl, sym, ap, _∙_}
 use mathlib.Core.List.{List, [], _∷_}
 use mathlib.Core.Logic.{_⊎_, inl, inr}
 use Prim.Native.Nat.{ℕ, _<_, _≤_}
 use native.Mathlib.Omega.{arith}
-use Rattle.alf.specs.declared.Refusal.{Refusal}
 use Rattle.alf.specs.declared.Outcome.{Outcome}
 use Rattle.alf.specs.declared.Outcome.the-variants.{Done, Refused}
-use Rattle.alf.specs.Refusals.{Row, At, First, FirstOf, Check, Order, Never, RefusedWith, Passed, Comes}
+use Rattle.alf.specs.Refusals.{Row, At, First, FirstOf, Order, RefusedWith, Passed, Comes}
 use Rattle.alf.proofs.Bools.{below?}
 
--- a row fixes its place
-abbrev pub Fixes : Row → Type 0
-Fixes row = (p q : ℕ) → row p → row q → p ≡ q
+-- a row holds at one place at most
+abbrev pub Fixed : Row → Type 0
+Fixed row = (p q : ℕ) → row p → row q → p ≡ q
 
-pub at-fixes : (place : ℕ) (so : Type 0) → Fixes (At place so)
-at-fixes place so p q a b = a .there ∙ sym (b .there)
+abbrev pub AllFixed : Order → Type 0
+AllFixed [] = Unit {0}
+AllFixed (c ∷ cs) = Fixed (c .row) × AllFixed cs
 
-pub first-fixes : (so : ℕ → Type 0) → Fixes (First so)
-first-fixes so p q a b = go (below? p q) (below? q p)
+pub at-fixed : (place : ℕ) (so : Type 0) → Fixed (At place so)
+at-fixed place so p q a b = a .there ∙ sym (b .there)
+
+pub first-fixed : (so : ℕ → Type 0) → Fixed (First so)
+first-fixed so p q a b = go (below? p q) (below? q p)
   where
     go : (p < q) ⊎ (q ≤ p) → (q < p) ⊎ (p ≤ q) → p ≡ q
     go (inl l) m = absurd (b .before p l (a .given))
     go (inr l) (inl m) = absurd (a .before q m (b .given))
     go (inr l) (inr m) = omega arith
 
-pub first-of-fixes : (so : ℕ → Type 0) (place : ℕ → ℕ) → Fixes (FirstOf so place)
-first-of-fixes so place p q a b =
-    a .there ∙ ap place (first-fixes so (a .which) (b .which) (a .first) (b .first)) ∙ sym (b .there)
+pub first-of-fixed : (so : ℕ → Type 0) (place : ℕ → ℕ) → Fixed (FirstOf so place)
+first-of-fixed so place p q a b =
+    a .there ∙ ap place (first-fixed so (a .which) (b .which) (a .first) (b .first)) ∙ sym (b .there)
 
--- each row of an order fixes its place
-abbrev pub Fixed : Order → Type 0
-Fixed [] = Unit {0}
-Fixed (c ∷ cs) = Fixes (c .row) × Fixed cs
+pub refused-passed : (o : Order) (n p : ℕ) → Passed o → RefusedWith o n p → ⊥
+unfolding Passed RefusedWith
+refused-passed [] n p a r = r
+refused-passed (c ∷ cs) n p a (inl r) = a .0 p (r .1)
+refused-passed (c ∷ cs) n p a (inr r) = refused-passed cs n p (a .1) (r .1)
 
-pub refused-not-passed : (cs : Order) (n p : ℕ) → RefusedWith cs n p → Passed cs → ⊥
-unfolding RefusedWith Passed
-refused-not-passed [] n p r h = r
-refused-not-passed (c ∷ cs) n p (inl r) h = h .0 p (r .1)
-refused-not-passed (c ∷ cs) n p (inr r) h = refused-not-passed cs n p (r .1) (h .1)
-
-pub refused-unique : (cs : Order) → Fixed cs → (n m p q : ℕ) → RefusedWith cs n p → RefusedWith cs m q
-    → (n ≡ m) × (p ≡ q)
+pub refused-unique :
+    (o : Order) → AllFixed o → {n m p q : ℕ} → RefusedWith o n p → RefusedWith o m q → (n ≡ m) × (p ≡ q)
 unfolding RefusedWith
-refused-unique [] f n m p q r s = absurd r
-refused-unique (c ∷ cs) f n m p q (inl r) (inl s) = (r .0 ∙ sym (s .0), f .0 p q (r .1) (s .1))
-refused-unique (c ∷ cs) f n m p q (inl r) (inr s) = absurd (s .0 p (r .1))
-refused-unique (c ∷ cs) f n m p q (inr r) (inl s) = absurd (r .0 q (s .1))
-refused-unique (c ∷ cs) f n m p q (inr r) (inr s) = refused-unique cs (f .1) n m p q (r .1) (s .1)
+refused-unique [] f r s = absurd r
+refused-unique (c ∷ cs) f {n} {m} {p} {q} (inl r) (inl s) = (r .0 ∙ sym (s .0), f .0 p q (r .1) (s .1))
+refused-unique (c ∷ cs) f {n} {m} {p} {q} (inl r) (inr s) = absurd (s .0 p (r .1))
+refused-unique (c ∷ cs) f {n} {m} {p} {q} (inr r) (inl s) = absurd (r .0 q (s .1))
+refused-unique (c ∷ cs) f (inr r) (inr s) = refused-unique cs (f .1) (r .1) (s .1)
 
-same-refusal : (r s : Refusal) → (r .number ≡ s .number) × (r .place ≡ s .place) → r ≡ s
-same-refusal r s e = λ i. record { number = e .0 i; place = e .1 i }
-
-pub comes-unique : (cs : Order) (made : ℕ → Type 0) → Fixed cs → ((k l : ℕ) → made k → made l → k ≡ l)
-    → (o o′ : Outcome) → Comes cs made o → Comes cs made o′ → o ≡ o′
+pub comes-unique :
+    (o : Order) (made : ℕ → Type 0) →
+    AllFixed o →
+    ((j k : ℕ) → made j → made k → j ≡ k) →
+    (a b : Outcome) →
+    Comes o made a →
+    Comes o made b →
+    a ≡ b
 unfolding Comes
-comes-unique cs made f u (Done k) (Done l) a b = ap Done (u k l (a .1) (b .1))
-comes-unique cs made f u (Done k) (Refused s) a b = absurd (refused-not-passed cs _ _ b (a .0))
-comes-unique cs made f u (Refused r) (Done l) a b = absurd (refused-not-passed cs _ _ a (b .0))
-comes-unique cs made f u (Refused r) (Refused s) a b = ap Refused (same-refusal r s (refused-unique cs f _ _ _ _ a b))
+comes-unique o made f one (Done j) (Done k) x y = ap Done (one j k (x .1) (y .1))
+comes-unique o made f one (Done j) (Refused s) x y = absurd (refused-passed o _ _ (x .0) y)
+comes-unique o made f one (Refused r) (Done k) x y = absurd (refused-passed o _ _ (y .0) x)
+comes-unique o made f one (Refused r) (Refused s) x y =
+    let e = refused-unique o f x y in λ i. Refused (record { number = e .0 i; place = e .1 i })

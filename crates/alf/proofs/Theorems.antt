@@ -26,7 +26,7 @@ pub use Rattle.alf.proofs.Decoding.{bytes-decode, decode-over, decode-u
 pub use Rattle.alf.proofs.Totals.{totals-sum}
 pub use Rattle.alf.proofs.Masks.{mask-bit, mask-below, mask-only, mask-ones, changes-ones, changes-first}
 -- outcomes
-pub use Rattle.alf.proofs.Outcomes.{at-fixes, first-fixes, first-of-fixes, refused-not-passed, refused-unique}
+pub use Rattle.alf.proofs.Outcomes.{at-fixed, first-fixed, first-of-fixed, refused-passed, refused-unique}
 pub use Rattle.alf.proofs.Outcomes.{comes-unique}
 -- table T and the readings that look right
 pub use Rattle.alf.proofs.Cases.{cases-hold}

@@ -1,78 +1,13 @@
--- The outcome of a call is unique: any two outcomes that `Comes` allows coincide, whatever the call's order of checks,
--- where each of its rows fixes its place.
---   at-fixed, first-fixed, first-of-fixed   the three kinds of rows fix their places
---   refused-unique    one number and one place
---   refused-passed    nothing is refused and passed
---   comes-unique      one outcome
--- Main name: comes-unique; names-unique is it for a list of names. Assumes nothing.
-use mathlib.Core.Path.{_≡_, refl, sym, ap, _∙_}
-use mathlib.Core.List.{List, [], _∷_}
-use mathlib.Core.Logic.{_⊎_, inl, inr, ⊎-elim}
-use Prim.Native.Nat.{ℕ, _/_, _<_}
-use native.Mathlib.Omega.{arith}
-use lib.Dec.{ltb}
-use borrow.Author.Tests.{ltb-true, ltb-false}
-use mathlib.Core.Bool.{Bool, true, false}
+-- The outcome of the check of a list of names is unique. Main name: names-unique. Assumes nothing.
+use mathlib.Core.Path.{_≡_, sym, _∙_}
+use mathlib.Core.List.{List}
+use Prim.Native.Nat.{ℕ, _/_}
 use lib.ListN.{length}
 use Rattle.alf.specs.declared.Outcome.{Outcome}
-use Rattle.alf.specs.declared.Outcome.the-variants.{Done, Refused}
-use Rattle.alf.specs.Refusals.{Row, At, First, FirstOf, Order, RefusedWith, Passed, Comes}
+use Rattle.alf.specs.Refusals.{Comes}
+use Rattle.alf.proofs.Outcomes.{AllFixed, at-fixed, first-fixed, comes-unique}
 use Rattle.names.specs.Check.{namesOrder}
 
--- a row holds at one place at most
-abbrev pub Fixed : Row → Type 0
-Fixed row = (p q : ℕ) → row p → row q → p ≡ q
-
-abbrev pub AllFixed : Order → Type 0
-AllFixed [] = Unit {0}
-AllFixed (c ∷ cs) = Fixed (c .row) × AllFixed cs
-
-pub at-fixed : (place : ℕ) (so : Type 0) → Fixed (At place so)
-at-fixed place so p q a b = a .there ∙ sym (b .there)
-
-pub first-fixed : (so : ℕ → Type 0) → Fixed (First so)
-first-fixed so p q a b = go (ltb p q) (ltb q p) refl refl
-  where
-    go : (x y : Bool) → ltb p q ≡ x → ltb q p ≡ y → p ≡ q
-    go true y e f = absurd (b .before p (ltb-true p q e) (a .given))
-    go false true e f = absurd (a .before q (ltb-true q p f) (b .given))
-    go false false e f = omega (arith, ltb-false p q e, ltb-false q p f)
-
-pub first-of-fixed : (so : ℕ → Type 0) (place : ℕ → ℕ) → Fixed (FirstOf so place)
-first-of-fixed so place p q a b =
-    a .there ∙ ap place (first-fixed so (a .which) (b .which) (a .first) (b .first)) ∙ sym (b .there)
-
-pub refused-passed : (o : Order) (n p : ℕ) → Passed o → RefusedWith o n p → ⊥
-unfolding Passed RefusedWith
-refused-passed [] n p a r = r
-refused-passed (c ∷ cs) n p a (inl r) = a .0 p (r .1)
-refused-passed (c ∷ cs) n p a (inr r) = refused-passed cs n p (a .1) (r .1)
-
-pub refused-unique :
-    (o : Order) → AllFixed o → {n m p q : ℕ} → RefusedWith o n p → RefusedWith o m q → (n ≡ m) × (p ≡ q)
-unfolding RefusedWith
-refused-unique [] f r s = absurd r
-refused-unique (c ∷ cs) f {n} {m} {p} {q} (inl r) (inl s) = (r .0 ∙ sym (s .0), f .0 p q (r .1) (s .1))
-refused-unique (c ∷ cs) f {n} {m} {p} {q} (inl r) (inr s) = absurd (s .0 p (r .1))
-refused-unique (c ∷ cs) f {n} {m} {p} {q} (inr r) (inl s) = absurd (r .0 q (s .1))
-refused-unique (c ∷ cs) f (inr r) (inr s) = refused-unique cs (f .1) (r .1) (s .1)
-
-pub comes-unique :
-    (o : Order) (made : ℕ → Type 0) →
-    AllFixed o →
-    ((j k : ℕ) → made j → made k → j ≡ k) →
-    (a b : Outcome) →
-    Comes o made a →
-    Comes o made b →
-    a ≡ b
-unfolding Comes
-comes-unique o made f one (Done j) (Done k) x y = ap Done (one j k (x .1) (y .1))
-comes-unique o made f one (Done j) (Refused s) x y = absurd (refused-passed o _ _ (x .0) y)
-comes-unique o made f one (Refused r) (Done k) x y = absurd (refused-passed o _ _ (y .0) x)
-comes-unique o made f one (Refused r) (Refused s) x y =
-    let e = refused-unique o f x y in λ i. Refused (record { number = e .0 i; place = e .1 i })
-
--- the check of a list of names
 pub names-fixed : (names : List ℕ) → AllFixed (namesOrder names)
 names-fixed names = (at-fixed _ _, (first-fixed _, tt))
 

@@ -12,7 +12,7 @@ use native.Mathlib.Omega.{arith}
 use lib.Dec.{ltb}
 use borrow.Author.Tests.{ltb-true, ltb-false}
 use Rattle.alf.specs.Refusals.{RefusedWith, Passed}
-use Rattle.names.proofs.Unique.{AllFixed, at-fixed, first-fixed, refused-passed, refused-unique}
+use Rattle.alf.proofs.Outcomes.{AllFixed, at-fixed, first-fixed, refused-passed, refused-unique}
 use Rattle.traces.specs.declared.Mark.{Mark}
 use Rattle.traces.specs.declared.Mark.the-variants.{Name, Row, End, Other}
 use Rattle.traces.specs.Records.{markHere, recordOrder, contents, Good, Before}

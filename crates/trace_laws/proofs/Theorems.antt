@@ -16,7 +16,7 @@ use lib.ListN.{length, getD}
 use Rattle.alf.specs.declared.Outcome.{Outcome}
 use Rattle.alf.specs.declared.Outcome.the-variants as Outcome
 use Rattle.alf.specs.Refusals.{Order, RefusedWith, Passed, Comes}
-use Rattle.names.proofs.Unique.{AllFixed, at-fixed, first-fixed, refused-passed, refused-unique, comes-unique}
+use Rattle.alf.proofs.Outcomes.{AllFixed, at-fixed, first-fixed, refused-passed, refused-unique, comes-unique}
 use Rattle.traces.specs.declared.Reading.{Reading}
 use Rattle.traces.specs.declared.Reading.the-variants.{Read, Refused}
 use Rattle.traces.specs.Format.{fileOf, count, Trace}
