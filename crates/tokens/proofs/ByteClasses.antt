@@ -2,7 +2,6 @@
 --   of-range, of-keys   what `class_of` answers in an arm of ranges and in an arm of single numbers
 --   blank-class         a class tells whether its bytes are blanks
 --   name-byte-class     and whether they go on a name
---   kind-class          and how a token begins with them: with a name, with a based half, or as it is spelled
 -- Assumes nothing.
 use mathlib.Core.Path.{_≡_, refl, sym, ap, _∙_}
 use mathlib.Core.Bool.{Bool, true, false, _||_}

@@ -1,12 +1,14 @@
--- The laws of tokens.
+-- The laws of tokens, from bytes up to texts; Theorems names what the crate stands for.
 mod Ranges
 mod ByteClasses
+mod Bytes
 mod Lists
+-- one step as the code goes
 mod Halves
 mod Words
 mod Table
 mod Ways
-mod Bytes
+-- one step as document 01 says
 mod Search
 mod Shapes
 mod Codes
@@ -15,6 +17,7 @@ mod RightName
 mod RightBased
 mod RightPlain
 mod Taking
+-- the whole text
 mod TextLaws
 mod Filling
 mod Scanning
@@ -23,3 +26,4 @@ mod Places
 mod Orders
 mod ReadingLaws
 mod Handing
+mod Theorems

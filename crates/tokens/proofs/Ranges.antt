@@ -68,8 +68,8 @@ key-one-of (k ∷ (j ∷ ks)) b e = go (or-case (eqb b k) (key (j ∷ ks) b) e) 
     go (inl h) f = inl (eqb-true b k h)
     go (inr h) f = inr (f h)
 
--- What a match knows in an arm of ranges, and in its last arm: the byte is none of the single numbers of the other
--- arms.
+-- What a match knows in an arm of ranges, and in its last arm: the byte is none of the other
+-- arms' single numbers.
 abbrev pub Rest : List (List ℕ) → Type 0 → ℕ → Type 0
 Rest [] before b = before
 Rest (ks ∷ kss) before b = Rest kss (before × (OneOf ks b → ⊥)) b

@@ -1,5 +1,5 @@
--- The step at a `'` is right: a based literal, an edge of two, or the bad half. Main name: right-based. Assumes
--- nothing.
+-- The step at a `'` is right: a based literal, an edge of two, or the bad half. Main name: right-based.
+-- Assumes nothing.
 use mathlib.Core.Path.{_≡_, refl, sym, ap, _∙_}
 use mathlib.Core.Bool.{Bool, true, false, not}
 use mathlib.Core.Logic.{_⊎_, inl, inr}

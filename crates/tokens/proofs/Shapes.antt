@@ -1,7 +1,7 @@
 -- What a token at the start of bs tells of bs, and how long it is.
 --   token-size     a token has a byte
 --   shape          a name, a based literal or edge, an unbased edge, or one of the spellings
---   token-unique   a token has one code
+--   entry-good     what every spelling has
 -- Assumes nothing.
 use mathlib.Core.Path.{_≡_, refl}
 use mathlib.Core.Bool.{Bool, true, false, not, _&&_, _||_}

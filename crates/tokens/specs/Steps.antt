@@ -1,6 +1,5 @@
 -- One token step as a computation: what stands at the start of bs, as a code and a number of bytes, or `none` and how
--- far
--- on the byte refused is. That this is the token taken, or the place where none is, is shown in proofs/Steps.antt.
+-- far on the byte refused is. That this is the token taken, or the place where none is, is shown in proofs/Taking.antt.
 use Prim.Native.Nat.{ℕ, _+_}
 use mathlib.Core.Bool.{Bool, true, false, _&&_}
 use mathlib.Core.List.{List, [], _∷_}

@@ -1,5 +1,5 @@
--- `class_of` puts each byte in its class: a computed test of each arm's range, or of its single numbers. Assumes
--- nothing.
+-- `class_of` puts each byte in its class: a computed test of each arm's range, or of its single numbers.
+-- Assumes nothing.
 use native.Mathlib.Omega.{arith}
 use mathlib.Core.Path.{refl}
 use mathlib.Core.List.{List, [], _∷_}

@@ -1,6 +1,5 @@
 -- `first_over` gives the first token that goes over the limit. The invariant: those passed do not, and the search in
--- the
--- rest is the search in all. Assumes nothing.
+-- the rest is the search in all. Assumes nothing.
 use borrow.Author.Needs.{needs}
 use native.Mathlib.Omega.{arith}
 use mathlib.Core.Path.{_≡_}

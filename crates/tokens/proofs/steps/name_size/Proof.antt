@@ -1,6 +1,5 @@
--- `name_size` counts the name bytes that stand together. The invariant: what was passed and what is left make the
--- count.
--- Assumes nothing.
+-- `name_size` counts the name bytes that stand together. The invariant: what was passed and
+-- what is left make the count. Assumes nothing.
 use borrow.Author.Needs.{needs}
 use borrow.Author.Tests.{not-true, not-false}
 use native.Mathlib.Omega.{arith}
