@@ -6,3 +6,5 @@ pub mod Walking
 pub mod Written
 pub mod Filling
 pub mod Agreement
+pub mod Unique
+pub mod Theorems

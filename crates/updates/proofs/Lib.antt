@@ -8,3 +8,5 @@ pub mod CorrectionTheorems
 pub mod Keeping
 pub mod LastRows
 pub mod QueueTheorems
+pub mod Unique
+pub mod Theorems

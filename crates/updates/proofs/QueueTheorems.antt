@@ -2,6 +2,7 @@
 -- alternatives, for any feed of any length.
 --   keeps              before push i the queue keeps the last K of the i rows fed, or all
 --   queue-answers      push i's answer and number tried are row i's
+--   queue-windows      of a vector expression, push i's answer is the greatest over the windows that end at row i
 -- Assumes nothing.
 use mathlib.Core.Path.{_≡_, ap, sym, _∙_, fun-ext}
 use mathlib.Core.List.{List, [], _∷_}
@@ -12,13 +13,15 @@ use native.Mathlib.Omega.{arith}
 use lib.ListN.{length, take, drop}
 use lib.Seq.{drop-nil}
 use Rattle.alf.specs.declared.Answer.{Answer}
-use Rattle.alf.specs.Expressions.{Boolean}
+use Rattle.alf.specs.Expressions.{Boolean, Vector}
+use Rattle.alf.specs.Windows.{rowAnswer}
 use Rattle.alf.specs.Values.{state, rowOf, stateAt}
-use Rattle.alf.specs.Alternatives.{Test, test, Alternative}
+use Rattle.alf.specs.Alternatives.{Test, test, Alternative, alternatives}
 use Rattle.alf.proofs.Lists.{All, none, more}
 use Rattle.alf.proofs.Conditions.{AsksTest, Asks}
 use Rattle.alf.proofs.Nearness.{Near, answers-near, tries-near}
 use Rattle.matcher.specs.Answers.{Matches}
+use Rattle.matcher.proofs.Agreement.{matches-windows}
 use Rattle.updates.specs.declared.queues.Queue.{Queue}
 use Rattle.updates.specs.Corrections.{longestOf}
 use Rattle.updates.specs.Queues.{heldOf, traceOf, lastRows, stored, fed, Feed}
@@ -114,3 +117,8 @@ module _ {names : ℕ} {xs : List Alternative} {n : ℕ} {rows : ℕ → List �
             p .matched .count
             ∙ tries-near Anything _ _ K (queues i .kept .0) i xs some (near i l k) (any-asks xs) (longest-within xs);
       }
+
+  -- so, where the alternatives are those of a vector expression, it is the answer on windows
+  pub queue-windows : (p : Vector) → xs ≡ alternatives p → 0 < K → (i : ℕ) → i < n
+      → answers i ≡ rowAnswer (stateAt names (fed rows (suc i))) p i
+  queue-windows p same some i l = matches-windows (stateAt names (fed rows (suc i))) p same (queue-answers some i l)

@@ -1,0 +1,8 @@
+-- What the matcher's contracts come to, by name, so that none can go missing.
+
+-- a row's answer, and the totals, are those of the expression on windows; yes, no and unknown together are n-1
+pub use Rattle.matcher.proofs.Agreement.{matches-windows, totals-windows, totals-together}
+-- two results that a contract allows coincide
+pub use Rattle.matcher.proofs.Unique.{matches-unique, filled-unique, totals-unique}
+-- of a list that is written anew: what is written, and what stays
+pub use Rattle.matcher.proofs.Written.{written-length, written-inside, written-before, written-after}
