@@ -23,7 +23,6 @@ mod Filling
 mod Scanning
 mod Counts
 mod Places
-mod Orders
 mod ReadingLaws
 mod Handing
 mod Theorems

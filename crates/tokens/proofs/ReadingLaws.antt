@@ -13,6 +13,7 @@ use lib.Dec.{ltb}
 use lib.ListN.{length, getD}
 use borrow.Author.Tests.{ltb-true, ltb-false}
 use Rattle.alf.specs.Refusals.{Row, First, Never, check, RefusedWith, Passed, too-long, no-token}
+use Rattle.alf.proofs.Outcomes.{Fixed, AllFixed, at-fixed, first-fixed, refused-unique, refused-passed}
 use Rattle.tokens.specs.declared.Tokens.{Tokens}
 use Rattle.tokens.specs.Texts.{Token, Reads, Stuck, running, opened, counted, OfTokens, deep, many, order}
 use Rattle.tokens.specs.Reading.{codesOf, placesOf, made, refusedWith, Reading}
@@ -20,26 +21,25 @@ use Rattle.tokens.specs.Reading.Reading.{refused, read}
 use Rattle.tokens.specs.Inner.{overAt}
 use Rattle.tokens.proofs.TextLaws.{reads-unique, stuck-unique, reads-not-stuck, reads-or-stuck, Outcome}
 use Rattle.tokens.proofs.Places.{reads-rising, over-first, over-none}
-use Rattle.tokens.proofs.Orders.{Fixes, AllFix, at-unique, first-unique, refused-unique, refused-not-passed}
 
 -- each row fixes its place
 of-tokens-fixes :
     (text : List ℕ) (row : List Token → Row) →
-    ((ts : List Token) → Fixes (row ts)) →
-    Fixes (OfTokens text row)
+    ((ts : List Token) → Fixed (row ts)) →
+    Fixed (OfTokens text row)
 of-tokens-fixes text row f p q a b =
     f (a .tokens) p q (a .holds) (rw (reads-unique (a .read) (b .read)) (b .holds))
 
-order-fixes : (text : List ℕ) → AllFix (order text)
+order-fixes : (text : List ℕ) → AllFixed (order text)
 unfolding order
 order-fixes text = (
-  λ p q. at-unique,
+  at-fixed _ _,
   (
-    λ p q. first-unique,
+    first-fixed _,
     (
-      of-tokens-fixes text deep (λ ts p q. first-unique),
+      of-tokens-fixes text deep (λ ts. first-fixed _),
       (
-        of-tokens-fixes text many (λ ts p q. first-unique),
+        of-tokens-fixes text many (λ ts. first-fixed _),
         tt,
       ),
     ),
@@ -49,8 +49,8 @@ order-fixes text = (
 pub reading-unique : {text : List ℕ} {r s : Tokens} → Reading text r → Reading text s → r ≡ s
 reading-unique {text} (refused n p a) (refused m q b) =
     let e = refused-unique (order text) (order-fixes text) a b in rw (e .0, e .1)
-reading-unique {text} (refused n p a) (read b c) = absurd (refused-not-passed (order text) n p a b)
-reading-unique {text} (read a b) (refused n p c) = absurd (refused-not-passed (order text) n p c a)
+reading-unique {text} (refused n p a) (read b c) = absurd (refused-passed (order text) n p b a)
+reading-unique {text} (read a b) (refused n p c) = absurd (refused-passed (order text) n p a c)
 reading-unique (read a b) (read c d) = ap made (reads-unique b d)
 
 pub read-long : (text : List ℕ) → 4096 < length text → Reading text (refusedWith 1 4096)
