@@ -104,7 +104,9 @@ two-brackets : (ts us : List Token) (t : Token) →
 two-brackets ts us t = omega (arith, brackets-append ts (t ∷ us), brackets-next t us)
 
 pub written-fewest :
-    {l : ℕ} {ts rest : List Token} {e : Tree} → Parses l ts e rest → brackets (written l e) + brackets rest ≤ brackets ts
+    {l : ℕ} {ts rest : List Token} {e : Tree} →
+    Parses l ts e rest →
+    brackets (written l e) + brackets rest ≤ brackets ts
 written-fewest (alone {t = t} {ts = ts} k) =
     rw (written-leaf 1 t) (omega (arith, brackets-next t [], brackets-next t ts, brackets-none))
 written-fewest (applied {t = t} {ts = ts} {a = a} k p) =

@@ -1,6 +1,14 @@
-mod Table
+-- The laws. To cite: Unique and Total (a text has one tree or one place of refusal, and never both), Outcome (what
+-- `parse` answers, both ways), RowFive (refusal 5 by places), Written and Fewest (a tree's text). The rest leads there.
+pub mod Table
+pub mod Unique
+pub mod Total
+pub mod Outcome
+pub mod RowFive
+pub mod Written
+pub mod Fewest
+pub mod Examples
 mod Shunting
-mod Unique
 mod Counting
 mod Goes
 mod Refusals
@@ -12,7 +20,3 @@ mod Steps
 mod Runs
 mod Padding
 mod Finish
-mod Outcome
-mod RowFive
-mod Written
-mod Fewest

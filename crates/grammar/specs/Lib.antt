@@ -1,5 +1,5 @@
--- The grammar of document 01, and what the parser promises. Tokens and Grammar are what must be believed, with
--- Answers, the contract of `parse`, and Written, the text of a tree; Stops, Views and Inner are for the functions inside.
+-- The grammar of document 01, and what the parser promises. What must be believed: Tokens and Grammar, then Answers,
+-- the contract of `parse`, and Written, a tree's text. Stops, Views and Inner are for the functions inside.
 pub mod Tokens
 pub mod Grammar
 pub mod Answers

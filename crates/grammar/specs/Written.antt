@@ -1,5 +1,5 @@
--- Document 01, "Writing out": a tree's tokens with only needed brackets, and which trees there are. That they parse back
--- to the tree, and that no text of the tree has fewer brackets, is shown in proofs/Written.antt.
+-- Document 01, "Writing out": a tree's tokens with only needed brackets, and which trees there are. That they parse
+-- back to the tree is shown in proofs/Written.antt, that no text of it has fewer brackets in proofs/Fewest.antt.
 use Prim.Native.Nat.{ℕ, suc, pred, _+_}
 use mathlib.Core.Path.{_≡_}
 use mathlib.Core.List.{List, [], _∷_, _++_}
