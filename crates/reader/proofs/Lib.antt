@@ -1,0 +1,7 @@
+-- The laws of this crate, in files named after what they are about.
+pub mod Names
+pub mod Codes
+pub mod Runs
+pub mod Stacks
+pub mod Takes
+pub mod Operators

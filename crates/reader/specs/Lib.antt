@@ -1,0 +1,4 @@
+-- What reading an expression means, from the tokens on: the names, the sorts, the whole call.
+pub mod Lookup
+pub mod Sorts
+pub mod Passes
