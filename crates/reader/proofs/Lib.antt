@@ -5,3 +5,4 @@ pub mod Runs
 pub mod Stacks
 pub mod Takes
 pub mod Operators
+pub mod Listing

@@ -11,14 +11,14 @@ use Prim.Native.Nat.{ℕ, zero, suc, _+_, _-_, _*_, _/_, _≤_, _<_}
 use native.Mathlib.Omega.{arith}
 use lib.Dec.{eqb}
 use lib.ListN.{length, take, drop, length-drop}
-use borrow.Author.Tests.{eqb-true, eq-eqb}
+use borrow.Author.Tests.{eqb-true, eq-eqb, ne-eqb}
 use Rattle.alf.specs.Words.{if_then_else_}
 use Rattle.alf.specs.Names.{nameAt, slot, untilZero, goesOnName}
 use Rattle.alf.proofs.Bools.{never, and-left, and-right}
 use Rattle.names.specs.Check.{Tells, holds, fails, NameLength}
 use Rattle.names.proofs.Slots.{told, slot-part}
 use Rattle.tokens.specs.Taking.{nameBytes}
-use Rattle.reader.specs.Lookup.{word, countOf, same, first, numberOf, numberAt}
+use Rattle.reader.specs.Lookup.{word, countOf, same, first, numberOf, numberAt, isUnknown}
 
 pub first-here :
     (n : ℕ) (p : ℕ → Bool) (k : ℕ) → k < n → p k ≡ true → ((j : ℕ) → j < k → p j ≡ false) → k ≡ first n p
@@ -166,3 +166,16 @@ name-bytes-fit (b ∷ bs) = go (goesOnName b) (name-bytes-fit bs)
 
 pub word-fits : (text : List ℕ) (at : ℕ) → at ≤ length text → at + nameBytes (drop at text) ≤ length text
 word-fits text at h = omega (arith, name-bytes-fit (drop at text), length-drop at text)
+
+-- the tests of `is_unknown`
+pub unknown-other : (names text : List ℕ) (c p : ℕ) → (c ≡ 0 → ⊥) → false ≡ isUnknown names text c p
+unfolding isUnknown
+unknown-other names text c p n = rw (ne-eqb c 0 n)
+
+pub unknown-name : (names text : List ℕ) (c p : ℕ) {k : ℕ} → c ≡ 0 → k ≡ numberAt names text p
+    → eqb k (countOf names) ≡ isUnknown names text c p
+unfolding isUnknown
+unknown-name names text c p e f = rw (eq-eqb c 0 e, f)
+
+pub number-small : (names text : List ℕ) (p : ℕ) → numberAt names text p ≤ countOf names
+number-small names text p = number-found names (word text p) .within

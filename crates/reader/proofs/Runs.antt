@@ -27,7 +27,7 @@ module _ (number : ℕ → ℕ) where
   run-stopped [] p = refl
   run-stopped (t ∷ ts) p = run-stopped ts p
 
-  run-last : (ts : List Token) (t : Token) (v : Run) → run number (ts ++ (t ∷ [])) v ≡ stepped number t (run number ts v)
+  pub run-last : (ts : List Token) (t : Token) (v : Run) → run number (ts ++ (t ∷ [])) v ≡ stepped number t (run number ts v)
   unfolding run
   run-last ts t v = run-append ts (t ∷ []) v
 

@@ -16,7 +16,7 @@ use Rattle.alf.specs.Bytes.{bytesOf}
 use Rattle.grammar.specs.Answers.{padded}
 use Rattle.reader.specs.declared.sorts.Sorting.{Sorting}
 use Rattle.reader.specs.Passes.{Run, going, stopped, isVector, sortsOf, stackBytes, Shows, goes, stops, Fine, Moved}
-use Rattle.reader.specs.Passes.{sortAt, Room, Put, Halted}
+use Rattle.reader.specs.Passes.{sortAt, Room, Put, Halted, Started}
 
 pub padded-set : (xs : List ℕ) (v : ℕ) → length xs < 256 → set (padded xs) (length xs) v ≡ padded (xs ++ (v ∷ []))
 unfolding padded
@@ -112,6 +112,25 @@ module _ (s : Sorting) (down : ℕ) (v : Bool) (b : ℕ) (room : Room s down) wh
           bytesOf z ≡ stackBytes ys ++ (b ∷ []) →
           Shows after (going (z ∷ xs))
       take-apart ys xs z n (goes o d k l t) sv bz = put-shows ys xs z n d k l t sv bz
+
+-- before the first node
+pub started :
+    Started
+    (record {
+      ok = true;
+      place = 0;
+      depth = 0;
+      len = 0;
+      sorts = replicate 256 false;
+      tree = replicate 256 0;
+    })
+unfolding sortsOf stackBytes padded
+started =
+    record {
+      fine = record { sorts-whole = refl; tree-whole = refl; deep = omega arith; small = omega arith };
+      none = refl;
+      shows = goes {xs = []} refl refl refl refl refl;
+    }
 
 -- the sort k places below the last made
 stack-sort : (xs : List Expression) (k : ℕ) (d : Expression) → k < length xs →

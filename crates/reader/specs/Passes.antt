@@ -11,8 +11,9 @@ use Rattle.alf.specs.Names.{between}
 use Rattle.alf.specs.Expressions.{Boolean, Vector, Expression, boolean, vector}
 use Rattle.alf.specs.Bytes.{bytesOf}
 use Rattle.grammar.specs.declared.Token.{Token}
-use Rattle.grammar.specs.Answers.{padded}
+use Rattle.grammar.specs.Answers.{padded, handed}
 use Rattle.reader.specs.declared.sorts.Sorting.{Sorting}
+use Rattle.reader.specs.Lookup.{countOf, numberAt}
 use Rattle.reader.specs.Sorts.{Sorted, is, faulty, atom, ofOne, ofTwo, ofThree}
 
 -- a run goes on with some expressions, the last made first; or it stopped at a place
@@ -160,3 +161,30 @@ pub record Halted (place : ℕ) (s r : Sorting) : Type 0 where
   pub moved : Moved s r
   pub stopped-is : r .ok ≡ false
   pub place-is : r .place ≡ place
+
+-- the lookup of a name at a place: inside the text, and with numbers that are bytes
+pub record Named (names text : List ℕ) (place : ℕ) : Type 0 where
+  pub few : countOf names ≤ 32
+  pub inside : place ≤ length text
+
+-- some tokens of a text
+pub record Listed (text codes places : List ℕ) (count : ℕ) : Type 0 where
+  pub codes-hold : count ≤ length codes
+  pub places-hold : count ≤ length places
+  pub inside : (i : ℕ) → i < count → getD places i 0 ≤ length text
+
+-- the nodes of a tree of a text
+pub record Handed (names text codes places : List ℕ) (len : ℕ) : Type 0 where
+  pub few : countOf names ≤ 32
+  pub short : len ≤ 256
+  pub listed : Listed text codes places len
+  pub known : (i : ℕ) → i < len → isNode (getD codes i 0) ≡ true
+
+pub record Started (r : Sorting) : Type 0 where
+  pub fine : Fine r
+  pub none : r .len ≡ 0
+  pub shows : Shows r (going [])
+
+pub record Passed (names text codes places : List ℕ) (len : ℕ) (r : Sorting) : Type 0 where
+  pub fine : Fine r
+  pub shows : Shows r (run (numberAt names text) (handed codes places len) (going []))

@@ -8,7 +8,8 @@ ghost use lib.ListN.{length, drop};
 ghost use Rattle.alf.specs.Names.{untilZero};
 ghost use Rattle.names.specs.Check.{Tells};
 ghost use Rattle.tokens.specs.Taking.{nameBytes};
-ghost use Rattle.reader.specs.Lookup.{numberAt};
+ghost use Rattle.reader.specs.Lookup.{numberAt, isUnknown, unknownAt};
+ghost use Rattle.reader.specs.Passes.{Listed};
 
 // Where the name bytes that stand together from `at` on end.
 fn name_end(text: &[u8], at: usize) -> usize
@@ -50,4 +51,32 @@ pub fn slot_of(names: &[u8], text: &[u8], at: usize) -> usize
         k += 1;
     }
     k
+}
+
+// Whether a token is a name that no slot holds.
+fn is_unknown(names: &[u8], text: &[u8], code: u8, place: usize) -> bool
+    requires { ⌜ place ≤ length (now text) ⌝ }
+    ensures { λ r. ⌜ r ≡ isUnknown (now (names .entry)) (now (text .entry)) code place ⌝ }
+{
+    if code != 0 {
+        return false;
+    }
+    slot_of(names, text, place) == names.len() / 32
+}
+
+// The first of `count` tokens that is a name that no slot holds; `count` where none is.
+pub fn first_unknown(names: &[u8], text: &[u8], codes: &[u8], places: &[u16], count: usize) -> usize
+    requires { ⌜ Listed (now text) (now codes) (now places) count ⌝ }
+    ensures { λ r. ⌜ r ≡ unknownAt (now (names .entry)) (now (text .entry)) (now (codes .entry)) (now (places .entry)) count ⌝ }
+{
+    let mut i = 0;
+    while i < count {
+        let code = codes[i];
+        let place = places[i] as usize;
+        if is_unknown(names, text, code, place) {
+            return i;
+        }
+        i += 1;
+    }
+    i
 }

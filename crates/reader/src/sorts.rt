@@ -1,8 +1,11 @@
 // Refusal 7: the sorts of a tree's nodes, operands before their operator, on a stack; and the bytes of its expression.
+use crate::lookup::slot_of;
 ghost use mathlib.Core.Path.{_≡_};
 ghost use mathlib.Core.Bool.{_||_};
 ghost use Rattle.reader.specs.Passes.{Fine, Deep, sortAt, Room, Put, Halted, Ready, Took, takesOne, takesTwo};
-ghost use Rattle.reader.specs.Passes.{takesThree, pairByte, Asked, Stepped};
+ghost use Rattle.reader.specs.Passes.{takesThree, pairByte, leafByte, Asked, Stepped};
+ghost use Rattle.reader.specs.Passes.{Named, Handed, Started, Passed};
+ghost use Rattle.reader.specs.Lookup.{numberAt};
 
 // Where the pass is: whether it goes on, or the place where it stopped; the sorts of `depth` expressions, true for a
 // vector; `len` bytes.
@@ -159,4 +162,48 @@ fn step(s: Sorting, code: u8, place: usize, byte: u8) -> Sorting
         return take_three(s, code, place);
     }
     take_one(s, code, place)
+}
+
+// The byte of a name or literal: a name's is its slot's number.
+fn leaf_byte(names: &[u8], text: &[u8], code: u8, place: usize) -> u8
+    requires { ⌜ Named (now names) (now text) place ⌝ }
+    ensures { λ r. ⌜ r ≡ leafByte (numberAt (now (names .entry)) (now (text .entry))) (record { code = code; place = place }) ⌝ }
+{
+    if code == 0 {
+        return slot_of(names, text, place) as u8;
+    }
+    code
+}
+
+// Before the first node.
+fn start() -> Sorting
+    ensures { λ r. ⌜ Started r ⌝ }
+{
+    let sorts = [false; 256];
+    let tree = [0u8; 256];
+    Sorting {
+        ok: true,
+        place: 0,
+        depth: 0,
+        len: 0,
+        sorts,
+        tree,
+    }
+}
+
+// The pass over the nodes of a tree.
+pub fn sort_nodes(names: &[u8], text: &[u8], codes: &[u8], places: &[u16], len: usize) -> Sorting
+    requires { ⌜ Handed (now names) (now text) (now codes) (now places) len ⌝ }
+    ensures { λ r. ⌜ Passed (now (names .entry)) (now (text .entry)) (now (codes .entry)) (now (places .entry)) len r ⌝ }
+{
+    let mut s = start();
+    let mut i = 0;
+    while i < len {
+        let code = codes[i];
+        let place = places[i] as usize;
+        let byte = leaf_byte(names, text, code, place);
+        s = step(s, code, place, byte);
+        i += 1;
+    }
+    s
 }
