@@ -14,6 +14,7 @@ use Rattle.alf.specs.Words.{if_then_else_, all}
 use Rattle.alf.specs.Names.{between}
 use Rattle.alf.proofs.Bools.{never, and-left, and-right, below?}
 use Rattle.alf.proofs.Choices.{every, every-at}
+use Rattle.alf.proofs.Lists.{All, none, more, all-append}
 use Rattle.grammar.specs.declared.Token.{Token}
 use Rattle.grammar.specs.Tokens.{Kind, operand, prefix, question, colon, opening, closing, other, binary, Span}
 use Rattle.grammar.specs.Tokens.{table, kindIn, kind, kindOf}
@@ -50,7 +51,7 @@ code-near : every 148 (λ c. agrees (kind c) c) ≡ true
 unfolding every agrees kind kindIn table isNode
 code-near = refl
 
-code-far : (c : ℕ) → 148 ≤ c → kind c ≡ other
+pub code-far : (c : ℕ) → 148 ≤ c → kind c ≡ other
 unfolding kind table all
 code-far c l = kind-far table c refl l
 
@@ -139,20 +140,15 @@ node-one c k = go (below? c 148)
     go (inr h) = never (sym (node-far c h) ∙ k)
 
 -- each node of a tree has the code of a node
-pub data Nodes : List Token → Type 0 where
-  none : Nodes []
-  more : {t : Token} {ts : List Token} → isNode (t .code) ≡ true → Nodes ts → Nodes (t ∷ ts)
-
-nodes-append : {ts us : List Token} → Nodes ts → Nodes us → Nodes (ts ++ us)
-nodes-append none k = k
-nodes-append (more h l) k = more h (nodes-append l k)
+abbrev pub Nodes : List Token → Type 0
+Nodes ts = All (λ (t : Token). isNode (t .code) ≡ true) ts
 
 pub formed-nodes : {e : Tree} → Formed e → Nodes (nodes e)
 unfolding nodes
 formed-nodes (leaf-is k) = more (operand-code _ k .node) none
-formed-nodes (one-is k p) = nodes-append (formed-nodes p) (more (prefix-code _ k .0) none)
+formed-nodes (one-is k p) = all-append (formed-nodes p) (more (prefix-code _ k .0) none)
 formed-nodes (two-is k p q) =
-    nodes-append (nodes-append (formed-nodes p) (formed-nodes q)) (more (binary-code _ _ k .node) none)
+    all-append (all-append (formed-nodes p) (formed-nodes q)) (more (binary-code _ _ k .node) none)
 formed-nodes (three-is k o p q) =
-    nodes-append (nodes-append (nodes-append (formed-nodes o) (formed-nodes p)) (formed-nodes q))
+    all-append (all-append (all-append (formed-nodes o) (formed-nodes p)) (formed-nodes q))
     (more (question-code _ k .node) none)

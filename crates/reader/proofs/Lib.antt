@@ -6,3 +6,5 @@ pub mod Stacks
 pub mod Takes
 pub mod Operators
 pub mod Listing
+pub mod Trees
+pub mod Texts

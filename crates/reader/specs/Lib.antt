@@ -2,3 +2,5 @@
 pub mod Lookup
 pub mod Sorts
 pub mod Passes
+pub mod Reads
+pub mod Texts
