@@ -8,3 +8,8 @@ pub mod Operators
 pub mod Listing
 pub mod Trees
 pub mod Texts
+pub mod Faults
+pub mod Orders
+pub mod Unknowns
+pub mod Readings
+pub mod Whole

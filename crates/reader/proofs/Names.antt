@@ -179,3 +179,10 @@ unknown-name names text c p e f = rw (eq-eqb c 0 e, f)
 
 pub number-small : (names text : List ℕ) (p : ℕ) → numberAt names text p ≤ countOf names
 number-small names text p = number-found names (word text p) .within
+
+-- two tests that say the same find the same
+pub first-same : (n : ℕ) (p q : ℕ → Bool) → ((i : ℕ) → i < n → p i ≡ q i) → first n p ≡ first n q
+unfolding first
+first-same zero p q h = refl
+first-same (suc n) p q h =
+    rw (h 0 (omega arith), first-same n (λ k. p (suc k)) (λ k. q (suc k)) (λ i l. h (suc i) (omega arith))) refl

@@ -4,3 +4,5 @@ pub mod Sorts
 pub mod Passes
 pub mod Reads
 pub mod Texts
+pub mod Reading
+pub mod Whole
