@@ -1,28 +1,28 @@
 -- The laws of tokens, from bytes up to texts; Theorems names what the crate stands for.
-mod Ranges
-mod ByteClasses
-mod Bytes
-mod Lists
+pub mod Ranges
+pub mod ByteClasses
+pub mod Bytes
+pub mod Lists
 -- one step as the code goes
-mod Halves
-mod Words
-mod Table
-mod Ways
+pub mod Halves
+pub mod Words
+pub mod Table
+pub mod Ways
 -- one step as document 01 says
-mod Search
-mod Shapes
-mod Codes
-mod Right
-mod RightName
-mod RightBased
-mod RightPlain
-mod Taking
+pub mod Search
+pub mod Shapes
+pub mod Codes
+pub mod Right
+pub mod RightName
+pub mod RightBased
+pub mod RightPlain
+pub mod Taking
 -- the whole text
-mod TextLaws
-mod Filling
-mod Scanning
-mod Counts
-mod Places
-mod ReadingLaws
-mod Handing
-mod Theorems
+pub mod TextLaws
+pub mod Filling
+pub mod Scanning
+pub mod Counts
+pub mod Places
+pub mod ReadingLaws
+pub mod Handing
+pub mod Theorems

@@ -1,0 +1,28 @@
+-- Laws of a call's order that is put together of two: refused by the first, or by the second once the first is passed.
+-- Main names: refused-first, refused-then, passed-both, fixed-both. Assumes nothing.
+use mathlib.Core.Path.{_≡_}
+use mathlib.Core.List.{List, [], _∷_, _++_}
+use mathlib.Core.Logic.{_⊎_, inl, inr}
+use Prim.Native.Nat.{ℕ}
+use Rattle.alf.specs.Refusals.{Order, RefusedWith, Passed}
+use Rattle.alf.proofs.Outcomes.{Fixed}
+
+pub refused-first : (o o′ : Order) (n p : ℕ) → RefusedWith o n p → RefusedWith (o ++ o′) n p
+unfolding RefusedWith
+refused-first [] o′ n p r = absurd r
+refused-first (c ∷ o) o′ n p (inl r) = inl r
+refused-first (c ∷ o) o′ n p (inr r) = inr (r .0, refused-first o o′ n p (r .1))
+
+pub refused-then : (o o′ : Order) (n p : ℕ) → Passed o → RefusedWith o′ n p → RefusedWith (o ++ o′) n p
+unfolding RefusedWith Passed
+refused-then [] o′ n p h r = r
+refused-then (c ∷ o) o′ n p h r = inr (h .0, refused-then o o′ n p (h .1) r)
+
+pub passed-both : (o o′ : Order) → Passed o → Passed o′ → Passed (o ++ o′)
+unfolding Passed
+passed-both [] o′ h k = k
+passed-both (c ∷ o) o′ h k = (h .0, passed-both o o′ (h .1) k)
+
+pub fixed-both : (o o′ : Order) → Fixed o → Fixed o′ → Fixed (o ++ o′)
+fixed-both [] o′ h k = k
+fixed-both (c ∷ o) o′ h k = (h .0, fixed-both o o′ (h .1) k)

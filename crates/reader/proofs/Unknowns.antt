@@ -1,0 +1,119 @@
+-- Row 6 of the table: the first token that is an unknown name, by its index and by its byte.
+--   unknown-here    where the search ends at a token, the row is given at its byte
+--   unknown-never   where it ends at none, the row is given nowhere
+-- Assumes nothing.
+use mathlib.Core.Path.{_≡_, refl, sym, ap, subst, _∙_}
+use mathlib.Core.Bool.{Bool, true, false, _&&_}
+use mathlib.Core.List.{List, [], _∷_, _++_}
+use mathlib.Core.Logic.{_⊎_, inl, inr}
+use Prim.Native.Nat.{ℕ, zero, suc, _+_, _≤_, _<_}
+use native.Mathlib.Omega.{arith}
+use lib.Dec.{eqb}
+use lib.ListN.{length, getD}
+use borrow.Author.Tests.{eqb-true, eqb-false, eq-eqb}
+use Rattle.alf.specs.Names.{nameAt}
+use Rattle.alf.specs.Refusals.{First}
+use Rattle.alf.proofs.Bools.{never, and-left, and-right, below?}
+use Rattle.tokens.specs.Texts.{Token, tokenAt}
+use Rattle.tokens.specs.Reading.{codesOf, placesOf}
+use Rattle.tokens.proofs.Places.{Rising}
+use Rattle.reader.specs.Lookup.{word, countOf, numberAt, isUnknown, first, unknownAt}
+use Rattle.reader.specs.Reading.{Stands, here, there, Unknown, unknown}
+use Rattle.reader.proofs.Names.{number-found, first-passes, first-before, first-bound}
+
+-- a name by its index
+token-is : (t : Token) → t .code ≡ 0 → tokenAt 0 (t .place) ≡ t
+token-is t e = λ i. record { code = sym e i; place = t .place }
+
+at-head : (t : Token) (ts : List Token) → t .code ≡ 0 → Stands (t .place) (t ∷ ts)
+at-head t ts e = subst (λ (u : Token). Stands (t .place) (u ∷ ts)) (token-is t e) here
+
+stands-at : (ts : List Token) (i : ℕ) → i < length ts → getD (codesOf ts) i 0 ≡ 0 → Stands (getD (placesOf ts) i 0) ts
+unfolding codesOf placesOf
+stands-at [] i h e = absurd (omega arith)
+stands-at (t ∷ ts) zero h e = at-head t ts e
+stands-at (t ∷ ts) (suc i) h e = there (stands-at ts i (omega arith) e)
+
+record Indexed (ts : List Token) (p : ℕ) : Type 0 where
+  index : ℕ
+  within : index < length ts
+  code : getD (codesOf ts) index 0 ≡ 0
+  place : getD (placesOf ts) index 0 ≡ p
+
+indexed : {p : ℕ} {ts : List Token} → Stands p ts → Indexed ts p
+unfolding codesOf placesOf
+indexed here = record { index = 0; within = omega arith; code = refl; place = refl }
+indexed (there s) =
+    let r = indexed s in
+    let w = r .within in
+    record { index = suc (r .index); within = omega arith; code = r .code; place = r .place }
+
+-- places rise
+rising-from : (ts : List Token) (lo k : ℕ) → Rising lo ts → k < length ts → lo ≤ getD (placesOf ts) k 0
+unfolding placesOf
+rising-from [] lo k r h = absurd (omega arith)
+rising-from (t ∷ ts) lo zero r h = r .0
+rising-from (t ∷ ts) lo (suc k) r h =
+    let j = rising-from ts (suc (t .place)) k (r .1) (omega arith) in let i = r .0 in omega arith
+
+rising-le :
+    (ts : List Token) (lo i j : ℕ) → Rising lo ts → i ≤ j → j < length ts → getD (placesOf ts) i 0 ≤ getD (placesOf ts) j 0
+unfolding placesOf
+rising-le [] lo i j r l h = absurd (omega arith)
+rising-le (t ∷ ts) lo zero zero r l h = omega arith
+rising-le (t ∷ ts) lo zero (suc j) r l h =
+    let k = rising-from ts (suc (t .place)) j (r .1) (omega arith) in omega arith
+rising-le (t ∷ ts) lo (suc i) zero r l h = absurd (omega arith)
+rising-le (t ∷ ts) lo (suc i) (suc j) r l h = rising-le ts (suc (t .place)) i j (r .1) (omega arith) (omega arith)
+
+module _ (names text : List ℕ) where
+  -- what the test says
+  test-missing :
+      (c p : ℕ) → isUnknown names text c p ≡ true → (c ≡ 0) × ((k : ℕ) → k < countOf names → nameAt names k ≡ word text p → ⊥)
+  unfolding isUnknown
+  test-missing c p e =
+      let n : numberAt names text p ≡ countOf names = eqb-true _ _ (and-right (eqb c 0) _ e) in (
+        eqb-true c 0 (and-left (eqb c 0) _ e),
+        λ k l f. number-found names (word text p) .before k (omega (arith, n)) f,
+      )
+
+  test-there : (p : ℕ) → isUnknown names text 0 p ≡ false → ((k : ℕ) → k < countOf names → nameAt names k ≡ word text p → ⊥) → ⊥
+  unfolding isUnknown
+  test-there p e m =
+      let f = number-found names (word text p) in
+      let n = eqb-false (numberAt names text p) (countOf names) e in
+      let l : numberAt names text p < countOf names = omega (arith, f .within) in
+      m (numberAt names text p) l (f .there l)
+
+  module _ (ts : List Token) (rise : Rising 0 ts) where
+    abbrev at : ℕ
+    at = unknownAt names text (codesOf ts) (placesOf ts) (length ts)
+
+    abbrev test : ℕ → Bool
+    test i = isUnknown names text (getD (codesOf ts) i 0) (getD (placesOf ts) i 0)
+
+    passed : {p : ℕ} → (u : Unknown names text ts p) → (i : Indexed ts p) → i .index < at → ⊥
+    passed u i l =
+        let e = first-before (length ts) test (i .index) l in
+        test-there _ (rw (i .code, i .place) at e) (u .missing)
+
+    pub unknown-here : at < length ts → unknown names text ts (getD (placesOf ts) at 0)
+    unknown-here l =
+        let m = test-missing _ _ (first-passes (length ts) test l) in
+        record {
+          given = record { stands = stands-at ts at l (m .0); missing = m .1 };
+          before = λ q h u. earlier q h u (indexed (u .stands)) (below? (indexed (u .stands) .index) at);
+        }
+      where
+        earlier :
+            (q : ℕ) →
+            q < getD (placesOf ts) at 0 →
+            Unknown names text ts q →
+            (i : Indexed ts q) →
+            (i .index < at) ⊎ (at ≤ i .index) →
+            ⊥
+        earlier q h u i (inl k) = passed u i k
+        earlier q h u i (inr k) = omega (arith, rising-le ts 0 at (i .index) rise k (i .within), i .place)
+
+    pub unknown-never : length ts ≤ at → (p : ℕ) → Unknown names text ts p → ⊥
+    unknown-never l p u = let i = indexed (u .stands) in let w = i .within in passed u i (omega arith)

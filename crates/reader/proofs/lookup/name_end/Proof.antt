@@ -1,0 +1,54 @@
+-- `name_end` counts the name bytes that stand together. The invariant: what was passed and what is left make the count.
+-- Assumes nothing.
+use borrow.Author.Needs.{needs}
+use borrow.Author.Tests.{not-true, not-false}
+use native.Mathlib.Omega.{arith}
+use mathlib.Core.Path.{_≡_, sym, _∙_}
+use Prim.Native.Nat.{ℕ, _≤_, _+_, _-_}
+use lib.ListN.{length, drop}
+use Rattle.tokens.specs.Taking.{nameBytes}
+use Rattle.tokens.proofs.Lists.{names-end, names-more, names-stop}
+use Rattle.reader.proofs.lookup.name_end.Statement.{statement}
+use Rattle.reader.proofs.lookup.name_end.Tie as tie
+
+abbrev Inv-loop : tie.InvT-loop
+Inv-loop text at i₀ i = (i ≤ length text) × (i + nameBytes (drop i text) ≡ at + nameBytes (drop at text))
+
+abbrev μ-loop : tie.MeasureT-loop
+μ-loop text at i₀ i = length text - i
+
+returns : tie.Need-returns Inv-loop μ-loop
+returns c =
+    let text = c .before .before .before .before .before .before .args .text .now in
+    let i = c .before .before .before .before .loop .i in
+    let stop = names-stop text i (c .before .before .before .loop-test .taken)
+    (sym (c .before .goes-on-name .ensures) ∙ not-true _ (c .if1 .taken)) in
+    omega arith
+
+loop-again : tie.Need-loop-again Inv-loop μ-loop
+loop-again c =
+    let text = c .before .before .before .before .before .before .args .text .now in
+    let i = c .before .before .before .before .loop .i in
+    let more = names-more text i (c .before .before .before .loop-test .taken)
+    (sym (c .before .goes-on-name .ensures) ∙ not-false _ (c .if1 .left)) in
+    omega arith
+
+returns-2 : tie.Need-returns-2 Inv-loop μ-loop
+returns-2 c =
+    let end = names-end (c .before .before .before .args .text .now) (c .before .loop .i) (c .loop-test .left) in
+    omega arith
+
+pub name-end-spec : {M : Type 1} → statement M
+name-end-spec =
+    tie.close
+    (tie.spec
+    Inv-loop
+    μ-loop
+    (λ c. search needs)  -- loop-holds
+    (λ c. search needs)  -- shared-slice-read
+    (λ c κs. search needs)  -- goes-on-name-requires
+    returns
+    (λ c. search needs)  -- add-i
+    (λ c. search needs)  -- loop-less
+    loop-again
+    returns-2)

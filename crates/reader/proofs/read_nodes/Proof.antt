@@ -1,0 +1,55 @@
+-- `read_nodes` meets its contract: the pass over the nodes comes to what the tree is sorted as. Assumes nothing.
+use borrow.Author.Needs.{needs}
+use borrow.Author.Tests.{not-true, not-false}
+use mathlib.Core.Path.{sym, _∙_}
+use Rattle.reader.specs.Sorts.{sortedFor}
+use Rattle.reader.proofs.Trees.{nodes-handed, pass-tree, answer-stopped, answer-wrong, answer-read}
+use Rattle.reader.proofs.read_nodes.Statement.{statement}
+use Rattle.reader.proofs.read_nodes.Tie as tie
+
+sort-nodes-requires : tie.Need-sort-nodes-requires
+sort-nodes-requires c κs = nodes-handed (c .before .before .before .before .before .before .pre)
+
+returns : tie.Need-returns
+unfolding sortedFor
+returns c =
+    let n = c .before .before .sort-nodes in
+    record {
+      given = λ e f q.
+          answer-stopped _ _ _ (pass-tree e f q (n .ensures)) (not-true _ (c .before .if1 .taken)) (c .refuse .ensures);
+    }
+
+returns-2 : tie.Need-returns-2
+unfolding sortedFor
+returns-2 c =
+    let b = c .before .before .before .before in
+    record {
+      given = λ e f q.
+          answer-wrong _ _ _ (pass-tree e f q (b .before .sort-nodes .ensures)) (not-false _ (b .if1 .left))
+          (sym (c .before .before .has-sort .ensures) ∙ not-true _ (c .before .if2 .taken)) (c .refuse2 .ensures);
+    }
+
+returns-3 : tie.Need-returns-3
+unfolding sortedFor
+returns-3 c =
+    let b = c .before .before .before .before in
+    record {
+      given = λ e f q.
+          answer-read _ _ _ (pass-tree e f q (b .before .sort-nodes .ensures)) (not-false _ (b .if1 .left))
+          (sym (c .before .before .has-sort .ensures) ∙ not-false _ (c .before .if2 .left));
+    }
+
+pub read-nodes-spec : {M : Type 1} → statement M
+read-nodes-spec =
+    tie.close
+    (tie.spec
+    (λ c. search needs)  -- slice-aggregate-sort-nodes
+    (λ c. search needs)  -- slice-aggregate-sort-nodes-2
+    sort-nodes-requires
+    (λ c κs. search needs)  -- refuse-requires
+    returns
+    (λ c. search needs)  -- element-copy-out-has-sort
+    (λ c κs. search needs)  -- has-sort-requires
+    (λ c κs. search needs)  -- refuse-requires-2
+    returns-2
+    returns-3)

@@ -1,0 +1,59 @@
+-- What a call that reads gives back: the bytes of the expression, or a refusal and no bytes.
+use Prim.Native.Nat.{ℕ, _≤_}
+use mathlib.Core.Path.{_≡_}
+use mathlib.Core.Bool.{Bool, true, false, not}
+use mathlib.Core.List.{List, []}
+use lib.ListN.{length}
+use Rattle.alf.specs.declared.Sort.{Sort}
+use Rattle.alf.specs.declared.Sort.the-variants as the-sort
+use Rattle.alf.specs.Expressions.{Expression}
+use Rattle.alf.specs.Bytes.{bytesOf}
+use Rattle.alf.proofs.Lists.{All}
+use Rattle.grammar.specs.declared.Token.{Token}
+use Rattle.grammar.specs.declared.Parsed.{Parsed}
+use Rattle.grammar.specs.Grammar.{Tree, nodes}
+use Rattle.grammar.specs.Answers.{padded, accepted}
+use Rattle.grammar.specs.Written.{Formed}
+use Rattle.reader.specs.declared.Read.{Read}
+use Rattle.reader.specs.Lookup.{countOf, numberAt}
+use Rattle.reader.specs.Sorts.{Sorted, is, faulty, sortedFor}
+
+unfoldable pub made : Expression → Read
+made x =
+    record {
+      refused = false;
+      refusal = record { number = 0; place = 0 };
+      len = length (bytesOf x);
+      tree = padded (bytesOf x);
+    }
+
+unfoldable pub refusedWith : ℕ → ℕ → Read
+refusedWith n p =
+    record { refused = true; refusal = record { number = n; place = p }; len = 0; tree = padded [] }
+
+-- the expression, or 7 at the place of the first fault
+unfoldable pub answered : Sorted → Read
+answered (is x) = made x
+answered (faulty p) = refusedWith 7 p
+
+-- whether an expression, a vector or not, has the sort
+unfoldable pub hasSort : Sort → Bool → Bool
+hasSort the-sort.Boolean v = not v
+hasSort the-sort.Vector v = v
+
+-- a parser's answer with the nodes of a tree of the text
+pub record Grown (names text : List ℕ) (p : Parsed) : Type 0 where
+  pub few : countOf names ≤ 32
+  pub tree : Tree
+  pub formed : Formed tree
+  pub short : length (nodes tree) ≤ 256
+  pub inside : All (λ (t : Token). t .place ≤ length text) (nodes tree)
+  pub is-tree : p ≡ accepted (nodes tree)
+
+-- what is read for a parser's answer: for the tree whose nodes it has
+pub record Answered (names text : List ℕ) (p : Parsed) (sort : Sort) (r : Read) : Type 0 where
+  pub given :
+      (e : Tree) →
+      Formed e →
+      p ≡ accepted (nodes e) →
+      r ≡ answered (sortedFor sort (length text) (numberAt names text) e)

@@ -1,0 +1,110 @@
+// Reading an expression: from a text to a tree, or refused. `lookup` finds the names, `sorts` makes the pass over the
+// nodes of a tree.
+mod lookup;
+mod sorts;
+
+use alf::Outcome;
+use alf::Refusal;
+use alf::Sort;
+use grammar::Parsed;
+use grammar::parse;
+use lookup::first_unknown;
+use names::check_names;
+use sorts::sort_nodes;
+use tokens::Tokens;
+use tokens::read_tokens;
+ghost use mathlib.Core.Path.{_≡_};
+ghost use Rattle.alf.specs.Refusals.{Passed};
+ghost use Rattle.names.specs.Check.{namesOrder};
+ghost use Rattle.reader.specs.Reads.{refusedWith, hasSort, Grown, Answered};
+ghost use Rattle.reader.specs.Reading.{Unlimited};
+ghost use Rattle.reader.specs.Whole.{Tokened};
+
+// What is read: the first `len` entries of `tree`, with zeros behind them. None where the text is refused.
+pub struct Read {
+    pub refused: bool,
+    pub refusal: Refusal,
+    pub len: usize,
+    pub tree: [u8; 256],
+}
+
+// Nothing read.
+fn refuse(number: u8, place: usize) -> Read
+    ensures { λ r. ⌜ r ≡ refusedWith number place ⌝ }
+{
+    let tree = [0u8; 256];
+    Read {
+        refused: true,
+        refusal: Refusal { number, place },
+        len: 0,
+        tree,
+    }
+}
+
+// Whether an expression, a vector or not, has the sort.
+fn has_sort(sort: Sort, vector: bool) -> bool
+    ensures { λ r. ⌜ r ≡ hasSort sort vector ⌝ }
+{
+    match sort {
+        Sort::Boolean => !vector,
+        Sort::Vector => vector,
+    }
+}
+
+// The expression of a parsed text, or refused with 7: the first faulty operator, or last the sort asked for.
+fn read_nodes(names: &[u8], text: &[u8], parsed: Parsed, sort: Sort) -> Read
+    requires { ⌜ Grown (now names) (now text) parsed ⌝ }
+    ensures { λ r. ⌜ Answered (now (names .entry)) (now (text .entry)) parsed sort r ⌝ }
+{
+    let codes = parsed.codes;
+    let places = parsed.places;
+    let s = sort_nodes(names, text, &codes, &places, parsed.len);
+    if !s.ok {
+        return refuse(7, s.place);
+    }
+    if !has_sort(sort, s.sorts[0]) {
+        return refuse(7, text.len());
+    }
+    let len = s.len;
+    let tree = s.tree;
+    Read {
+        refused: false,
+        refusal: Refusal {
+            number: 0,
+            place: 0,
+        },
+        len,
+        tree,
+    }
+}
+
+// The expression of a text's tokens, or refused with 5, 6 or 7.
+fn read_tokened(names: &[u8], text: &[u8], t: Tokens, sort: Sort) -> Read
+    requires { ⌜ Tokened (now names) (now text) t ⌝ }
+    ensures { λ r. ⌜ Unlimited (now (names .entry)) (now (text .entry)) sort r ⌝ }
+{
+    let count = t.count;
+    let codes = t.codes;
+    let places = t.places;
+    let parsed = parse(&codes, &places, count, text.len());
+    if !parsed.ok {
+        return refuse(5, parsed.place);
+    }
+    let u = first_unknown(names, text, &codes, &places, count);
+    if u < count {
+        return refuse(6, places[u] as usize);
+    }
+    read_nodes(names, text, parsed, sort)
+}
+
+// The expression of a text, limit 8 aside, or refused with 1 to 7.
+fn read_text(names: &[u8], text: &[u8], sort: Sort) -> Read
+    requires { ⌜ Passed (namesOrder (now names)) ⌝ }
+    ensures { λ r. ⌜ Unlimited (now (names .entry)) (now (text .entry)) sort r ⌝ }
+{
+    let t = read_tokens(text);
+    if t.refused {
+        return refuse(t.refusal.number, t.refusal.place);
+    }
+    read_tokened(names, text, t, sort)
+}

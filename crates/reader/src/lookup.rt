@@ -1,0 +1,82 @@
+// Refusal 6: the slot of the name that stands at a byte of a text, and the first name that has none.
+use check::same;
+use names::goes_on_name;
+use names::name_len;
+ghost use mathlib.Core.Path.{_≡_};
+ghost use Prim.Native.Nat.{_+_, _≤_};
+ghost use lib.ListN.{length, drop};
+ghost use Rattle.alf.specs.Names.{untilZero};
+ghost use Rattle.names.specs.Check.{Tells};
+ghost use Rattle.tokens.specs.Taking.{nameBytes};
+ghost use Rattle.reader.specs.Lookup.{numberAt, isUnknown, unknownAt};
+ghost use Rattle.reader.specs.Passes.{Listed};
+
+// Where the name bytes that stand together from `at` on end.
+fn name_end(text: &[u8], at: usize) -> usize
+    requires { ⌜ at ≤ length (now text) ⌝ }
+    ensures { λ r. ⌜ r ≡ at + nameBytes (drop at (now (text .entry))) ⌝ }
+{
+    let mut i = at;
+    while i < text.len() {
+        if !goes_on_name(text[i]) {
+            return i;
+        }
+        i += 1;
+    }
+    i
+}
+
+// Whether a slot holds a name.
+fn holds(slot: &[u8], word: &[u8]) -> bool
+    ensures { λ r. ⌜ Tells (untilZero (now (slot .entry)) ≡ now (word .entry)) r ⌝ }
+{
+    let n = name_len(slot);
+    same(&slot[..n], word)
+}
+
+// The number of the slot that holds the name at `at`; the number of slots where none does.
+pub fn slot_of(names: &[u8], text: &[u8], at: usize) -> usize
+    requires { ⌜ at ≤ length (now text) ⌝ }
+    ensures { λ r. ⌜ r ≡ numberAt (now (names .entry)) (now (text .entry)) at ⌝ }
+{
+    let end = name_end(text, at);
+    let n = names.len() / 32;
+    let mut k = 0;
+    while k < n {
+        let from = k * 32;
+        let to = from + 32;
+        if holds(&names[from..to], &text[at..end]) {
+            return k;
+        }
+        k += 1;
+    }
+    k
+}
+
+// Whether a token is a name that no slot holds.
+fn is_unknown(names: &[u8], text: &[u8], code: u8, place: usize) -> bool
+    requires { ⌜ place ≤ length (now text) ⌝ }
+    ensures { λ r. ⌜ r ≡ isUnknown (now (names .entry)) (now (text .entry)) code place ⌝ }
+{
+    if code != 0 {
+        return false;
+    }
+    slot_of(names, text, place) == names.len() / 32
+}
+
+// The first of `count` tokens that is a name that no slot holds; `count` where none is.
+pub fn first_unknown(names: &[u8], text: &[u8], codes: &[u8], places: &[u16], count: usize) -> usize
+    requires { ⌜ Listed (now text) (now codes) (now places) count ⌝ }
+    ensures { λ r. ⌜ r ≡ unknownAt (now (names .entry)) (now (text .entry)) (now (codes .entry)) (now (places .entry)) count ⌝ }
+{
+    let mut i = 0;
+    while i < count {
+        let code = codes[i];
+        let place = places[i] as usize;
+        if is_unknown(names, text, code, place) {
+            return i;
+        }
+        i += 1;
+    }
+    i
+}
