@@ -85,7 +85,8 @@ module _ (s : List ℕ) (i : ℕ) (so-far : untilZero s ≡ take i s ++ untilZer
 module _ (s : List ℕ) where
   pub zeros-all : ((k : ℕ) → k < length s → getD s k 0 ≡ 0) → Zeros s
   zeros-all h =
-      ext-getD 0 s (replicate (length s) 0) (rw length-replicate) (λ k l. h k l ∙ sym (getD-replicate (length s) k 0 0 l))
+      ext-getD 0 s (replicate (length s) 0) (rw length-replicate)
+      (λ k l. h k l ∙ sym (getD-replicate (length s) k 0 0 l))
 
   pub zeros-not : (i : ℕ) → i < length s → (getD s i 0 ≡ 0 → ⊥) → Zeros s → ⊥
   zeros-not i h n z = n (ap (λ (l : List ℕ). getD l i 0) z ∙ getD-replicate (length s) i 0 0 h)

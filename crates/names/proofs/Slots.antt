@@ -8,7 +8,16 @@ use mathlib.Core.Bool.{Bool, true, false}
 use mathlib.Core.List.{List, [], _∷_, _++_}
 use Prim.Native.Nat.{ℕ, zero, suc, _+_, _-_, _*_, _≤_, _<_}
 use native.Mathlib.Omega.{arith}
-use lib.ListN.{length, take, drop, replicate, length-replicate, length-drop, replicate-append-replicate, take-append-drop}
+use lib.ListN.{
+  length,
+  take,
+  drop,
+  replicate,
+  length-replicate,
+  length-drop,
+  replicate-append-replicate,
+  take-append-drop,
+}
 use lib.Seq.{take-take, drop-drop, take-add, drop-at, take-at, length-take-le, take-append-add}
 use Rattle.alf.specs.Names.{slot, untilZero, nameAt, slotOf, isName, GoodSlot}
 use Rattle.names.specs.Check.{Tells, holds, fails, NameLength, Zeros, New}

@@ -10,7 +10,17 @@ use lib.ListN.{length, getD, take, drop, length-append, length-drop}
 use lib.Seq.{take-add, take-all, take-suc, getD-take, getD-drop, length-take-le}
 use Rattle.alf.specs.Names.{isName, slot, slotOf, nameAt}
 use Rattle.traces.specs.declared.Mark.the-variants.{Name, Row, End}
-use Rattle.traces.specs.Format.{nameRecord, rowRecord, endRecord, nameRecords, rowRecords, codesOf, fileOf, count, Trace}
+use Rattle.traces.specs.Format.{
+  nameRecord,
+  rowRecord,
+  endRecord,
+  nameRecords,
+  rowRecords,
+  codesOf,
+  fileOf,
+  count,
+  Trace,
+}
 use Rattle.traces.specs.Records.{nameEnd, place, nameIn, timeIn, codesIn, wordAt, markAt, BadCode}
 use Rattle.traces.specs.Reading.{Accepted}
 use Rattle.traces.specs.Held.{namesOf, timesOf, statesOf}
@@ -23,11 +33,13 @@ use Rattle.trace_laws.proofs.Unspelt.{Parted, split, NameRead, name-rea
 
 module _ {names times states : List ℕ} {n : ℕ} (t : Trace names times states n) where
   -- the names
-  name-parted : (j : ℕ) → j < count names → Parted (fileOf names times states n) (nameRecords names j) (nameRecord (nameAt names j))
+  name-parted : (j : ℕ) → j < count names → Parted (fileOf names times states n) (nameRecords names j)
+      (nameRecord (nameAt names j))
   unfolding fileOf nameRecords
   name-parted j h = split (nameRecords names) (λ i. nameRecord (nameAt names i)) (λ i. refl) j (count names) h _
 
-  name-there : (j : ℕ) → j < count names → NameRead (fileOf names times states n) (length (nameRecords names j)) (nameAt names j)
+  name-there : (j : ℕ) → j < count names → NameRead (fileOf names times states n) (length (nameRecords names j))
+      (nameAt names j)
   name-there j h =
       let p = name-parted j h in rw (p .is) (name-read (nameRecords names j) (nameAt names j) (p .rest))
 
@@ -66,7 +78,8 @@ module _ {names times states : List ℕ} {n : ℕ} (t : Trace names times states
   all = t .lists .states-all
 
   front-length :
-      (r : ℕ) → r ≤ n → length (nameRecords names (count names) ++ rowRecords (count names) times states r) ≡ place (fileOf names times states n) (count names) r
+      (r : ℕ) → r ≤ n → length (nameRecords names (count names) ++ rowRecords (count names) times states r) ≡ place
+      (fileOf names times states n) (count names) r
   unfolding place
   front-length r h =
       rw (length-append, rows-length (count names) times states n all r h, name-place (count names) (omega arith))
@@ -105,15 +118,18 @@ module _ {names times states : List ℕ} {n : ℕ} (t : Trace names times states
   unfolding timeIn
   time-held r h = row-there r h .time
 
-  pub codes-held : (r : ℕ) → r < n → codesIn (fileOf names times states n) (count names) r ≡ codesOf (count names) states r
+  pub codes-held : (r : ℕ) → r < n → codesIn (fileOf names times states n) (count names) r ≡ codesOf
+      (count names) states r
   unfolding codesIn
   codes-held r h = rw (codes-all (count names) times states n all r h) at (row-there r h .held)
 
-  code-in : (r i : ℕ) → r < n → i < count names → getD (fileOf names times states n) (place (fileOf names times states n) (count names) r + 6 + i) 0 ≡ getD states (r * count names + i) 0
+  code-in : (r i : ℕ) → r < n → i < count names → getD (fileOf names times states n)
+      (place (fileOf names times states n) (count names) r + 6 + i) 0 ≡ getD states (r * count names + i) 0
   unfolding codesIn codesOf
   code-in r i h l =
       let p : ℕ = place (fileOf names times states n) (count names) r + 6 in
-      sym (getD-take (count names) (drop p (fileOf names times states n)) i 0 l ∙ getD-drop p (fileOf names times states n) i 0)
+      sym (getD-take (count names) (drop p (fileOf names times states n)) i 0 l ∙ getD-drop p
+      (fileOf names times states n) i 0)
       ∙ ap (λ (x : List ℕ). getD x i 0) (codes-held r h)
       ∙ getD-take (count names) (drop (r * count names) states) i 0 l
       ∙ getD-drop (r * count names) states i 0
@@ -134,8 +150,15 @@ module _ {names times states : List ℕ} {n : ℕ} (t : Trace names times states
             let i : ℕ = p - (place (fileOf names times states n) (count names) r + 6) in
             let e : place (fileOf names times states n) (count names) r + 6 + i ≡ p = omega (arith, b .from) in
             let l : i < count names = omega (arith, b .from, b .to) in
-            let x : getD (fileOf names times states n) p 0 ≡ getD states (r * count names + i) 0 = rw e at (code-in r i h l) in
-            omega (arith, x, b .above, t .codes (r * count names + i) (omega (arith, room-for r n (count names) h, all)));
+            let x : getD (fileOf names times states n) p 0 ≡ getD states (r * count names + i) 0 = rw e at
+            (code-in r i h l) in
+            omega (
+              arith,
+              x,
+              b .above,
+              t .codes (r * count names + i)
+                  (omega (arith, room-for r n (count names) h, all)),
+            );
       }
 
   end-facts : EndFacts (fileOf names times states n) (count names) n
@@ -146,8 +169,10 @@ module _ {names times states : List ℕ} {n : ℕ} (t : Trace names times states
       rw (← front-length n (omega arith)) (rw whole (end-read front n small))
       in record { mark = e .mark; some = t .lists .some; last = e .last; counted = e .counted }
     where
-      whole : fileOf names times states n ≡ (nameRecords names (count names) ++ rowRecords (count names) times states n) ++ endRecord n
-      whole = unfold fileOf in sym (append-assoc (nameRecords names (count names)) (rowRecords (count names) times states n) (endRecord n))
+      whole : fileOf names times states n ≡ (nameRecords names (count names) ++ rowRecords
+          (count names) times states n) ++ endRecord n
+      whole = unfold fileOf in sym (append-assoc (nameRecords names (count names))
+          (rowRecords (count names) times states n) (endRecord n))
 
   pub trace-accepted : Accepted (fileOf names times states n) (count names) n
   trace-accepted =

@@ -120,9 +120,11 @@ refusal-unique {file} {number} {p} {number′} {p′} f g = go (order (f .names)
         refused-unique (recordOrder file (g .names) (g .rows)) (record-fixed file (g .names) (g .rows))
         (rw (d, e) at (f .refused)) (g .refused)
     go (names-left h) =
-        absurd (at-good file (f .names) (f .rows) number p (earlier-names (f .before) (g .before) h .passed) (f .refused))
+        absurd (at-good file (f .names) (f .rows) number p (earlier-names (f .before) (g .before) h .passed)
+        (f .refused))
     go (rows-left e h) =
-        absurd (at-good file (f .names) (f .rows) number p (earlier-rows (f .before) (g .before) e h .passed) (f .refused))
+        absurd (at-good file (f .names) (f .rows) number p (earlier-rows (f .before) (g .before) e h .passed)
+        (f .refused))
     go (names-right h) =
         absurd
         (at-good file (g .names) (g .rows) number′ p′ (earlier-names (g .before) (f .before) h .passed) (g .refused))

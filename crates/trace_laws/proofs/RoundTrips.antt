@@ -129,12 +129,18 @@ module _ {names times states : List ℕ} {n : ℕ} (t : Trace names times states
         (
           (λ p a.
               let b : BadState (count names) states r p = a .given in
-              omega (arith, b .above, t .codes p (omega (arith, b .to, room-for r n (count names) h, t .lists .states-all)))),
+              omega (
+                arith,
+                b .above,
+                t .codes p (omega
+                    (arith, b .to, room-for r n (count names) h, t .lists .states-all)),
+              )),
           tt,
         ),
       )
 
-  pub writing-passes : {room : ℕ} → length (fileOf names times states n) ≤ room → Passed (writeOrder names times states n room)
+  pub writing-passes : {room : ℕ} → length (fileOf names times states n) ≤ room → Passed
+      (writeOrder names times states n room)
   unfolding Passed
   writing-passes h = (
     (λ p a. a .given (record { slots = t .slots; lists = t .lists })),

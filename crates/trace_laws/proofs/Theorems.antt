@@ -84,7 +84,8 @@ refused-none f t = accepted-refused (exact-accepted t) f
 
 -- a reading
 module _ {file names times states : List ℕ} where
-  abbrev pub got-trace : {k n : ℕ} {names′ times′ states′ : List ℕ} → Got file names times states k n names′ times′ states′ → TraceOf file k n
+  abbrev pub got-trace : {k n : ℕ} {names′ times′ states′ : List ℕ} → Got file names times states k n names′ times′
+      states′ → TraceOf file k n
   got-trace g =
       record { names = g .ns; times = g .ts; states = g .ss; trace = g .trace; bytes = g .bytes; counted = g .named }
 

@@ -39,7 +39,8 @@ returns-6 c = ranged goesOnName true 95 48 10 refl _ (c .before .before .match .
 returns-7 : tie.Need-returns-7
 unfolding goesOnName startsName isLetter isDecimal
 returns-7 c =
-    ranged goesOnName true 95 65 26 refl _ (c .before .before .before .before .match .rest .1) (omega arith) (omega arith)
+    ranged goesOnName true 95 65 26 refl _ (c .before .before .before .before .match .rest .1) (omega arith)
+    (omega arith)
 
 returns-8 : tie.Need-returns-8
 unfolding goesOnName startsName isLetter isDecimal

@@ -72,7 +72,8 @@ returns-3 c =
     slot-good _ _ (c .before .before .before .before .before .before .before .before .before .before .pre)
     (c .before .before .before .before .before .before .before .name-len .ensures)
     (c .before .before .before .before .before .is-name .ensures) (c .before .before .all-zero .ensures)
-    (not-false _ (c .before .before .before .before .if1 .left)) (not-false _ (c .before .if2 .left)) (c .is-new .ensures)
+    (not-false _ (c .before .before .before .before .if1 .left)) (not-false _ (c .before .if2 .left))
+    (c .is-new .ensures)
 
 pub good-slot-spec : {M : Type 1} → statement M
 good-slot-spec =

@@ -60,7 +60,8 @@ loop-again : tie.Need-loop-again Inv-loop μ-loop
 loop-again c = (
   search needs,
   search needs,
-  c .before .before .before .before .loop .inv .2 ∙ all-more goesOnName _ _ (c .before .before .before .loop-test .taken)
+  c .before .before .before .before .loop .inv .2 ∙ all-more goesOnName _ _
+      (c .before .before .before .loop-test .taken)
       (sym (c .before .goes-on-name .ensures) ∙ not-false _ (c .if4 .left)),
 )
 

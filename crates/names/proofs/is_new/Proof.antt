@@ -53,7 +53,8 @@ same-name-requires : tie.Need-same-name-requires Inv-loop μ-loop
 same-name-requires c κs = search needs
 
 returns : tie.Need-returns Inv-loop μ-loop
-returns c = fails (λ new. new _ (c .before .before .before .before .loop-test .taken) (told-true (part-told _ _ _ (c .before .same-name .ensures)) (c .if1 .taken)))
+returns c = fails (λ new. new _ (c .before .before .before .before .loop-test .taken)
+    (told-true (part-told _ _ _ (c .before .same-name .ensures)) (c .if1 .taken)))
 
 add-j : tie.Need-add-j Inv-loop μ-loop
 add-j c = search needs
@@ -62,7 +63,11 @@ loop-less : tie.Need-loop-less Inv-loop μ-loop
 loop-less c = search needs
 
 loop-again : tie.Need-loop-again Inv-loop μ-loop
-loop-again c = (search needs, below-more _ _ (c .before .before .before .before .before .loop .inv .1) (told-false (part-told _ _ _ (c .before .same-name .ensures)) (c .if1 .left)))
+loop-again c = (
+  search needs,
+  below-more _ _ (c .before .before .before .before .before .loop .inv .1)
+      (told-false (part-told _ _ _ (c .before .same-name .ensures)) (c .if1 .left)),
+)
 
 returns-2 : tie.Need-returns-2 Inv-loop μ-loop
 returns-2 c = holds (λ j l. c .before .loop .inv .1 j (omega (arith, c .loop-test .left)))

@@ -25,7 +25,8 @@ returns : tie.Need-returns Inv-loop μ-loop
 returns c =
     record {
       name =
-          until-zero _ _ (c .before .before .before .loop .inv .1) (c .before .before .loop-test .taken) (c .if1 .taken);
+          until-zero _ _ (c .before .before .before .loop .inv .1) (c .before .before .loop-test .taken)
+          (c .if1 .taken);
       within = search needs;
     }
 

@@ -33,7 +33,8 @@ returns-5 c = ranged startsName true 95 65 26 refl _ (c .before .before .match .
 returns-6 : tie.Need-returns-6
 unfolding startsName isLetter
 returns-6 c =
-    ranged startsName true 95 97 26 refl _ (c .before .before .before .before .match .rest .1) (omega arith) (omega arith)
+    ranged startsName true 95 97 26 refl _ (c .before .before .before .before .match .rest .1) (omega arith)
+    (omega arith)
 
 pub starts-name-spec : {M : Type 1} → statement M
 starts-name-spec = tie.close (tie.spec returns returns-2 returns-3 returns-4 returns-5 returns-6)
