@@ -1,5 +1,6 @@
 -- What the correction's contract comes to.
 --   correction-here       the answers r to min(r+K, n-1) are the corrected trace's, whatever the list held
+--   correction-windows    so, of a vector expression, those on windows
 --   correction-only       the others are as they were
 --   elsewhere             and they are the corrected trace's, if they were the trace's
 --   correction-right      so a list that was right is right afterwards
@@ -10,16 +11,17 @@ use mathlib.Core.Logic.{_⊎_, inl, inr}
 use Prim.Native.Nat.{ℕ, _+_, _-_, _<_, _≤_, min}
 use native.Mathlib.Omega.{arith}
 use lib.ListN.{length, getD}
-use Rattle.alf.specs.Expressions.{Boolean, Over}
+use Rattle.alf.specs.Expressions.{Boolean, Vector, Over}
 use Rattle.alf.specs.Values.{stateAt}
-use Rattle.alf.specs.Windows.{numberOf}
-use Rattle.alf.specs.Alternatives.{Alternative, answerOf}
+use Rattle.alf.specs.Windows.{rowAnswer, numberOf}
+use Rattle.alf.specs.Alternatives.{Alternative, alternatives, answerOf}
 use Rattle.alf.specs.Traces.{corrected, lastRewritten}
 use Rattle.alf.proofs.Bools.{below?}
 use Rattle.alf.proofs.Nearness.{Near, answers-near}
 use Rattle.alf.proofs.TraceNearness.{state-same, corrected-other}
 use Rattle.matcher.specs.Shapes.{alternativesOf}
 use Rattle.matcher.specs.Tables.{numberAt, written}
+use Rattle.matcher.proofs.Agreement.{matches-windows}
 use Rattle.matcher.proofs.Written.{written-inside, written-before, written-after}
 use Rattle.updates.specs.Corrections.{CorrectionAsked, longestOf, Corrects}
 use Rattle.updates.proofs.Correcting.{row-fits}
@@ -58,6 +60,15 @@ module _ {tree : List ℕ} {names : ℕ} {states steps tests edges operands : Li
         let e : r + (i - r) ≡ i = omega arith in
         let w = written-inside answers r (numberAt new-states xs) (last + 1 - r) fits (i - r) (omega arith) in
         ap (λ (l : List ℕ). getD l i 0) (k .rewritten) ∙ (rw e at w)
+
+    -- where the alternatives are those of a vector expression, they are its answers on windows
+    pub correction-windows : (p : Vector) → xs ≡ alternatives p → (i : ℕ) → r ≤ i → i ≤ last
+        → getD answers′ i 0 ≡ numberOf (rowAnswer new-states p i)
+    correction-windows p same i a b =
+        correction-here i a b
+        ∙ ap numberOf
+        (matches-windows new-states p same {row = i} {a = answerOf new-states xs i}
+        (record { is = refl; count = refl }))
 
     pub correction-only : (i : ℕ) → (i < r) ⊎ (last < i) → getD answers′ i 0 ≡ getD answers i 0
     correction-only i (inl l) =

@@ -9,4 +9,5 @@ pub mod Keeping
 pub mod LastRows
 pub mod QueueTheorems
 pub mod Unique
+pub mod ThreeRoutes
 pub mod Theorems
