@@ -13,3 +13,5 @@ pub mod Orders
 pub mod Unknowns
 pub mod Readings
 pub mod Whole
+pub mod Limits
+pub mod Limiting

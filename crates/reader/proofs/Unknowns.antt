@@ -1,6 +1,7 @@
 -- Row 6 of the table: the first token that is an unknown name, by its index and by its byte.
 --   unknown-here    where the search ends at a token, the row is given at its byte
 --   unknown-never   where it ends at none, the row is given nowhere
+--   names-numbered  and then the number of each name is that of a slot
 -- Assumes nothing.
 use mathlib.Core.Path.{_≡_, refl, sym, ap, subst, _∙_}
 use mathlib.Core.Bool.{Bool, true, false, _&&_}
@@ -14,10 +15,14 @@ use borrow.Author.Tests.{eqb-true, eqb-false, eq-eqb}
 use Rattle.alf.specs.Names.{nameAt}
 use Rattle.alf.specs.Refusals.{First}
 use Rattle.alf.proofs.Bools.{never, and-left, and-right, below?}
+use Rattle.alf.proofs.Lists.{All, none, more}
+use Rattle.grammar.specs.declared.Token as node
+use Rattle.grammar.specs.Tokens.{tokens}
 use Rattle.tokens.specs.Texts.{Token, tokenAt}
 use Rattle.tokens.specs.Reading.{codesOf, placesOf}
 use Rattle.tokens.proofs.Places.{Rising}
 use Rattle.reader.specs.Lookup.{word, countOf, numberAt, isUnknown, first, unknownAt}
+use Rattle.reader.specs.Texts.{tokensOf}
 use Rattle.reader.specs.Reading.{Stands, here, there, Unknown, unknown}
 use Rattle.reader.proofs.Names.{number-found, first-passes, first-before, first-bound}
 
@@ -117,3 +122,27 @@ module _ (names text : List ℕ) where
 
     pub unknown-never : length ts ≤ at → (p : ℕ) → Unknown names text ts p → ⊥
     unknown-never l p u = let i = indexed (u .stands) in let w = i .within in passed u i (omega arith)
+
+-- where no name is unknown, the number of each is that of a slot
+pub names-numbered :
+    (names bytes : List ℕ) (ts : List Token) →
+    ((p : ℕ) → Unknown names bytes ts p → ⊥) →
+    All (λ (t : node.Token). t .code ≡ 0 → numberAt names bytes (t .place) < countOf names) (tokensOf ts)
+unfolding tokens codesOf placesOf
+names-numbered names bytes [] known = none
+names-numbered names bytes (t ∷ ts) known =
+    more {x = record { code = t .code; place = t .place }} (λ e. numbered e (below? (numberAt names bytes (t .place)) (countOf names)))
+    (names-numbered names bytes ts (λ p u. known p (record { stands = there (u .stands); missing = u .missing })))
+  where
+    numbered :
+        t .code ≡ 0 →
+        (numberAt names bytes (t .place) < countOf names) ⊎ (countOf names ≤ numberAt names bytes (t .place)) →
+        numberAt names bytes (t .place) < countOf names
+    numbered e (inl l) = l
+    numbered e (inr l) =
+        absurd
+        (known (t .place)
+        (record {
+          stands = at-head t ts e;
+          missing = λ k h f. number-found names (word bytes (t .place)) .before k (omega arith) f;
+        }))

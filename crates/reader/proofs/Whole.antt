@@ -3,8 +3,9 @@
 --   grown                   what the pass over the nodes asks of the parser's answer
 --   whole-five, whole-six, whole-sorted     what each way comes to
 --   text-refused, tokened                   a text whose tokens are refused, or read
+--   names-wrong, names-done                 a list of names that is refused, or good
 -- Assumes nothing.
-use mathlib.Core.Path.{_≡_, refl, sym, ap, _∙_}
+use mathlib.Core.Path.{_≡_, refl, sym, ap, subst, _∙_}
 use mathlib.Core.Bool.{Bool, true, false}
 use mathlib.Core.List.{List, [], _∷_, _++_}
 use mathlib.Core.Logic.{_⊎_, inl, inr}
@@ -14,7 +15,10 @@ use lib.ListN.{length, getD, take, replicate, length-append, List·getD-append}
 use lib.Seq.{take-at}
 use Rattle.alf.specs.declared.Sort.{Sort}
 use Rattle.alf.specs.Expressions.{Expression}
-use Rattle.alf.specs.Refusals.{Passed}
+use Rattle.alf.specs.declared.Outcome.{Outcome}
+use Rattle.alf.specs.declared.Outcome.the-variants as call
+use Rattle.alf.specs.declared.Refusal.{Refusal}
+use Rattle.alf.specs.Refusals.{Passed, Comes}
 use Rattle.alf.proofs.Lists.{All, none, more}
 use Rattle.alf.proofs.Bools.{never, below?}
 use Rattle.names.specs.Check.{namesOrder, Slots}
@@ -47,7 +51,7 @@ use Rattle.reader.specs.Whole.{Tokened}
 use Rattle.reader.proofs.Names.{first-same}
 use Rattle.reader.proofs.Texts.{reads-inside, reads-rises, few-counted, nodes-inside}
 use Rattle.reader.proofs.Unknowns.{unknown-here, unknown-never}
-use Rattle.reader.proofs.Readings.{tokens-refused, five, six, seven}
+use Rattle.reader.proofs.Readings.{names-refused, tokens-refused, five, six, seven}
 
 -- lists of tokens, with zeros behind
 codes-length : (ts : List text.Token) → length (reading.codesOf ts) ≡ length ts
@@ -83,7 +87,7 @@ handed-filled ts =
       take-at (reading.placesOf ts) (replicate (4096 - length (reading.placesOf ts)) 0) (length ts) (places-length ts),
     )
 
-names-few : (names : List ℕ) → Passed (namesOrder names) → countOf names ≤ 32
+pub names-few : (names : List ℕ) → Passed (namesOrder names) → countOf names ≤ 32
 unfolding Passed
 names-few names h = go (below? 32 (countOf names))
   where
@@ -265,3 +269,19 @@ pub tokened :
 unfolding reading.made reading.refusedWith
 tokened g (reading.refused n p h) o = never (sym o)
 tokened g (reading.read {ts = ts} h r) o = record { good = g; clear = h; tokens = ts; read = r; are = refl }
+
+-- the list of names: refused, or good
+pub names-wrong :
+    (names bytes : List ℕ) (made : ℕ → Type 0) (sort : Sort) {o : Outcome} {f : Refusal} {r : Read} →
+    Comes (namesOrder names) made o →
+    o ≡ call.Refused f →
+    r ≡ refusedWith (f .number) (f .place) →
+    Reading names bytes sort r
+unfolding Comes
+names-wrong names bytes made sort {f = f} h e g =
+    let k = rw e at h in subst (Reading names bytes sort) (sym g) (names-refused names bytes sort (f .number) (f .place) k)
+
+pub names-done :
+    (names : List ℕ) (made : ℕ → Type 0) {o : Outcome} {n : ℕ} → Comes (namesOrder names) made o → o ≡ call.Done n → Passed (namesOrder names)
+unfolding Comes
+names-done names made h e = let k = rw e at h in k .0

@@ -8,6 +8,8 @@ use alf::Refusal;
 use alf::Sort;
 use grammar::Parsed;
 use grammar::parse;
+use limits::sizes::Measured;
+use limits::sizes::measure;
 use lookup::first_unknown;
 use names::check_names;
 use sorts::sort_nodes;
@@ -17,7 +19,9 @@ ghost use mathlib.Core.Path.{_≡_};
 ghost use Rattle.alf.specs.Refusals.{Passed};
 ghost use Rattle.names.specs.Check.{namesOrder};
 ghost use Rattle.reader.specs.Reads.{refusedWith, hasSort, Grown, Answered};
-ghost use Rattle.reader.specs.Reading.{Unlimited};
+ghost use Rattle.alf.specs.Alternatives.{alternatives, overLimit};
+ghost use Rattle.trees.specs.Parts.{EndsVector, vectorAt};
+ghost use Rattle.reader.specs.Reading.{Unlimited, Reading};
 ghost use Rattle.reader.specs.Whole.{Tokened};
 
 // What is read: the first `len` entries of `tree`, with zeros behind them. None where the text is refused.
@@ -107,4 +111,44 @@ fn read_text(names: &[u8], text: &[u8], sort: Sort) -> Read
         return refuse(t.refusal.number, t.refusal.place);
     }
     read_tokened(names, text, t, sort)
+}
+
+// Whether the vector expression that ends at `end` is over limit 8.
+fn is_over(tree: &[u8], end: usize, names: usize) -> bool
+    requires { ⌜ EndsVector (now tree) names end ⌝ }
+    ensures { λ r. ⌜ r ≡ overLimit (alternatives (vectorAt (now (tree .entry)) names end)) ⌝ }
+{
+    match measure(tree, end, names) {
+        Measured::Over => true,
+        Measured::Within(size) => false,
+    }
+}
+
+// What was read, or refused with 8. A boolean expression has no alternatives.
+fn limit(names: &[u8], text: &[u8], sort: Sort, r: Read) -> Read
+    requires { ⌜ Unlimited (now names) (now text) sort r ⌝ }
+    ensures { λ o. ⌜ Reading (now (names .entry)) (now (text .entry)) sort o ⌝ }
+{
+    if r.refused {
+        return r;
+    }
+    if has_sort(sort, false) {
+        return r;
+    }
+    let tree = r.tree;
+    if is_over(&tree, r.len, names.len() / 32) {
+        return refuse(8, 0);
+    }
+    r
+}
+
+// The expression that a text is, as a tree over a list of names, for the sort asked for; or refused: 18 and 12 for the
+// list of names, then 1 to 8, each over the whole text before the next.
+pub fn read_expression(names: &[u8], text: &[u8], sort: Sort) -> Read
+    ensures { λ r. ⌜ Reading (now (names .entry)) (now (text .entry)) sort r ⌝ }
+{
+    match check_names(names) {
+        Outcome::Refused(r) => refuse(r.number, r.place),
+        Outcome::Done(count) => limit(names, text, sort, read_text(names, text, sort)),
+    }
 }

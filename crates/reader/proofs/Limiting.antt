@@ -1,0 +1,173 @@
+-- What each way of `limit` comes to: 8, or read. Main names: limit-refused, limit-boolean, limit-asks, limit-over,
+-- limit-within, over-told. Assumes nothing.
+use mathlib.Core.Path.{_≡_, refl, sym, ap, subst, _∙_}
+use mathlib.Core.Bool.{Bool, true, false}
+use mathlib.Core.List.{List, [], _∷_, _++_}
+use Prim.Native.Nat.{ℕ, _≤_, _<_}
+use native.Mathlib.Omega.{arith}
+use lib.ListN.{length}
+use Rattle.alf.specs.Words.{if_then_else_}
+use Rattle.alf.specs.declared.Sort.{Sort}
+use Rattle.alf.specs.declared.Sort.the-variants as the-sort
+use Rattle.alf.specs.Expressions.{Vector, Expression, boolean, vector, ExpressionOver}
+use Rattle.alf.specs.Alternatives.{alternatives, overLimit, numberOfAlternatives, stepsOf, testsOf}
+use Rattle.alf.specs.Bytes.{bytesOf}
+use Rattle.alf.proofs.Bools.{never}
+use Rattle.grammar.specs.Answers.{padded}
+use Rattle.grammar.proofs.Written.{expression-formed}
+use Rattle.trees.specs.Parts.{EndsVector, vectorAt}
+use Rattle.limits.specs.declared.sizes.Measured.{Measured}
+use Rattle.limits.specs.declared.sizes.Measured.the-variants as size
+use Rattle.limits.specs.declared.sizes.Size.{Size}
+use Rattle.limits.specs.Sizes.{measured}
+use Rattle.reader.specs.declared.Read.{Read}
+use Rattle.reader.specs.Lookup.{countOf, numberAt}
+use Rattle.reader.specs.Sorts.{Sorted, is, faulty, given, asked, sorted, sortedFor}
+use Rattle.reader.specs.Passes.{isVector}
+use Rattle.reader.specs.Reads.{made, refusedWith, hasSort}
+use Rattle.reader.specs.Reading.{tooLarge, Reading, Clear, Unlimited, refused, unlimited}
+use Rattle.reader.proofs.Texts.{nodes-inside}
+use Rattle.reader.proofs.Unknowns.{names-numbered}
+use Rattle.reader.proofs.Whole.{names-few}
+use Rattle.reader.proofs.Readings.{eight, read-clear}
+use Rattle.reader.proofs.Limits.{call-over, vector-ends, vector-is}
+
+-- what `measure` says
+module _ (v : Vector) {m : Measured} (e : m ≡ measured v) where
+  abbrev told : Bool → Measured
+  told b = if b then size.Over else size.Within (record { alternatives = numberOfAlternatives v; steps = stepsOf v; tests = testsOf v })
+
+  is-told : m ≡ told (overLimit (alternatives v))
+  unfolding measured
+  is-told = e
+
+  pub over-told : m ≡ size.Over → true ≡ overLimit (alternatives v)
+  over-told f = go (overLimit (alternatives v)) (sym f ∙ is-told)
+    where
+      go : (b : Bool) → size.Over ≡ told b → true ≡ b
+      go true h = refl
+      go false h = let z : _≡_ {A = ℕ} 0 1 = cc in absurd (omega arith)
+
+  pub within-told : {y : Size} → m ≡ size.Within y → false ≡ overLimit (alternatives v)
+  within-told {y} f = go (overLimit (alternatives v)) (sym f ∙ is-told)
+    where
+      go : (b : Bool) → size.Within y ≡ told b → false ≡ b
+      go true h = let z : _≡_ {A = ℕ} 0 1 = cc in absurd (omega arith)
+      go false h = refl
+
+-- an expression has the sort asked for
+asked-sort : (o : Sort) (bytes : ℕ) (x y : Expression) → asked o bytes x ≡ is y → hasSort o (isVector y) ≡ true
+unfolding asked hasSort isVector
+asked-sort the-sort.Boolean b (boolean c) y e = let z : boolean c ≡ y = cc in rw (sym z) refl
+asked-sort the-sort.Boolean b (vector p) y e = let z : _≡_ {A = ℕ} 0 1 = cc in absurd (omega arith)
+asked-sort the-sort.Vector b (boolean c) y e = let z : _≡_ {A = ℕ} 0 1 = cc in absurd (omega arith)
+asked-sort the-sort.Vector b (vector p) y e = let z : vector p ≡ y = cc in rw (sym z) refl
+
+given-sort : (o : Sort) (bytes : ℕ) (q : Sorted) (y : Expression) → given q (asked o bytes) ≡ is y → hasSort o (isVector y) ≡ true
+unfolding given
+given-sort o b (is x) y e = asked-sort o b x y e
+given-sort o b (faulty p) y e = let z : _≡_ {A = ℕ} 0 1 = cc in absurd (omega arith)
+
+never-large : (o : Sort) (x : Expression) → hasSort o false ≡ true → hasSort o (isVector x) ≡ true → (p : ℕ) → tooLarge (is x) p → ⊥
+unfolding hasSort isVector tooLarge
+never-large the-sort.Boolean (boolean c) e f p h = h
+never-large the-sort.Boolean (vector v) e f p h = never f
+never-large the-sort.Vector x e f p h = never e
+
+record VectorOf (x : Expression) : Type 0 where
+  it : Vector
+  is-it : x ≡ vector it
+
+vector-of : (o : Sort) (x : Expression) → hasSort o false ≡ false → hasSort o (isVector x) ≡ true → VectorOf x
+unfolding hasSort isVector
+vector-of the-sort.Boolean x e f = never (sym e)
+vector-of the-sort.Vector (boolean c) e f = never f
+vector-of the-sort.Vector (vector v) e f = record { it = v; is-it = refl }
+
+-- a text that is let through, limit 8 aside
+module _ {names text : List ℕ} {sort : Sort} {x : Expression} (k : Clear names text sort x) where
+  sort-is : hasSort sort (isVector x) ≡ true
+  unfolding sortedFor
+  sort-is = given-sort sort (length text) (sorted (numberAt names text) (k .tree)) x (k .sorts)
+
+  over-names : ExpressionOver (countOf names) x
+  over-names =
+      call-over (countOf names) (numberAt names text) sort (length text) (expression-formed (k .whole))
+      (nodes-inside (k .whole) (names-numbered names text (k .tokens) (k .known))) (k .sorts)
+
+  small-read : ((p : ℕ) → tooLarge (is x) p → ⊥) → Reading names text sort (made x)
+  small-read h = read-clear names text sort (k .good) (k .clear) (k .read) (k .whole) (k .known) (k .sorts) h
+
+  large : (p : ℕ) → tooLarge (is x) p → Reading names text sort (refusedWith 8 p)
+  large p h = eight names text sort (k .good) (k .clear) (k .read) (k .whole) (k .known) (k .sorts) p h
+
+  module _ (v : VectorOf x) where
+    few : countOf names ≤ 32
+    few = names-few names (k .good)
+
+    over-vector : ExpressionOver (countOf names) (vector (v .it))
+    over-vector = rw (v .is-it) at over-names
+
+    ends : EndsVector (padded (bytesOf x)) (countOf names) (length (bytesOf x))
+    ends = rw (v .is-it) (vector-ends (countOf names) (v .it) few over-vector)
+
+    it-is : vectorAt (padded (bytesOf x)) (countOf names) (length (bytesOf x)) ≡ v .it
+    it-is = rw (v .is-it) (vector-is (countOf names) (v .it) few over-vector)
+
+    too-large : true ≡ overLimit (alternatives (v .it)) → tooLarge (is x) 0
+    unfolding tooLarge
+    too-large e = rw (v .is-it) (record { given = sym e; there = refl })
+
+    not-large : false ≡ overLimit (alternatives (v .it)) → (p : ℕ) → tooLarge (is x) p → ⊥
+    unfolding tooLarge
+    not-large e p h = let g = rw (v .is-it) at h in never (e ∙ g .given)
+
+-- the ways of `limit`
+pub limit-refused : {names text : List ℕ} {sort : Sort} {r : Read} → Unlimited names text sort r → r .refused ≡ true → Reading names text sort r
+unfolding made refusedWith
+limit-refused (refused n p h) e = h
+limit-refused (unlimited k) e = never e
+
+pub record Left (names text : List ℕ) (sort : Sort) (r : Read) : Type 0 where
+  pub it : Expression
+  pub clear : Clear names text sort it
+  pub is-made : r ≡ made it
+
+pub left-over : {names text : List ℕ} {sort : Sort} {r : Read} → Unlimited names text sort r → r .refused ≡ false → Left names text sort r
+unfolding made refusedWith
+left-over (refused n p h) e = never (sym e)
+left-over (unlimited {x = x} k) e = record { it = x; clear = k; is-made = refl }
+
+module _ {names text : List ℕ} {sort : Sort} {r : Read} (l : Left names text sort r) where
+  pub limit-boolean : hasSort sort false ≡ true → Reading names text sort r
+  limit-boolean e =
+      subst (Reading names text sort) (sym (l .is-made))
+      (small-read (l .clear) (never-large sort (l .it) e (sort-is (l .clear))))
+
+  module _ (e : hasSort sort false ≡ false) where
+    it-vector : VectorOf (l .it)
+    it-vector = vector-of sort (l .it) e (sort-is (l .clear))
+
+    pub limit-asks : EndsVector (r .tree) (countOf names) (r .len)
+    unfolding made
+    limit-asks =
+        subst (λ (y : Read). EndsVector (y .tree) (countOf names) (y .len)) (sym (l .is-made)) (ends (l .clear) it-vector)
+
+    measured-is : vectorAt (r .tree) (countOf names) (r .len) ≡ it-vector .it
+    unfolding made
+    measured-is =
+        ap (λ (y : Read). vectorAt (y .tree) (countOf names) (y .len)) (l .is-made) ∙ it-is (l .clear) it-vector
+
+    module _ {b : Bool} (f : b ≡ overLimit (alternatives (vectorAt (r .tree) (countOf names) (r .len)))) where
+      by-limit : b ≡ overLimit (alternatives (it-vector .it))
+      by-limit = f ∙ ap (λ (v : Vector). overLimit (alternatives v)) measured-is
+
+      pub limit-over : b ≡ true → {s : Read} → s ≡ refusedWith 8 0 → Reading names text sort s
+      limit-over o g =
+          subst (Reading names text sort) (sym g)
+          (large (l .clear) 0 (too-large (l .clear) it-vector (sym o ∙ by-limit)))
+
+      pub limit-within : b ≡ false → Reading names text sort r
+      limit-within o =
+          subst (Reading names text sort) (sym (l .is-made))
+          (small-read (l .clear) (not-large (l .clear) it-vector (sym o ∙ by-limit)))
