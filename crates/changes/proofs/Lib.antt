@@ -1,0 +1,4 @@
+-- The laws of the call.
+pub mod Rows
+pub mod Returns
+pub mod Unique

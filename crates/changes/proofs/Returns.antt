@@ -1,0 +1,69 @@
+-- What `changes_at` returns, case by case: 18, 15, 19, or the changes of the row.
+-- Main names: inside, refused-18, refused-15, refused-19, changed-row. Assumes nothing.
+use mathlib.Core.Path.{_≡_, refl, sym}
+use mathlib.Core.List.{List}
+use mathlib.Core.Logic.{inl, inr}
+use Prim.Native.Nat.{ℕ, zero, suc, _+_, _*_, _<_, _≤_}
+use native.Mathlib.Nat.{suc-mul, mul-le-mul-right}
+use native.Mathlib.Omega.{arith}
+use lib.ListN.{length, getD}
+use Rattle.alf.specs.Refusals.{RefusedWith, Passed}
+use Rattle.alf.specs.declared.changes.Changes.{Changes}
+use Rattle.changes.specs.declared.RowChanges.{RowChanges}
+use Rattle.changes.specs.declared.RowChanges.the-variants.{Changed, Refused}
+use Rattle.changes.specs.Call.{Lists, CodesTo, Inside, RowSet, Comes}
+
+module _ (names n : ℕ) (states : List ℕ) (row : ℕ) where
+  abbrev Result : RowChanges → Type 0
+  Result r = Comes names n states row r
+
+  pub refused-18 : (r : RowChanges) → (Lists names n (length states) → ⊥)
+      → r ≡ Refused (record { number = 18; place = 0 }) → Result r
+  unfolding Comes RefusedWith
+  refused-18 r h e = rw e (inl (refl, record { given = h; there = refl }))
+
+  module _ (l : Lists names n (length states)) where
+    pub inside : row < n → Inside names states row
+    inside h =
+        let m : suc row * names ≤ n * names = mul-le-mul-right names h in
+        record {
+          name-count = l .name-count;
+          few = omega (arith, l .row-count .1);
+          room = omega (arith, suc-mul row names, l .all);
+        }
+
+    module _ {bad : ℕ} (c : CodesTo states bad) where
+      pub refused-15 : (r : RowChanges) → bad < length states
+          → r ≡ Refused (record { number = 15; place = bad }) → Result r
+      unfolding Comes RefusedWith
+      refused-15 r h e =
+          rw e
+          (inr (
+            λ p a. a .given l,
+            inl (refl, record { given = (h, c .bad h); before = λ i k b. omega (arith, c .good i k, b .1) }),
+          ))
+
+      -- no code is above 7
+      none-bad : length states ≤ bad → (i : ℕ) → i < length states → 7 < getD states i 0 → ⊥
+      none-bad h i k b = omega (arith, c .good i (omega (arith, c .high)), b)
+
+      pub refused-19 : (r : RowChanges) → length states ≤ bad → n ≤ row
+          → r ≡ Refused (record { number = 19; place = 0 }) → Result r
+      unfolding Comes RefusedWith
+      refused-19 r h k e =
+          rw e
+          (inr (
+            λ p a. a .given l,
+            inr (
+              λ p a. none-bad h p (a .given .0) (a .given .1),
+              inl (refl, record { given = k; there = refl }),
+            ),
+          ))
+
+      pub changed-row : (m : Changes) → length states ≤ bad → row < n
+          → RowSet names states row (m .mask) (m .many) → Result (Changed m)
+      unfolding Comes Passed
+      changed-row m h k s = (
+        (λ p a. a .given l, (λ p a. none-bad h p (a .given .0) (a .given .1), (λ p a. omega (arith, a .given), tt))),
+        s,
+      )

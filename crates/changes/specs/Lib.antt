@@ -1,0 +1,2 @@
+-- The changes of a row as a call.
+pub mod Call

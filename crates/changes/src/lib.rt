@@ -1,0 +1,87 @@
+// The changes of a row as a call: the set of changed variables and how many they are, or refused with 18, 15, 19.
+ghost use mathlib.Core.Path.{_≡_};
+ghost use lib.ListN.{length};
+ghost use Rattle.names.specs.Check.{Tells};
+ghost use Rattle.changes.specs.Call.{Lists, CodesTo, Inside, RowSet, Comes};
+use alf::Refusal;
+use alf::changes::Changes;
+use alf::changes::changes_of;
+
+// The changes of a row, or a refusal.
+pub enum RowChanges {
+    Changed(Changes),
+    Refused(Refusal),
+}
+
+fn refuse(number: u8, place: usize) -> RowChanges
+    ensures { λ r. ⌜ r ≡ RowChanges.Refused (record { number = number; place = place }) ⌝ }
+{
+    RowChanges::Refused(Refusal { number, place })
+}
+
+// Whether there are 1 to 32 names, 1 to 65,535 rows, and a state for each name of each row.
+fn lists_fit(names: usize, n: usize, len: usize) -> bool
+    ensures { λ r. ⌜ Tells (Lists names n len) r ⌝ }
+{
+    if names == 0 {
+        return false;
+    }
+    if 32 < names {
+        return false;
+    }
+    if n == 0 {
+        return false;
+    }
+    if 65535 < n {
+        return false;
+    }
+    if len != n * names {
+        return false;
+    }
+    true
+}
+
+// The place of the first code above 7, or how many there are.
+fn first_bad(states: &[u8]) -> usize
+    ensures { λ r. ⌜ CodesTo (now (states .entry)) r ⌝ }
+{
+    let mut i = 0;
+    while i < states.len() {
+        if 7 < states[i] {
+            return i;
+        }
+        i += 1;
+    }
+    i
+}
+
+// The changes of a row of the trace; row 0 has none.
+fn of_row(names: usize, states: &[u8], row: usize) -> Changes
+    requires { ⌜ Inside names (now states) row ⌝ }
+    ensures { λ r. ⌜ RowSet names (now (states .entry)) row (r .mask) (r .many) ⌝ }
+{
+    if row == 0 {
+        return Changes { mask: 0, many: 0 };
+    }
+    let at = row * names;
+    let from = at - names;
+    let end = at + names;
+    changes_of(&states[from..at], &states[at..end])
+}
+
+// Bit i of the mask says whether name i changed at the row.
+pub fn changes_at(names: usize, n: usize, states: &[u8], row: usize) -> RowChanges
+    ensures { λ r. ⌜ Comes names n (now (states .entry)) row r ⌝ }
+{
+    if !lists_fit(names, n, states.len()) {
+        return refuse(18, 0);
+    }
+    let bad = first_bad(states);
+    if bad < states.len() {
+        return refuse(15, bad);
+    }
+    if n <= row {
+        return refuse(19, 0);
+    }
+    RowChanges::Changed(of_row(names, states, row))
+}
