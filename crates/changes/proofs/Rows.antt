@@ -39,6 +39,9 @@ part-length n at s h = let l = length-take n (drop at s) in let d = length-drop 
 pub bound : (n names : ℕ) → n ≤ 65535 → names ≤ 32 → n * names ≤ 65535 * 32
 bound n names h k = le-trans (mul-le-mul-left n k) (mul-le-mul-right 32 h)
 
+both-rows : (x y names : ℕ) → x ≡ names → y ≡ names → names ≤ 32 → compared x y ≡ names
+both-rows x y names e f h = omega arith
+
 pub row-set : (names : ℕ) (states : List ℕ) (r set many : ℕ) → names ≤ 32 → suc r * names + names ≤ length states
     → Compared (take names (drop (r * names) states)) (take names (drop (suc r * names) states)) set many
     → RowSet names states (suc r) set many
@@ -47,8 +50,7 @@ row-set names states r set many few room c =
     let e = suc-mul r names in
     let old = part-length names (r * names) states (omega arith) in
     let new = part-length names (suc r * names) states room in
-    let n : compared (length (take names (drop (r * names) states))) (length (take names (drop (suc r * names) states))) ≡ names
-    = omega arith in
+    let n = both-rows _ _ names old new few in
     record {
       changed = c .changed ∙ rw n (mask-same names _ _ same);
       number = c .number ∙ rw n (count-same names _ _ same);
@@ -58,7 +60,9 @@ row-set names states r set many few room c =
         → differ (take names (drop (r * names) states)) (take names (drop (suc r * names) states)) i
         ≡ changed names states (suc r) i
     same i h =
-        ap₂ (λ (x y : ℕ). not (eqb x y)) (part-at names (r * names) i states h) (part-at names (suc r * names) i states h)
+        ap₂ (λ (x y : ℕ). not (eqb x y))
+        (part-at names (r * names) i states h)
+        (part-at names (suc r * names) i states h)
 
 -- row 0 has none
 none-changed : (n : ℕ) → mask n (λ i. false) ≡ 0

@@ -13,7 +13,9 @@ refuse-requires : tie.Need-refuse-requires
 refuse-requires c κs = search needs
 
 returns : tie.Need-returns
-returns c = refused-18 _ _ _ _ _ (told-false (c .before .before .lists-fit .ensures) (not-true _ (c .before .if1 .taken))) (c .refuse .ensures)
+returns c =
+    let l = told-false (c .before .before .lists-fit .ensures) (not-true _ (c .before .if1 .taken)) in
+    refused-18 _ _ _ _ _ l (c .refuse .ensures)
 
 first-bad-requires : tie.Need-first-bad-requires
 first-bad-requires c κs = search needs
@@ -34,18 +36,21 @@ returns-3 : tie.Need-returns-3
 returns-3 c =
     let c3 = c .before .before .before in
     let l = told-true (c3 .before .before .lists-fit .ensures) (not-false _ (c3 .before .if1 .left)) in
-    refused-19 _ _ _ _ l (c3 .first-bad .ensures) _ (c .before .before .if2 .left) (c .before .if3 .taken) (c .refuse3 .ensures)
+    refused-19 _ _ _ _ l (c3 .first-bad .ensures) _
+    (c .before .before .if2 .left) (c .before .if3 .taken) (c .refuse3 .ensures)
 
 of-row-requires : tie.Need-of-row-requires
 of-row-requires c κs =
     let c2 = c .before .before in
-    inside _ _ _ _ (told-true (c2 .before .before .lists-fit .ensures) (not-false _ (c2 .before .if1 .left))) (c .if3 .left)
+    let l = told-true (c2 .before .before .lists-fit .ensures) (not-false _ (c2 .before .if1 .left)) in
+    inside _ _ _ _ l (c .if3 .left)
 
 returns-4 : tie.Need-returns-4
 returns-4 c =
     let c3 = c .before .before .before in
     let l = told-true (c3 .before .before .lists-fit .ensures) (not-false _ (c3 .before .if1 .left)) in
-    changed-row _ _ _ _ l (c3 .first-bad .ensures) _ (c .before .before .if2 .left) (c .before .if3 .left) (c .of-row .ensures)
+    changed-row _ _ _ _ l (c3 .first-bad .ensures) _
+    (c .before .before .if2 .left) (c .before .if3 .left) (c .of-row .ensures)
 
 pub changes-at-spec : {M : Type 1} → statement M
 changes-at-spec =
