@@ -139,7 +139,15 @@ module _ (file : List ℕ) where
       in
       let next : (i + 1) * 32 ≡ i * 32 + 32 = omega arith in
       f .is
-      ∙ rw (e, name, paste-over (namesOf file i) out₀ (i * 32) (names-length i) (slotOf (nameIn file i)) 32, all, next, add-one)
+      ∙ rw (
+        e,
+        name,
+        paste-over (namesOf file i) out₀ (i * 32) (names-length i)
+            (slotOf (nameIn file i)) 32,
+        all,
+        next,
+        add-one,
+      )
 
 pub next-to : (r k : ℕ) → r * k + k ≡ (r + 1) * k
 next-to r k = rw (add-mul r 1 k, one-mul)
@@ -191,7 +199,15 @@ module _ (file : List ℕ) (k n : ℕ) (rows : (r : ℕ) → r < n → Good Row 
   unfolding statesOf codesIn
   states-more out out′ out₀ r q to h e there at f =
       f .is
-      ∙ rw (e, at, there, paste-over (statesOf file k r) out₀ (r * k) (states-length r (omega arith)) (drop (place file k r + 6) file) k, next-to r k, add-one)
+      ∙ rw (
+        e,
+        at,
+        there,
+        paste-over (statesOf file k r) out₀ (r * k) (states-length r (omega arith))
+            (drop (place file k r + 6) file) k,
+        next-to r k,
+        add-one,
+      )
 
 -- room for r + 1 of n rows
 pub room-for : (r n k : ℕ) → r < n → r * k + k ≤ n * k

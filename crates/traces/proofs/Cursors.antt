@@ -25,7 +25,8 @@ use Rattle.traces.specs.Steps.{Stands, StandsAt, Checks, markNumber, Nam
 use Rattle.traces.proofs.Orders.{Is, cut-mark, not-due, cut-record, in-contents, passes}
 use Rattle.traces.proofs.NameWalk.{name-is}
 
-pub cut-short : {file : List ℕ} {s : Cursor} → Stands file s → {o : Outcome} → Is o 14 (length file) → length file - s .place < 2 → Checks file s o
+pub cut-short : {file : List ℕ} {s : Cursor} → Stands file s → {o : Outcome} → Is o 14
+    (length file) → length file - s .place < 2 → Checks file s o
 cut-short {file} {s} st e h = cut-mark file (s .names) (s .rows) _ e (omega (arith, st .there))
 
 pub stands-at :
@@ -50,7 +51,8 @@ module _ {m : Mark} {file : List ℕ} {s : Cursor} (st : StandsAt m file s) wher
   pub undue : {o : Outcome} → Is o 11 (s .place) → (Due (s .names) (s .rows) m → ⊥) → Checks file s o
   undue {o} e n =
       not-due file (s .names) (s .rows) _ marked (st .mark)
-      (e ∙ ap (λ (p : ℕ). Rattle.alf.specs.declared.Outcome.the-variants.Refused (record { number = 11; place = p })) (st .stands .there)) n
+      (e ∙ ap (λ (p : ℕ). Rattle.alf.specs.declared.Outcome.the-variants.Refused (record { number = 11; place = p }))
+      (st .stands .there)) n
 
   module _ (due : Due (s .names) (s .rows) m) where
     pub cut :
@@ -118,7 +120,8 @@ module _ {file : List ℕ} {s : Cursor} (st : StandsAt Name file s) where
             inside st name-due name-fits 12 (s .place + 2) e
             (inl (refl, record { given = n; there = ap (λ (p : ℕ). p + 2) (st .stands .there) }))
 
-        module _ {b : Bool} (tested : b ≡ isName (take (s .place + 3 + n - (s .place + 3)) (drop (s .place + 3) file))) where
+        module _ {b : Bool} (tested : b ≡ isName (take (s .place + 3 + n - (s .place + 3))
+            (drop (s .place + 3) file))) where
           named : b ≡ isName (nameIn file (s .names))
           named = tested ∙ ap isName (name-is file (s .names) name-here byte)
 

@@ -32,7 +32,8 @@ module _ {file : List ℕ} {k n : ℕ} (accepted : Accepted file k n) where
   pub names-fit : {names : List ℕ} → k * 32 ≤ length names → NamesFit file k names
   names-fit h = record { names = accepted .before .names; room = h }
 
-  pub rows-fit : {at each : ℕ} {out : List ℕ} → at ≡ nameEnd file k → n * each ≤ length out → RowsFit file k at n each out
+  pub rows-fit : {at each : ℕ} {out : List ℕ} → at ≡ nameEnd file k → n * each ≤ length out → RowsFit file k at n each
+      out
   rows-fit e h = record { there = e ∙ sym (place-zero file k); rows = accepted .before .rows; room = h }
 
 module _ {file : List ℕ} {k n : ℕ} (accepted : Accepted file k n) (names times states : List ℕ) where

@@ -27,7 +27,8 @@ module _ (file : List ℕ) where
   end-mono j zero h = let e : j ≡ 0 = omega arith in rw e (omega arith)
   end-mono j (suc k) h = go (eqb j (suc k)) refl (λ l. end-mono j k l)
     where
-      go : (b : Bool) → eqb j (suc k) ≡ b → (j ≤ k → nameEnd file j ≤ nameEnd file k) → nameEnd file j ≤ nameEnd file (suc k)
+      go : (b : Bool) → eqb j (suc k) ≡ b → (j ≤ k → nameEnd file j ≤ nameEnd file k) → nameEnd file j ≤ nameEnd file
+          (suc k)
       go true e ih = rw (eqb-true j (suc k) e) (omega arith)
       go false e ih = omega (arith, ih (omega (arith, eqb-false j (suc k) e)), end-suc k)
 
@@ -46,7 +47,8 @@ pub record Walk (file : List ℕ) (k at q j : ℕ) : Type 0 where
   pub ahead : j < k → q + 3 + getD file (q + 2) 0 ≤ at
   pub new : (i : ℕ) → i < j → nameIn file i ≡ nameIn file k → ⊥
 
-ahead-of : (file : List ℕ) (k at q j : ℕ) → at ≡ nameEnd file k → q ≡ nameEnd file j → j < k → q + 3 + getD file (q + 2) 0 ≤ at
+ahead-of : (file : List ℕ) (k at q j : ℕ) → at ≡ nameEnd file k → q ≡ nameEnd file j → j < k → q + 3 + getD file
+    (q + 2) 0 ≤ at
 ahead-of file k at q j e f h = rw (e, f, ← end-suc file j) (end-mono file (suc j) k h)
 
 module _ {file : List ℕ} {k at : ℕ} (here : NameStands file k at) where

@@ -18,7 +18,8 @@ abbrev pub Is : Outcome → ℕ → ℕ → Type 0
 Is r number p = r ≡ Refused (record { number = number; place = p })
 
 module _ (file : List ℕ) (k r : ℕ) (made : ℕ → Type 0) where
-  pub cut-mark : {o : Outcome} → Is o 14 (length file) → length file < place file k r + 2 → Comes (recordOrder file k r) made o
+  pub cut-mark : {o : Outcome} → Is o 14 (length file) → length file < place file k r + 2 → Comes
+      (recordOrder file k r) made o
   unfolding Comes RefusedWith
   cut-mark e h = rw e (inl (refl, record { given = h; there = refl }))
 
@@ -42,7 +43,8 @@ module _ (file : List ℕ) (k r : ℕ) (made : ℕ → Type 0) where
             rw (e, mark) (inr (whole, inr ((λ p a. a .given due), inl (refl, record { given = h; there = refl }))))
 
         module _ (fits : place file k r + sizeOf file k r m ≤ length file) where
-          fit : (p : ℕ) → Rattle.alf.specs.Refusals.At (length file) (length file < place file k r + sizeOf file k r m) p → ⊥
+          fit : (p : ℕ) → Rattle.alf.specs.Refusals.At (length file)
+              (length file < place file k r + sizeOf file k r m) p → ⊥
           fit p a = omega (arith, a .given)
 
           pub in-contents :

@@ -20,7 +20,8 @@ pub put-one : (d : List ℕ) (at x : ℕ) → at < length d → Put d at (x ∷ 
 put-one d at x h =
     record { is = set-split d at x h ∙ sym (rw add-one (append-snoc (take at d) x (drop (suc at) d))) }
 
-pub put-length : {d d₁ : List ℕ} {at : ℕ} {vs : List ℕ} → Put d at vs d₁ → at + length vs ≤ length d → length d₁ ≡ length d
+pub put-length : {d d₁ : List ℕ} {at : ℕ} {vs : List ℕ} → Put d at vs d₁ → at + length vs ≤ length d → length d₁ ≡
+    length d
 put-length p h = ap length (p .is) ∙ rw (length-append, length-append, length-drop, length-take) (omega arith)
 
 module _ {d d₁ d₂ : List ℕ} {at at′ : ℕ} {vs ws : List ℕ} where
@@ -40,7 +41,15 @@ module _ {d d₁ d₂ : List ℕ} {at at′ : ℕ} {vs ws : List ℕ} where
       record {
         is =
             q .is
-            ∙ rw (e, left, right, length-append vs ws, ← add-assoc at (length vs) (length ws), ← append-assoc (take at d) vs ws);
+            ∙ rw (
+              e,
+              left,
+              right,
+              length-append vs ws,
+              ← add-assoc at (length vs) (length ws),
+              ← append-assoc
+                  (take at d) vs ws,
+            );
       }
 
 module _ (d : List ℕ) (at a b : ℕ) where

@@ -46,7 +46,8 @@ slot-name names i {n} h p =
     }
 
 module _ (names : List ℕ) where
-  pub names-size : (i : ℕ) → length (nameRecords names (i + 1)) ≡ length (nameRecords names i) + 3 + length (nameAt names i)
+  pub names-size : (i : ℕ) → length (nameRecords names (i + 1)) ≡ length (nameRecords names i) + 3 + length
+      (nameAt names i)
   unfolding nameRecords nameRecord
   names-size i = rw (add-one, length-append) (omega arith)
 
@@ -106,7 +107,8 @@ module _ {names : List ℕ} {i n : ℕ} (s : SlotName names i n) where
       record {
         put =
             rw add-one
-            (put-put (p .put) (rw (s .name) at q) (omega (arith, p .there)) (omega (arith, names-mono names i k (omega arith))));
+            (put-put (p .put) (rw (s .name) at q) (omega (arith, p .there))
+            (omega (arith, names-mono names i k (omega arith))));
         there = omega (arith, names-size names i, p .there, s .size);
       }
 

@@ -36,7 +36,8 @@ not-above r a b n = (some (ltb 0 r) refl, least (ltb a b) refl)
     least true e = absurd (n (λ h. ltb-true a b e))
     least false e = ltb-false a b e
 
-pub time-here : {file : List ℕ} {s : Cursor} → Stands file s → wordAt file (s .place + 2) ≡ timeIn file (s .names) (s .rows)
+pub time-here : {file : List ℕ} {s : Cursor} → Stands file s → wordAt file (s .place + 2) ≡ timeIn file (s .names)
+    (s .rows)
 unfolding timeIn
 time-here st = rw (st .there)
 
@@ -95,7 +96,8 @@ module _ {file : List ℕ} {s : Cursor} (st : StandsAt Row file s) where
             ))
 
         module _ (above : b ≡ true) where
-          rising : (p : ℕ) → Rattle.alf.specs.Refusals.At (place file (s .names) (s .rows) + 2) ((1 ≤ s .rows) × (timeIn file (s .names) (s .rows) ≤ timeIn file (s .names) (s .rows - 1))) p → ⊥
+          rising : (p : ℕ) → Rattle.alf.specs.Refusals.At (place file (s .names) (s .rows) + 2)
+              ((1 ≤ s .rows) × (timeIn file (s .names) (s .rows) ≤ timeIn file (s .names) (s .rows - 1))) p → ⊥
           rising p a = omega (arith, told-true tested above (a .given .0), a .given .1)
 
           module _ {bad : ℕ} (codes : CodesTo file (s .place + 6) (s .place + 6 + s .names) bad) where
@@ -163,7 +165,8 @@ module _ {file : List ℕ} {s : Cursor} (st : StandsAt End file s) where
             (refl, record { given = λ f. w (count-here ∙ f); there = ap (λ (p : ℕ). p + 2) (st .stands .there) }))
 
         module _ (right : n ≡ s .rows) where
-          counted : (p : ℕ) → Rattle.alf.specs.Refusals.At (place file (s .names) (s .rows) + 2) (wordAt file (place file (s .names) (s .rows) + 2) ≡ s .rows → ⊥) p → ⊥
+          counted : (p : ℕ) → Rattle.alf.specs.Refusals.At (place file (s .names) (s .rows) + 2)
+              (wordAt file (place file (s .names) (s .rows) + 2) ≡ s .rows → ⊥) p → ⊥
           counted p a = a .given (sym count-here ∙ right)
 
           pub end-after : {o : Outcome} → Is o 17 (s .place + 6) → 6 < length file - s .place → Checks file s o

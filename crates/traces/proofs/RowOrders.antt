@@ -51,7 +51,8 @@ passed-right [] b h = h
 passed-right (c ∷ a) b h = passed-right a b (h .1)
 
 module _ (k : ℕ) (times states : List ℕ) where
-  further : (m n number p : ℕ) → m ≤ n → RefusedWith (rowsOrder k times states m) number p → RefusedWith (rowsOrder k times states n) number p
+  further : (m n number p : ℕ) → m ≤ n → RefusedWith (rowsOrder k times states m) number p → RefusedWith
+      (rowsOrder k times states n) number p
   unfolding rowsOrder
   further m zero number p h r = let e : m ≡ 0 = omega arith in rw e at r
   further m (suc n) number p h r = go (eqb m (suc n)) refl (further m n number p)
@@ -59,7 +60,8 @@ module _ (k : ℕ) (times states : List ℕ) where
       go :
           (b : Bool) →
           eqb m (suc n) ≡ b →
-          (m ≤ n → RefusedWith (rowsOrder k times states m) number p → RefusedWith (rowsOrder k times states n) number p) →
+          (m ≤ n → RefusedWith (rowsOrder k times states m) number p → RefusedWith
+          (rowsOrder k times states n) number p) →
           RefusedWith (rowsOrder k times states (suc n)) number p
       go true e ih = rw (eqb-true m (suc n) e) at r
       go false e ih =
@@ -114,6 +116,7 @@ module _ (k : ℕ) (times states : List ℕ) where
   unfolding Passed rowsOrder
   rows-none = tt
 
-  pub rows-passed : {r n : ℕ} → r ≡ n → Passed (rowsOrder k times states r) → Comes (rowsOrder k times states n) (λ m. m ≡ n) (Done n)
+  pub rows-passed : {r n : ℕ} → r ≡ n → Passed (rowsOrder k times states r) → Comes (rowsOrder k times states n)
+      (λ m. m ≡ n) (Done n)
   unfolding Comes
   rows-passed e p = (rw e at p, refl)

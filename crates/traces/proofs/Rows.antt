@@ -59,7 +59,8 @@ module _ (file : List ℕ) (k n : ℕ) (rows : (r : ℕ) → r < n → Good Row 
           rw (eqb-true r m e) (getD-at (timesOf file k m) (timeIn file k m) [] 0 m (times-length file k n rows m))
       go false e ih =
           let l : r < m = omega (arith, eqb-false r m e) in
-          List·getD-append (timesOf file k m) (timeIn file k m ∷ []) 0 r (omega (arith, times-length file k n rows m)) ∙ ih l
+          List·getD-append (timesOf file k m) (timeIn file k m ∷ []) 0 r
+          (omega (arith, times-length file k n rows m)) ∙ ih l
 
   pub codes-of-states : (m r : ℕ) → m ≤ n → r < m → codesOf k (statesOf file k m) r ≡ codesIn file k r
   unfolding codesOf statesOf

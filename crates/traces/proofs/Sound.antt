@@ -100,7 +100,11 @@ module _ {file : List ℕ} {k n : ℕ} (accepted : Accepted file k n) where
     names-bytes zero h = rw (end-zero file)
     names-bytes (suc j) h =
         names-bytes j (omega arith)
-        ∙ rw (name-at j h, append-assoc (nameRecords (namesOf file k) j) (nameRecord (nameIn file j)) (drop (nameEnd file (suc j)) file))
+        ∙ rw (
+          name-at j h,
+          append-assoc (nameRecords (namesOf file k) j) (nameRecord (nameIn file j))
+              (drop (nameEnd file (suc j)) file),
+        )
         (ap (λ (l : List ℕ). nameRecords (namesOf file k) j ++ l) (name-spelt file j (name j h)))
 
     rows-bytes :
@@ -112,7 +116,13 @@ module _ {file : List ℕ} {k n : ℕ} (accepted : Accepted file k n) where
     rows-bytes zero h = refl
     rows-bytes (suc r) h =
         rows-bytes r (omega arith)
-        ∙ rw (time-of-times file k n rows n r h, codes-of-states file k n rows n r (omega arith) h, append-assoc (rowRecords k (timesOf file k n) (statesOf file k n) r) (rowRecord (timeIn file k r) (codesIn file k r)) (drop (place file k (suc r)) file))
+        ∙ rw (
+          time-of-times file k n rows n r h,
+          codes-of-states file k n rows n r (omega arith) h,
+          append-assoc
+              (rowRecords k (timesOf file k n) (statesOf file k n) r) (rowRecord (timeIn file k r) (codesIn file k r))
+              (drop (place file k (suc r)) file),
+        )
         (ap (λ (l : List ℕ). rowRecords k (timesOf file k n) (statesOf file k n) r ++ l)
         (rw add-one at (row-spelt file k r (row r h) bytes)))
 

@@ -93,7 +93,8 @@ module _ (file : List ℕ) where
       drop-cons file (p + i) 0 h ∙ ap (λ (x : ℕ). getD file (p + i) 0 ∷ drop x file) e
 
   split : (p n : ℕ) → drop p file ≡ take n (drop p file) ++ drop (p + n) file
-  split p n = sym (take-append-drop n (drop p file)) ∙ ap (λ (l : List ℕ). take n (drop p file) ++ l) (drop-drop n p file)
+  split p n = sym (take-append-drop n (drop p file)) ∙ ap (λ (l : List ℕ). take n (drop p file) ++ l)
+      (drop-drop n p file)
 
   two : (p : ℕ) → p + 2 ≤ length file → drop p file ≡ getD file p 0 ∷ getD file (p + 1) 0 ∷ drop (p + 2) file
   two p h =

@@ -93,7 +93,8 @@ module _ {names times states : List ℕ} {n k : ℕ} (g : NamesGood names times 
 
   room-check : ℕ → Order
   room-check room =
-      Rattle.alf.specs.Refusals.check 9 (Rattle.alf.specs.Refusals.no-room (length (fileOf names times states n)) room) ∷ []
+      Rattle.alf.specs.Refusals.check 9 (Rattle.alf.specs.Refusals.no-room
+      (length (fileOf names times states n)) room) ∷ []
 
   pub writes-row :
       (out : List ℕ) {o : Outcome} {r : Refusal} →
@@ -113,7 +114,8 @@ module _ {names times states : List ℕ} {n k : ℕ} (g : NamesGood names times 
       ))
 
   pub rows-good :
-      {o : Outcome} {m : ℕ} → Comes (rowsOrder k times states n) (λ m. m ≡ n) o → o ≡ Done m → Good names times states n k
+      {o : Outcome} {m : ℕ} → Comes (rowsOrder k times states n)
+      (λ m. m ≡ n) o → o ≡ Done m → Good names times states n k
   unfolding Comes
   rows-good {o} {m} c e =
       let d : Comes (rowsOrder k times states n) (λ m. m ≡ n) (Done m) = rw e at c in
@@ -137,7 +139,14 @@ module _ {names times states : List ℕ} {n k : ℕ} (g : Good names times state
   unfolding fileOf endRecord
   file-length =
       let e : count names ≡ k = sym (g .named .counted) in
-      rw (e, length-append, length-append, rows-length k times states n (rows-lent (g .named) .states-all) n (omega arith), word-length n)
+      rw (
+        e,
+        length-append,
+        length-append,
+        rows-length k times states n (rows-lent (g .named) .states-all) n
+            (omega arith),
+        word-length n,
+      )
       (omega arith)
 
   module _ (out : List ℕ) {s : ℕ} (size : NamesSize names k s) where
@@ -175,7 +184,8 @@ module _ {names times states : List ℕ} {n k : ℕ} (g : Good names times state
             room = omega (arith, p .there, size .is, put-length (p .put) (omega (arith, size .is)));
           }
 
-      pub end-fits : {out₁ : List ℕ} {at room₂ : ℕ} → NamesPut names k out out₁ at → room₂ ≡ length out₁ → at + n * (6 + k) + 6 ≤ room₂
+      pub end-fits : {out₁ : List ℕ} {at room₂ : ℕ} → NamesPut names k out out₁ at → room₂ ≡ length out₁ → at + n *
+          (6 + k) + 6 ≤ room₂
       end-fits p e = omega (arith, p .there, size .is, put-length (p .put) (omega (arith, size .is)))
 
       pub written :
@@ -205,6 +215,7 @@ module _ {names times states : List ℕ} {n k : ℕ} (g : Good names times state
             memory =
                 rw (sym (g .named .counted))
                 (put-over out
-                (put-put (p .put) (put-put q r (omega arith) (omega (arith, p .there, size .is))) (omega (arith, p .there))
+                (put-put (p .put) (put-put q r (omega arith) (omega (arith, p .there, size .is)))
+                (omega (arith, p .there))
                 (omega (arith, size .is))));
           }

@@ -42,7 +42,7 @@ pub record RoomRefused (file names times states : List ℕ) (number p : ℕ) : T
 abbrev pub over : List ℕ → List ℕ → List ℕ
 over out memory = out ++ drop (length out) memory
 
--- the file is the bytes of a trace of k names and n rows, for which there is room and which now stands in the three lists
+-- the file is the bytes of a trace of k names and n rows, for which there is room and which now stands in the lists
 pub record Got (file names times states : List ℕ) (k n : ℕ) (names′ times′ states′ : List ℕ) : Type 0 where
   pub ns : List ℕ
   pub ts : List ℕ

@@ -1,4 +1,4 @@
-// Reading a trace file: one pass to check, one to copy. Nothing is written before the file is known to be good and to fit.
+// Reading a trace file: a pass to check, a pass to copy. Nothing is written before the file is known good and to fit.
 ghost use mathlib.Core.Path.{_≡_};
 ghost use Rattle.traces.specs.declared.Reading.the-variants.{Refused};
 ghost use Rattle.traces.specs.Reading.{Accepted, Reads};

@@ -1,4 +1,4 @@
-// Writing a trace file: what is handed in is checked first, and nothing is written before it is known to be good and to fit.
+// Writing a trace file: what is handed in is checked first. Nothing is written before it is known to be good and to fit.
 ghost use mathlib.Core.Path.{_≡_};
 ghost use Prim.Native.Nat.{_+_, _*_, _<_, _≤_};
 ghost use lib.ListN.{length};

@@ -20,7 +20,8 @@ refuse-requires-2 c κs = search needs
 
 returns-2 : tie.Need-returns-2
 returns-2 c =
-    end-cut (c .before .before .before .before .pre) (c .before .before .if1 .left) (c .refuse2 .ensures) (c .before .if2 .taken)
+    end-cut (c .before .before .before .before .pre) (c .before .before .if1 .left) (c .refuse2 .ensures)
+    (c .before .if2 .taken)
 
 add-word-at : tie.Need-add-word-at
 add-word-at c = search needs
@@ -39,7 +40,8 @@ refuse-requires-3 c κs = search needs
 
 returns-3 : tie.Need-returns-3
 returns-3 c =
-    end-count (c .before .before .before .before .before .before .pre) (c .before .before .before .before .if1 .left) (c .before .before .before .if2 .left) (c .before .before .word-at .ensures) (c .refuse3 .ensures)
+    end-count (c .before .before .before .before .before .before .pre) (c .before .before .before .before .if1 .left)
+    (c .before .before .before .if2 .left) (c .before .before .word-at .ensures) (c .refuse3 .ensures)
     (c .before .if3 .taken)
 
 sub-if4 : tie.Need-sub-if4
@@ -53,12 +55,15 @@ refuse-requires-4 c κs = search needs
 
 returns-4 : tie.Need-returns-4
 returns-4 c =
-    end-after (c .before .before .before .before .before .before .before .pre) (c .before .before .before .before .before .if1 .left) (c .before .before .before .before .if2 .left) (c .before .before .before .word-at .ensures) (c .before .before .if3 .left)
+    end-after (c .before .before .before .before .before .before .before .pre)
+    (c .before .before .before .before .before .if1 .left) (c .before .before .before .before .if2 .left)
+    (c .before .before .before .word-at .ensures) (c .before .before .if3 .left)
     (c .refuse4 .ensures) (c .before .if4 .taken)
 
 returns-5 : tie.Need-returns-5
 returns-5 c =
-    end-good (c .before .before .before .before .before .before .pre) (c .before .before .before .before .if1 .left) (c .before .before .before .if2 .left) (c .before .before .word-at .ensures) (c .before .if3 .left) (c .if4 .left)
+    end-good (c .before .before .before .before .before .before .pre) (c .before .before .before .before .if1 .left)
+    (c .before .before .before .if2 .left) (c .before .before .word-at .ensures) (c .before .if3 .left) (c .if4 .left)
 
 pub check-end-spec : {M : Type 1} → statement M
 check-end-spec =

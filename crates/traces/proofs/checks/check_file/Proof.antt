@@ -29,7 +29,8 @@ enum-known-r c =
 
 returns : tie.Need-returns Inv-loop μ-loop
 returns c =
-    file-refused (c .before .before .before .before .loop .s) (c .before .before .before .check-record .ensures) (c .before .before .before .before .loop .inv .1) (c .before .r .given .1)
+    file-refused (c .before .before .before .before .loop .s) (c .before .before .before .check-record .ensures)
+    (c .before .before .before .before .loop .inv .1) (c .before .r .given .1)
 
 enum-known-mark : tie.Need-enum-known-mark Inv-loop μ-loop
 enum-known-mark c =
@@ -37,17 +38,24 @@ enum-known-mark c =
 
 returns-2 : tie.Need-returns-2 Inv-loop μ-loop
 returns-2 c =
-    file-accepted (c .before .before .before .before .before .loop .s) (c .before .before .before .before .check-record .ensures) (c .before .before .before .before .before .loop .inv .1) (c .before .before .mark .given .1) (c .if1 .taken)
+    file-accepted (c .before .before .before .before .before .loop .s)
+    (c .before .before .before .before .check-record .ensures)
+    (c .before .before .before .before .before .loop .inv .1) (c .before .before .mark .given .1) (c .if1 .taken)
 
 pass-requires : tie.Need-pass-requires Inv-loop μ-loop
 pass-requires c κs =
-    goes-on _ (c .before .before .before .before .check-record .ensures) (c .before .before .before .before .before .loop .inv .0) (c .before .before .mark .given .1) (c .if1 .left)
+    goes-on _ (c .before .before .before .before .check-record .ensures)
+    (c .before .before .before .before .before .loop .inv .0) (c .before .before .mark .given .1) (c .if1 .left)
 
 loop-less : tie.Need-loop-less Inv-loop μ-loop
 loop-less c = omega (arith, c .pass .ensures .further, c .pass .ensures .stands .within)
 
 loop-again : tie.Need-loop-again Inv-loop μ-loop
-loop-again c = (c .pass .ensures .stands, c .pass .ensures .before (c .before .before .before .before .before .before .loop .inv .1))
+loop-again c = (
+  c .pass .ensures .stands,
+  c .pass .ensures .before
+      (c .before .before .before .before .before .before .loop .inv .1),
+)
 
 pub check-file-spec : {M : Type 1} → statement M
 check-file-spec =

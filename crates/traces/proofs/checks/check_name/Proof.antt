@@ -2,7 +2,15 @@
 use native.Mathlib.Omega.{arith}
 use borrow.Author.Needs.{needs}
 use borrow.Author.Tests.{not-true, not-false}
-use Rattle.traces.proofs.Cursors.{name-late, name-33rd, name-unmeasured, name-cut, name-stands, name-not, name-old}
+use Rattle.traces.proofs.Cursors.{
+  name-late,
+  name-33rd,
+  name-unmeasured,
+  name-cut,
+  name-stands,
+  name-not,
+  name-old,
+}
 use Rattle.traces.proofs.Cursors.{name-good}
 use Rattle.traces.proofs.checks.check_name.Statement.{statement}
 use Rattle.traces.proofs.checks.check_name.Tie as tie
@@ -29,7 +37,8 @@ refuse-requires-3 c κs = search needs
 
 returns-3 : tie.Need-returns-3
 returns-3 c =
-    name-unmeasured (c .before .before .before .before .before .before .pre) (c .before .before .before .if1 .left) (c .before .before .if2 .left) (c .refuse3 .ensures) (c .before .if3 .taken)
+    name-unmeasured (c .before .before .before .before .before .before .pre) (c .before .before .before .if1 .left)
+    (c .before .before .if2 .left) (c .refuse3 .ensures) (c .before .if3 .taken)
 
 add-from : tie.Need-add-from
 add-from c = search needs
@@ -48,7 +57,9 @@ refuse-requires-4 c κs = search needs
 
 returns-4 : tie.Need-returns-4
 returns-4 c =
-    name-cut (c .before .before .before .before .before .before .before .before .pre) (c .before .before .before .before .before .if1 .left) (c .before .before .before .before .if2 .left) (c .before .before .byte-at .ensures) (c .before .before .before .if3 .left)
+    name-cut (c .before .before .before .before .before .before .before .before .pre)
+    (c .before .before .before .before .before .if1 .left) (c .before .before .before .before .if2 .left)
+    (c .before .before .byte-at .ensures) (c .before .before .before .if3 .left)
     (c .refuse4 .ensures) (c .before .if4 .taken)
 
 add-to : tie.Need-add-to
@@ -74,12 +85,20 @@ refuse-requires-5 c κs = search needs
 
 returns-5 : tie.Need-returns-5
 returns-5 c =
-    name-not (c .before .before .before .before .before .before .before .before .before .before .before .pre) (c .before .before .before .before .before .before .before .before .if1 .left) (c .before .before .before .before .before .before .before .if2 .left) (c .before .before .before .before .before .byte-at .ensures) (c .before .before .before .before .before .before .if3 .left)
-    (c .before .before .before .before .if4 .left) (c .before .before .is-name .ensures) (c .refuse5 .ensures) (not-true _ (c .before .if5 .taken))
+    name-not (c .before .before .before .before .before .before .before .before .before .before .before .pre)
+    (c .before .before .before .before .before .before .before .before .if1 .left)
+    (c .before .before .before .before .before .before .before .if2 .left)
+    (c .before .before .before .before .before .byte-at .ensures)
+    (c .before .before .before .before .before .before .if3 .left)
+    (c .before .before .before .before .if4 .left) (c .before .before .is-name .ensures) (c .refuse5 .ensures)
+    (not-true _ (c .before .if5 .taken))
 
 is-new-requires : tie.Need-is-new-requires
 is-new-requires c κs =
-    name-stands (c .before .before .before .before .before .before .before .before .before .before .pre) (c .before .before .before .before .before .before .before .if1 .left) (c .before .before .before .before .before .before .if2 .left) (c .before .before .before .before .byte-at .ensures) (c .before .before .before .before .before .if3 .left)
+    name-stands (c .before .before .before .before .before .before .before .before .before .before .pre)
+    (c .before .before .before .before .before .before .before .if1 .left)
+    (c .before .before .before .before .before .before .if2 .left)
+    (c .before .before .before .before .byte-at .ensures) (c .before .before .before .before .before .if3 .left)
     (c .before .before .before .if4 .left)
 
 add-refuse-2 : tie.Need-add-refuse-2
@@ -90,14 +109,24 @@ refuse-requires-6 c κs = search needs
 
 returns-6 : tie.Need-returns-6
 returns-6 c =
-    name-old (c .before .before .before .before .before .before .before .before .before .before .before .before .before .pre) (c .before .before .before .before .before .before .before .before .before .before .if1 .left) (c .before .before .before .before .before .before .before .before .before .if2 .left) (c .before .before .before .before .before .before .before .byte-at .ensures) (c .before .before .before .before .before .before .before .before .if3 .left)
-    (c .before .before .before .before .before .before .if4 .left) (c .before .before .before .before .is-name .ensures) (c .before .before .is-new .ensures) (c .refuse6 .ensures)
+    name-old (c .before .before .before .before .before .before .before .before .before .before .before .before
+    .before .pre) (c .before .before .before .before .before .before .before .before .before .before .if1 .left)
+    (c .before .before .before .before .before .before .before .before .before .if2 .left)
+    (c .before .before .before .before .before .before .before .byte-at .ensures)
+    (c .before .before .before .before .before .before .before .before .if3 .left)
+    (c .before .before .before .before .before .before .if4 .left)
+    (c .before .before .before .before .is-name .ensures) (c .before .before .is-new .ensures) (c .refuse6 .ensures)
     (not-true _ (c .before .if6 .taken))
 
 returns-7 : tie.Need-returns-7
 returns-7 c =
-    name-good (c .before .before .before .before .before .before .before .before .before .before .before .before .pre) (c .before .before .before .before .before .before .before .before .before .if1 .left) (c .before .before .before .before .before .before .before .before .if2 .left) (c .before .before .before .before .before .before .byte-at .ensures) (c .before .before .before .before .before .before .before .if3 .left)
-    (c .before .before .before .before .before .if4 .left) (c .before .before .before .is-name .ensures) (c .before .is-new .ensures) (not-false _ (c .before .before .if5 .left))
+    name-good (c .before .before .before .before .before .before .before .before .before .before .before .before .pre)
+    (c .before .before .before .before .before .before .before .before .before .if1 .left)
+    (c .before .before .before .before .before .before .before .before .if2 .left)
+    (c .before .before .before .before .before .before .byte-at .ensures)
+    (c .before .before .before .before .before .before .before .if3 .left)
+    (c .before .before .before .before .before .if4 .left) (c .before .before .before .is-name .ensures)
+    (c .before .is-new .ensures) (not-false _ (c .before .before .if5 .left))
     (not-false _ (c .if6 .left))
 
 pub check-name-spec : {M : Type 1} → statement M

@@ -24,21 +24,24 @@ enum-told c = search needs
 
 check-name-requires : tie.Need-check-name-requires
 check-name-requires c κs =
-    stands-at (c .before .before .before .before .before .pre) (c .before .before .before .if1 .left) (c .before .before .mark-at .ensures) (c .enum-told .given .1)
+    stands-at (c .before .before .before .before .before .pre) (c .before .before .before .if1 .left)
+    (c .before .before .mark-at .ensures) (c .enum-told .given .1)
 
 enum-told-2 : tie.Need-enum-told-2
 enum-told-2 c = search needs
 
 check-row-requires : tie.Need-check-row-requires
 check-row-requires c κs =
-    stands-at (c .before .before .before .before .before .pre) (c .before .before .before .if1 .left) (c .before .before .mark-at .ensures) (c .enum-told2 .given .1)
+    stands-at (c .before .before .before .before .before .pre) (c .before .before .before .if1 .left)
+    (c .before .before .mark-at .ensures) (c .enum-told2 .given .1)
 
 enum-told-3 : tie.Need-enum-told-3
 enum-told-3 c = search needs
 
 check-end-requires : tie.Need-check-end-requires
 check-end-requires c κs =
-    stands-at (c .before .before .before .before .before .pre) (c .before .before .before .if1 .left) (c .before .before .mark-at .ensures) (c .enum-told3 .given .1)
+    stands-at (c .before .before .before .before .before .pre) (c .before .before .before .if1 .left)
+    (c .before .before .mark-at .ensures) (c .enum-told3 .given .1)
 
 enum-told-4 : tie.Need-enum-told-4
 enum-told-4 c = search needs
@@ -59,7 +62,8 @@ returns-5 : tie.Need-returns-5
 unfolding Due
 returns-5 c =
     undue
-    (stands-at (c .before .before .before .before .before .before .pre) (c .before .before .before .before .if1 .left) (c .before .before .before .mark-at .ensures) (c .before .enum-told4 .given .1))
+    (stands-at (c .before .before .before .before .before .before .pre) (c .before .before .before .before .if1 .left)
+    (c .before .before .before .mark-at .ensures) (c .before .enum-told4 .given .1))
     (c .refuse2 .ensures) (λ d. d)
 
 pub check-record-spec : {M : Type 1} → statement M

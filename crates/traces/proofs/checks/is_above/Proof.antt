@@ -17,11 +17,13 @@ word-at-requires c κs = search needs
 
 returns-2 : tie.Need-returns-2
 returns-2 c =
-    above-yes (c .before .before .before .before .before .before .pre .stands) (c .before .before .word-at .ensures) (c .if2 .taken)
+    above-yes (c .before .before .before .before .before .before .pre .stands) (c .before .before .word-at .ensures)
+    (c .if2 .taken)
 
 returns-3 : tie.Need-returns-3
 returns-3 c =
-    above-no (c .before .before .before .before .before .before .pre .stands) (c .before .before .word-at .ensures) (c .before .before .before .if1 .left) (c .if2 .left)
+    above-no (c .before .before .before .before .before .before .pre .stands) (c .before .before .word-at .ensures)
+    (c .before .before .before .if1 .left) (c .if2 .left)
 
 pub is-above-spec : {M : Type 1} → statement M
 is-above-spec = tie.close (tie.spec returns add-word-at word-at-requires returns-2 returns-3)

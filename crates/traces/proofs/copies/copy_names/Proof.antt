@@ -26,15 +26,27 @@ loop-holds c =
 
 add-from : tie.Need-add-from Inv-loop μ-loop
 add-from c =
-    omega (arith, names-there _ _ (c .before .before .before .before .pre .names) _ _ (c .loop-test .taken) (c .before .loop .inv .2) .0)
+    omega (
+      arith,
+      names-there _ _ (c .before .before .before .before .pre .names) _ _ (c .loop-test .taken)
+          (c .before .loop .inv .2) .0,
+    )
 
 add-byte-at : tie.Need-add-byte-at Inv-loop μ-loop
 add-byte-at c =
-    omega (arith, names-there _ _ (c .before .before .before .before .pre .names) _ _ (c .loop-test .taken) (c .before .loop .inv .2) .0)
+    omega (
+      arith,
+      names-there _ _ (c .before .before .before .before .pre .names) _ _ (c .loop-test .taken)
+          (c .before .loop .inv .2) .0,
+    )
 
 byte-at-requires : tie.Need-byte-at-requires Inv-loop μ-loop
 byte-at-requires c κs =
-    omega (arith, names-there _ _ (c .before .before .before .before .pre .names) _ _ (c .loop-test .taken) (c .before .loop .inv .2) .0)
+    omega (
+      arith,
+      names-there _ _ (c .before .before .before .before .pre .names) _ _ (c .loop-test .taken)
+          (c .before .loop .inv .2) .0,
+    )
 
 mul-copy-slot : tie.Need-mul-copy-slot Inv-loop μ-loop
 mul-copy-slot c =
@@ -43,14 +55,30 @@ mul-copy-slot c =
 copy-slot-requires : tie.Need-copy-slot-requires Inv-loop μ-loop
 copy-slot-requires c κs =
     record {
-      there = omega (arith, names-there _ _ (c .before .before .before .before .before .before .pre .names) _ _ (c .before .before .loop-test .taken) (c .before .before .before .loop .inv .2) .0, c .before .byte-at .ensures .is);
-      few = omega (arith, names-there _ _ (c .before .before .before .before .before .before .pre .names) _ _ (c .before .before .loop-test .taken) (c .before .before .before .loop .inv .2) .1, c .before .byte-at .ensures .is);
+      there = omega (
+        arith,
+        names-there _ _ (c .before .before .before .before .before .before .pre .names) _ _
+            (c .before .before .loop-test .taken) (c .before .before .before .loop .inv .2) .0,
+        c .before .byte-at .ensures .is,
+      );
+      few = omega (
+        arith,
+        names-there _ _ (c .before .before .before .before .before .before .pre .names) _ _
+            (c .before .before .loop-test .taken) (c .before .before .before .loop .inv .2) .1,
+        c .before .byte-at .ensures .is,
+      );
       room = search needs;
     }
 
 add-q : tie.Need-add-q Inv-loop μ-loop
 add-q c =
-    omega (arith, names-there _ _ (c .before .before .before .before .before .before .before .before .before .pre .names) _ _ (c .before .before .before .before .before .loop-test .taken) (c .before .before .before .before .before .before .loop .inv .2) .0, c .before .before .before .before .byte-at .ensures .is)
+    omega (
+      arith,
+      names-there _ _ (c .before .before .before .before .before .before .before .before .before .pre
+          .names) _ _ (c .before .before .before .before .before .loop-test .taken)
+          (c .before .before .before .before .before .before .loop .inv .2) .0,
+      c .before .before .before .before .byte-at .ensures .is,
+    )
 
 add-i : tie.Need-add-i Inv-loop μ-loop
 add-i c = search needs
@@ -62,8 +90,11 @@ loop-again : tie.Need-loop-again Inv-loop μ-loop
 loop-again c = (
   search needs,
   c .before .before .copy-slot .kept .1 .1 .1 .0 ∙ c .before .before .before .before .before .before .loop .inv .1,
-  next-name _ _ (c .before .before .before .before .before .before .loop .inv .2) (c .before .before .before .before .byte-at .ensures),
-  names-more _ _ _ _ _ _ _ (c .before .before .before .before .before .before .loop .inv .3) (c .before .before .before .before .before .before .loop .inv .2) (c .before .before .before .before .byte-at .ensures)
+  next-name _ _ (c .before .before .before .before .before .before .loop .inv .2)
+      (c .before .before .before .before .byte-at .ensures),
+  names-more _ _ _ _ _ _ _ (c .before .before .before .before .before .before .loop .inv .3)
+      (c .before .before .before .before .before .before .loop .inv .2)
+      (c .before .before .before .before .byte-at .ensures)
       (c .before .before .copy-slot .ensures),
 )
 

@@ -21,7 +21,8 @@ same-length : tie.Need-same-length
 same-length c = search needs
 
 returns : tie.Need-returns
-returns c = slot-pasted (c .before .before .before .before .before .before .before .before .before .before .pre) (c .before .before .before .before .before .before .copy .ensures) (c .before .before .clear .ensures)
+returns c = slot-pasted (c .before .before .before .before .before .before .before .before .before .before .pre)
+    (c .before .before .before .before .before .before .copy .ensures) (c .before .before .clear .ensures)
 
 pub copy-slot-spec : {M : Type 1} → statement M
 copy-slot-spec =

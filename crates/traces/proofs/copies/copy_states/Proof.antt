@@ -27,26 +27,54 @@ loop-holds c =
 
 add-copy : tie.Need-add-copy Inv-loop μ-loop
 add-copy c =
-    omega (arith, row-there _ _ _ (c .before .before .before .before .pre .rows) _ _ (c .loop-test .taken) (c .before .loop .inv .2))
+    omega (
+      arith,
+      row-there _ _ _ (c .before .before .before .before .pre .rows) _ _ (c .loop-test .taken)
+          (c .before .loop .inv .2),
+    )
 
 copy-requires : tie.Need-copy-requires Inv-loop μ-loop
 copy-requires c κs =
     record {
-      there = omega (arith, row-there _ _ _ (c .before .before .before .before .before .pre .rows) _ _ (c .before .loop-test .taken) (c .before .before .loop .inv .2));
-      room = omega (arith, room-for _ _ (c .before .before .before .before .before .args .k) (c .before .loop-test .taken), c .before .before .loop .inv .3, c .before .before .before .before .before .pre .room);
+      there = omega (
+        arith,
+        row-there _ _ _ (c .before .before .before .before .before .pre .rows) _ _
+            (c .before .loop-test .taken) (c .before .before .loop .inv .2),
+      );
+      room = omega (
+        arith,
+        room-for _ _ (c .before .before .before .before .before .args .k)
+            (c .before .loop-test .taken),
+        c .before .before .loop .inv .3,
+        c .before .before .before .before .before .pre .room,
+      );
     }
 
 add-to : tie.Need-add-to Inv-loop μ-loop
 add-to c =
-    omega (arith, room-for _ _ (c .before .before .before .before .before .before .before .before .args .k) (c .before .before .before .before .loop-test .taken), c .before .before .before .before .before .loop .inv .3, c .before .before .before .before .before .before .before .before .pre .room)
+    omega (
+      arith,
+      room-for _ _ (c .before .before .before .before .before .before .before .before .args .k)
+          (c .before .before .before .before .loop-test .taken),
+      c .before .before .before .before .before .loop .inv .3,
+      c .before .before .before .before .before .before .before .before .pre .room,
+    )
 
 add-q : tie.Need-add-q Inv-loop μ-loop
 add-q c =
-    omega (arith, row-there _ _ _ (c .before .before .before .before .before .before .before .before .pre .rows) _ _ (c .before .before .before .before .loop-test .taken) (c .before .before .before .before .before .loop .inv .2))
+    omega (
+      arith,
+      row-there _ _ _ (c .before .before .before .before .before .before .before .before .pre .rows) _ _
+          (c .before .before .before .before .loop-test .taken) (c .before .before .before .before .before .loop .inv .2),
+    )
 
 add-q-2 : tie.Need-add-q-2 Inv-loop μ-loop
 add-q-2 c =
-    omega (arith, row-there _ _ _ (c .before .before .before .before .before .before .before .before .pre .rows) _ _ (c .before .before .before .before .loop-test .taken) (c .before .before .before .before .before .loop .inv .2))
+    omega (
+      arith,
+      row-there _ _ _ (c .before .before .before .before .before .before .before .before .pre .rows) _ _
+          (c .before .before .before .before .loop-test .taken) (c .before .before .before .before .before .loop .inv .2),
+    )
 
 add-r : tie.Need-add-r Inv-loop μ-loop
 add-r c = search needs
@@ -58,10 +86,13 @@ loop-again : tie.Need-loop-again Inv-loop μ-loop
 loop-again c = (
   search needs,
   c .before .before .copy .kept .1 .1 .1 .0 ∙ c .before .before .before .before .before .loop .inv .1,
-  row-next _ _ _ (c .before .before .before .before .before .before .before .before .pre .rows) _ _ (c .before .before .before .before .before .loop .inv .2),
+  row-next _ _ _ (c .before .before .before .before .before .before .before .before .pre .rows) _ _
+      (c .before .before .before .before .before .loop .inv .2),
   rw (c .before .before .before .before .before .loop .inv .3) (next-to _ _),
-  states-more _ _ _ (c .before .before .before .before .before .before .before .before .pre .rows) _ _ _ _ _ _ (c .before .before .before .before .loop-test .taken) (c .before .before .before .before .before .loop .inv .4)
-      (c .before .before .before .before .before .loop .inv .2) (c .before .before .before .before .before .loop .inv .3) (c .before .before .copy .ensures),
+  states-more _ _ _ (c .before .before .before .before .before .before .before .before .pre .rows) _ _ _ _ _ _
+      (c .before .before .before .before .loop-test .taken) (c .before .before .before .before .before .loop .inv .4)
+      (c .before .before .before .before .before .loop .inv .2)
+      (c .before .before .before .before .before .loop .inv .3) (c .before .before .copy .ensures),
 )
 
 same-length : tie.Need-same-length Inv-loop μ-loop

@@ -23,10 +23,18 @@ unfolding timesOf
 loop-holds c = (search needs, refl, c .before .before .pre .there, refl)
 
 add-word-at : tie.Need-add-word-at Inv-loop μ-loop
-add-word-at c = omega (arith, row-there _ _ _ (c .before .before .before .before .pre .rows) _ _ (c .loop-test .taken) (c .before .loop .inv .2))
+add-word-at c = omega (
+  arith,
+  row-there _ _ _ (c .before .before .before .before .pre .rows) _ _ (c .loop-test .taken)
+      (c .before .loop .inv .2),
+)
 
 word-at-requires : tie.Need-word-at-requires Inv-loop μ-loop
-word-at-requires c κs = omega (arith, row-there _ _ _ (c .before .before .before .before .pre .rows) _ _ (c .loop-test .taken) (c .before .loop .inv .2))
+word-at-requires c κs = omega (
+  arith,
+  row-there _ _ _ (c .before .before .before .before .pre .rows) _ _
+      (c .loop-test .taken) (c .before .loop .inv .2),
+)
 
 mul-out : tie.Need-mul-out Inv-loop μ-loop
 mul-out c = search needs
@@ -35,10 +43,18 @@ slice-write-out : tie.Need-slice-write-out Inv-loop μ-loop
 slice-write-out c = search needs
 
 add-q : tie.Need-add-q Inv-loop μ-loop
-add-q c = omega (arith, row-there _ _ _ (c .before .before .before .before .before .pre .rows) _ _ (c .before .loop-test .taken) (c .before .before .loop .inv .2))
+add-q c = omega (
+  arith,
+  row-there _ _ _ (c .before .before .before .before .before .pre .rows) _ _
+      (c .before .loop-test .taken) (c .before .before .loop .inv .2),
+)
 
 add-q-2 : tie.Need-add-q-2 Inv-loop μ-loop
-add-q-2 c = omega (arith, row-there _ _ _ (c .before .before .before .before .before .pre .rows) _ _ (c .before .loop-test .taken) (c .before .before .loop .inv .2))
+add-q-2 c = omega (
+  arith,
+  row-there _ _ _ (c .before .before .before .before .before .pre .rows) _ _
+      (c .before .loop-test .taken) (c .before .before .loop .inv .2),
+)
 
 add-r : tie.Need-add-r Inv-loop μ-loop
 add-r c = search needs
@@ -51,7 +67,8 @@ loop-again c = (
   search needs,
   simp length-set (omega arith),
   row-next _ _ _ (c .before .before .before .before .before .pre .rows) _ _ (c .before .before .loop .inv .2),
-  times-more _ _ _ (c .before .before .before .before .before .pre .rows) _ _ _ _ _ (c .before .before .loop .inv .3) (c .before .before .loop .inv .2) (c .word-at .ensures)
+  times-more _ _ _ (c .before .before .before .before .before .pre .rows) _ _ _ _ _ (c .before .before .loop .inv .3)
+      (c .before .before .loop .inv .2) (c .word-at .ensures)
       (omega arith),
 )
 

@@ -19,7 +19,8 @@ same-length c = search needs
 
 returns : tie.Need-returns
 returns c =
-    end-put _ (c .before .before .before .before .before .before .before .before .before .pre) (c .before .before .before .before .before .before .put-mark .ensures) (c .before .before .put-word .ensures)
+    end-put _ (c .before .before .before .before .before .before .before .before .before .pre)
+    (c .before .before .before .before .before .before .put-mark .ensures) (c .before .before .put-word .ensures)
 
 pub put-end-spec : {M : Type 1} → statement M
 put-end-spec =

@@ -26,16 +26,23 @@ copy-requires : tie.Need-copy-requires
 copy-requires c κs =
     record {
       there = search needs;
-      room = simp length-set (omega (arith, c .before .before .before .put-mark .kept .0, c .before .before .before .before .before .before .before .pre .room));
+      room = simp length-set (omega (
+        arith,
+        c .before .before .before .put-mark .kept .0,
+        c .before .before .before .before .before .before .before .pre .room,
+      ));
     }
 
 same-length : tie.Need-same-length
 same-length c =
-    c .before .before .copy .kept .1 .1 .1 .0 ∙ length-set (c .before .before .before .before .before .before .put-mark .last .0) _ _ ∙ c .before .before .before .before .before .before .put-mark .kept .0
+    c .before .before .copy .kept .1 .1 .1 .0 ∙ length-set
+    (c .before .before .before .before .before .before .put-mark .last .0) _ _ ∙
+    c .before .before .before .before .before .before .put-mark .kept .0
 
 returns : tie.Need-returns
 returns c =
-    name-put (c .before .before .before .before .before .before .before .before .before .before .pre) (c .before .before .before .before .before .before .put-mark .ensures) (c .before .before .copy .ensures)
+    name-put (c .before .before .before .before .before .before .before .before .before .before .pre)
+    (c .before .before .before .before .before .before .put-mark .ensures) (c .before .before .copy .ensures)
 
 pub put-name-spec : {M : Type 1} → statement M
 put-name-spec =

@@ -25,7 +25,9 @@ same-length c = search needs
 
 returns : tie.Need-returns
 returns c =
-    row-put _ (c .before .before .before .before .before .before .before .before .before .before .before .before .before .before .pre) (c .before .before .before .before .before .before .before .before .before .before .put-mark .ensures) (c .before .before .before .before .before .before .put-word .ensures) (c .before .before .copy .ensures)
+    row-put _ (c .before .before .before .before .before .before .before .before .before .before .before .before
+    .before .before .pre) (c .before .before .before .before .before .before .before .before .before .before .put-mark
+    .ensures) (c .before .before .before .before .before .before .put-word .ensures) (c .before .before .copy .ensures)
 
 pub put-row-spec : {M : Type 1} → statement M
 put-row-spec =

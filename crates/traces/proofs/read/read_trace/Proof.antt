@@ -16,7 +16,8 @@ enum-known-k c = search needs
 
 fill-requires : tie.Need-fill-requires
 fill-requires c κs =
-    checked-accepted _ (c .before .before .before .before .before .before .check-file .ensures) (c .before .before .before .before .k .given .1)
+    checked-accepted _ (c .before .before .before .before .before .before .check-file .ensures)
+    (c .before .before .before .before .k .given .1)
 
 returns : tie.Need-returns
 returns c =

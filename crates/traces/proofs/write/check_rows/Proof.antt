@@ -31,24 +31,43 @@ refuse-requires c κs = search needs
 
 returns : tie.Need-returns Inv-loop μ-loop
 returns c =
-    row-late _ _ _ _ (c .before .before .before .loop-test .taken) (c .before .before .before .before .loop .inv .2) (c .before .before .is-later .ensures) (c .refuse .ensures)
+    row-late _ _ _ _ (c .before .before .before .loop-test .taken) (c .before .before .before .before .loop .inv .2)
+    (c .before .before .is-later .ensures) (c .refuse .ensures)
     (not-true _ (c .before .if1 .taken))
 
 add-to : tie.Need-add-to Inv-loop μ-loop
 add-to c =
-    omega (arith, room-for _ _ (c .before .before .before .before .before .before .args .k) (c .before .before .loop-test .taken), c .before .before .before .loop .inv .1, c .before .before .before .before .before .before .pre .states-all)
+    omega (
+      arith,
+      room-for _ _ (c .before .before .before .before .before .before .args .k)
+          (c .before .before .loop-test .taken),
+      c .before .before .before .loop .inv .1,
+      c .before .before .before .before .before .before .pre .states-all,
+    )
 
 codes-to-requires : tie.Need-codes-to-requires Inv-loop μ-loop
-codes-to-requires c κs =
-    (search needs, omega (arith, room-for _ _ (c .before .before .before .before .before .before .args .k) (c .before .before .loop-test .taken), c .before .before .before .loop .inv .1, c .before .before .before .before .before .before .pre .states-all))
+codes-to-requires c κs = (
+  search needs,
+  omega (
+    arith,
+    room-for _ _ (c .before .before .before .before .before .before .args .k)
+        (c .before .before .loop-test .taken),
+    c .before .before .before .loop .inv .1,
+    c .before .before .before .before .before .before .pre .states-all,
+  ),
+)
 
 refuse-requires-2 : tie.Need-refuse-requires-2 Inv-loop μ-loop
 refuse-requires-2 c κs = search needs
 
 returns-2 : tie.Need-returns-2 Inv-loop μ-loop
 returns-2 c =
-    row-bad _ _ _ _ (c .before .before .before .before .before .loop-test .taken) (c .before .before .before .before .before .before .loop .inv .2) (c .before .before .before .before .is-later .ensures)
-    (not-false _ (c .before .before .before .if1 .left)) (c .before .before .before .before .before .before .loop .inv .1) (c .before .before .codes-to .ensures) (c .refuse2 .ensures)
+    row-bad _ _ _ _ (c .before .before .before .before .before .loop-test .taken)
+    (c .before .before .before .before .before .before .loop .inv .2)
+    (c .before .before .before .before .is-later .ensures)
+    (not-false _ (c .before .before .before .if1 .left))
+    (c .before .before .before .before .before .before .loop .inv .1) (c .before .before .codes-to .ensures)
+    (c .refuse2 .ensures)
     (c .before .if2 .taken)
 
 add-r : tie.Need-add-r Inv-loop μ-loop
@@ -61,8 +80,10 @@ loop-again : tie.Need-loop-again Inv-loop μ-loop
 loop-again c = (
   search needs,
   rw (c .before .before .before .before .before .loop .inv .1) (next-to _ _),
-  row-passes _ _ _ (λ m. m ≡ m) (c .before .before .before .before .loop-test .taken) (c .before .before .before .before .before .loop .inv .2) (c .before .before .before .is-later .ensures)
-      (not-false _ (c .before .before .if1 .left)) (c .before .before .before .before .before .loop .inv .1) (c .before .codes-to .ensures) (c .if2 .left),
+  row-passes _ _ _ (λ m. m ≡ m) (c .before .before .before .before .loop-test .taken)
+      (c .before .before .before .before .before .loop .inv .2) (c .before .before .before .is-later .ensures)
+      (not-false _ (c .before .before .if1 .left)) (c .before .before .before .before .before .loop .inv .1)
+      (c .before .codes-to .ensures) (c .if2 .left),
 )
 
 returns-3 : tie.Need-returns-3 Inv-loop μ-loop

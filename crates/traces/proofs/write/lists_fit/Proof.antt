@@ -42,10 +42,19 @@ returns-8 : tie.Need-returns-8
 returns-8 c =
     holds
     (record {
-      slots = record { whole = c .before .before .before .before .before .before .if1 .left; some = search needs; few = c .before .before .before .before .if3 .left };
+      slots = record {
+        whole = c .before .before .before .before .before .before .if1 .left;
+        some = search needs;
+        few = c .before .before .before .before .if3 .left;
+      };
       lists =
-          record
-          { some = search needs; few = c .before .before .if5 .left; times-all = c .before .if6 .left; states-all = c .if7 .left };
+          record {
+            some = search needs;
+            few = c .before .before .if5 .left;
+            times-all = c .before .if6 .left;
+            states-all =
+                c .if7 .left;
+          };
     })
 
 pub lists-fit-spec : {M : Type 1} → statement M

@@ -51,8 +51,11 @@ loop-less : tie.Need-loop-less Inv-loop μ-loop
 loop-less c = search needs
 
 loop-again : tie.Need-loop-again Inv-loop μ-loop
-loop-again c =
-    (search needs, names-grow (slot-name _ _ (omega arith) (c .name-len .ensures)) (c .before .before .before .loop .inv .1))
+loop-again c = (
+  search needs,
+  names-grow (slot-name _ _ (omega arith) (c .name-len .ensures))
+      (c .before .before .before .loop .inv .1),
+)
 
 returns : tie.Need-returns Inv-loop μ-loop
 returns c =

@@ -39,16 +39,31 @@ name-len-requires c κs = search needs
 
 put-name-requires : tie.Need-put-name-requires Inv-loop μ-loop
 put-name-requires c κs =
-    name-may (slot-name _ _ (omega arith) (c .before .name-len .ensures)) _ (c .before .before .before .before .loop .inv .1)
-    (c .before .before .before .before .loop .inv .2 .there) (c .before .before .before .loop-test .taken) (c .before .before .before .before .before .before .before .pre .there) (c .before .before .before .before .before .before .before .pre .room)
+    name-may (slot-name _ _ (omega arith) (c .before .name-len .ensures)) _
+    (c .before .before .before .before .loop .inv .1)
+    (c .before .before .before .before .loop .inv .2 .there) (c .before .before .before .loop-test .taken)
+    (c .before .before .before .before .before .before .before .pre .there)
+    (c .before .before .before .before .before .before .before .pre .room)
 
 add-at : tie.Need-add-at Inv-loop μ-loop
 add-at c =
-    omega (arith, name-fits (slot-name _ _ (omega arith) (c .before .before .before .before .name-len .ensures)) (c .before .before .before .before .before .before .before .loop .inv .2 .there) (c .before .before .before .before .before .before .loop-test .taken) (c .before .before .before .before .before .before .before .before .before .before .pre .room))
+    omega (
+      arith,
+      name-fits (slot-name _ _ (omega arith) (c .before .before .before .before .name-len .ensures))
+          (c .before .before .before .before .before .before .before .loop .inv .2 .there)
+          (c .before .before .before .before .before .before .loop-test .taken)
+          (c .before .before .before .before .before .before .before .before .before .before .pre .room),
+    )
 
 add-at-2 : tie.Need-add-at-2 Inv-loop μ-loop
 add-at-2 c =
-    omega (arith, name-fits (slot-name _ _ (omega arith) (c .before .before .before .before .name-len .ensures)) (c .before .before .before .before .before .before .before .loop .inv .2 .there) (c .before .before .before .before .before .before .loop-test .taken) (c .before .before .before .before .before .before .before .before .before .before .pre .room))
+    omega (
+      arith,
+      name-fits (slot-name _ _ (omega arith) (c .before .before .before .before .name-len .ensures))
+          (c .before .before .before .before .before .before .before .loop .inv .2 .there)
+          (c .before .before .before .before .before .before .loop-test .taken)
+          (c .before .before .before .before .before .before .before .before .before .before .pre .room),
+    )
 
 add-i : tie.Need-add-i Inv-loop μ-loop
 add-i c = search needs
@@ -59,8 +74,12 @@ loop-less c = search needs
 loop-again : tie.Need-loop-again Inv-loop μ-loop
 loop-again c = (
   search needs,
-  c .before .before .put-name .kept .1 .1 .1 .0 ∙ c .before .before .before .before .before .before .before .loop .inv .1,
-  names-put (slot-name _ _ (omega arith) (c .before .before .before .before .name-len .ensures)) (c .before .before .before .before .before .before .before .loop .inv .2) (c .before .before .before .before .before .before .loop-test .taken) (c .before .before .before .before .before .before .before .before .before .before .pre .room)
+  c .before .before .put-name .kept .1 .1 .1 .0 ∙ c .before .before .before .before .before .before .before .loop .inv
+      .1,
+  names-put (slot-name _ _ (omega arith) (c .before .before .before .before .name-len .ensures))
+      (c .before .before .before .before .before .before .before .loop .inv .2)
+      (c .before .before .before .before .before .before .loop-test .taken)
+      (c .before .before .before .before .before .before .before .before .before .before .pre .room)
       (c .before .before .put-name .ensures),
 )
 

@@ -33,21 +33,51 @@ shared-slice-read-put-row c = search needs
 put-row-requires : tie.Need-put-row-requires Inv-loop μ-loop
 put-row-requires c κs =
     record {
-      there = omega (arith, room-for _ _ (c .before .before .before .before .before .before .before .args .k) (c .before .before .loop-test .taken), c .before .before .before .loop .inv .3, c .before .before .before .before .before .before .before .pre .lent .states-all);
-      room = omega (arith, room-for _ _ (6 + c .before .before .before .before .before .before .before .args .k) (c .before .before .loop-test .taken), c .before .before .before .loop .inv .2, c .before .before .before .before .before .before .before .pre .room);
+      there = omega (
+        arith,
+        room-for _ _ (c .before .before .before .before .before .before .before .args .k)
+            (c .before .before .loop-test .taken),
+        c .before .before .before .loop .inv .3,
+        c .before .before .before .before .before .before .before .pre .lent .states-all,
+      );
+      room = omega (
+        arith,
+        room-for _ _ (6 + c .before .before .before .before .before .before .before .args .k)
+            (c .before .before .loop-test .taken),
+        c .before .before .before .loop .inv .2,
+        c .before .before .before .before .before .before .before .pre .room,
+      );
     }
 
 add-q : tie.Need-add-q Inv-loop μ-loop
 add-q c =
-    omega (arith, room-for _ _ (6 + c .before .before .before .before .before .before .before .before .before .before .args .k) (c .before .before .before .before .before .loop-test .taken), c .before .before .before .before .before .before .loop .inv .2, c .before .before .before .before .before .before .before .before .before .before .pre .room)
+    omega (
+      arith,
+      room-for _ _ (6 + c .before .before .before .before .before .before .before .before .before .before
+          .args .k) (c .before .before .before .before .before .loop-test .taken),
+      c .before .before .before .before .before .before .loop .inv .2,
+      c .before .before .before .before .before .before .before .before .before .before .pre .room,
+    )
 
 add-q-2 : tie.Need-add-q-2 Inv-loop μ-loop
 add-q-2 c =
-    omega (arith, room-for _ _ (6 + c .before .before .before .before .before .before .before .before .before .before .args .k) (c .before .before .before .before .before .loop-test .taken), c .before .before .before .before .before .before .loop .inv .2, c .before .before .before .before .before .before .before .before .before .before .pre .room)
+    omega (
+      arith,
+      room-for _ _ (6 + c .before .before .before .before .before .before .before .before .before .before
+          .args .k) (c .before .before .before .before .before .loop-test .taken),
+      c .before .before .before .before .before .before .loop .inv .2,
+      c .before .before .before .before .before .before .before .before .before .before .pre .room,
+    )
 
 add-from : tie.Need-add-from Inv-loop μ-loop
 add-from c =
-    omega (arith, room-for _ _ (c .before .before .before .before .before .before .before .before .before .before .args .k) (c .before .before .before .before .before .loop-test .taken), c .before .before .before .before .before .before .loop .inv .3, c .before .before .before .before .before .before .before .before .before .before .pre .lent .states-all)
+    omega (
+      arith,
+      room-for _ _ (c .before .before .before .before .before .before .before .before .before .before
+          .args .k) (c .before .before .before .before .before .loop-test .taken),
+      c .before .before .before .before .before .before .loop .inv .3,
+      c .before .before .before .before .before .before .before .before .before .before .pre .lent .states-all,
+    )
 
 add-r : tie.Need-add-r Inv-loop μ-loop
 add-r c = search needs
@@ -59,10 +89,20 @@ loop-again : tie.Need-loop-again Inv-loop μ-loop
 loop-again c = (
   search needs,
   c .before .before .put-row .kept .1 .1 .1 .1 .0 ∙ c .before .before .before .before .before .before .loop .inv .1,
-  omega (arith, c .before .before .before .before .before .before .loop .inv .2, next-to (c .before .before .before .before .before .before .loop .r) (6 + c .before .before .before .before .before .before .before .before .before .before .args .k)),
+  omega (
+    arith,
+    c .before .before .before .before .before .before .loop .inv .2,
+    next-to
+        (c .before .before .before .before .before .before .loop .r)
+        (6 + c .before .before .before .before .before .before .before .before .before .before .args .k),
+  ),
   rw (c .before .before .before .before .before .before .loop .inv .3) (next-to _ _),
-  rows-put _ _ _ _ (c .before .before .before .before .before .before .before .before .before .before .pre .lent .states-all) (c .before .before .before .before .before .loop-test .taken) (c .before .before .before .before .before .before .before .before .before .before .pre .room)
-      (c .before .before .before .before .before .before .loop .inv .4) (c .before .before .before .before .before .before .loop .inv .2) (c .before .before .before .before .before .before .loop .inv .3) (c .before .before .put-row .ensures),
+  rows-put _ _ _ _ (c .before .before .before .before .before .before .before .before .before .before .pre .lent
+      .states-all) (c .before .before .before .before .before .loop-test .taken)
+      (c .before .before .before .before .before .before .before .before .before .before .pre .room)
+      (c .before .before .before .before .before .before .loop .inv .4)
+      (c .before .before .before .before .before .before .loop .inv .2)
+      (c .before .before .before .before .before .before .loop .inv .3) (c .before .before .put-row .ensures),
 )
 
 same-length : tie.Need-same-length Inv-loop μ-loop

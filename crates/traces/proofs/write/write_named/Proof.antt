@@ -17,11 +17,13 @@ enum-told c = search needs
 
 write-good-requires : tie.Need-write-good-requires
 write-good-requires c κs =
-    rows-good (c .before .before .before .before .before .before .before .before .pre) (c .before .before .before .check-rows .ensures) (c .before .enum-told .given .1)
+    rows-good (c .before .before .before .before .before .before .before .before .pre)
+    (c .before .before .before .check-rows .ensures) (c .before .enum-told .given .1)
 
 returns : tie.Need-returns
 returns c =
-    writes-row (c .before .before .before .before .before .before .before .before .pre) _ (c .before .before .before .check-rows .ensures) (c .before .r .given .1)
+    writes-row (c .before .before .before .before .before .before .before .before .pre) _
+    (c .before .before .before .check-rows .ensures) (c .before .r .given .1)
 
 same-length : tie.Need-same-length
 same-length c = search needs

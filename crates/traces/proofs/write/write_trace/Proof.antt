@@ -28,12 +28,15 @@ enum-known-k c = search needs
 
 write-named-requires : tie.Need-write-named-requires
 write-named-requires c κs =
-    names-good (told-true (c .before .before .before .before .before .before .lists-fit .ensures) (not-false _ (c .before .before .before .before .before .if1 .left))) (c .before .before .before .before .check-names .ensures)
+    names-good (told-true (c .before .before .before .before .before .before .lists-fit .ensures)
+    (not-false _ (c .before .before .before .before .before .if1 .left)))
+    (c .before .before .before .before .check-names .ensures)
     (c .before .before .k .given .1)
 
 returns-2 : tie.Need-returns-2
 returns-2 c =
-    writes-12 _ (told-true (c .before .before .before .before .before .lists-fit .ensures) (not-false _ (c .before .before .before .before .if1 .left))) (c .before .before .before .check-names .ensures)
+    writes-12 _ (told-true (c .before .before .before .before .before .lists-fit .ensures)
+    (not-false _ (c .before .before .before .before .if1 .left))) (c .before .before .before .check-names .ensures)
     (c .before .r .given .1)
 
 same-length : tie.Need-same-length
