@@ -1,9 +1,9 @@
 -- Windows of a trace: the rows inside one, the greatest and the least over one row more, and windows without an event.
---   earlier-row, row-inside, part-of-span   rows, and windows, inside a window
---   least-step, greatest-step, all-passed   a loop over a window's entries
+--   earlier-row, row-inside, span-of        rows up to a row, and inside a window
+--   least-step, greatest-step               one entry of a window more
 --   no-event                                a window that ends where it starts, or before, answers no
 -- Assumes nothing.
-use Prim.Native.Nat.{ℕ, zero, suc, _+_, _*_, _<_, _≤_, min, max}
+use Prim.Native.Nat.{ℕ, _+_, _<_, _≤_, min, max}
 use native.Mathlib.Omega.{arith}
 use native.Mathlib.Numerals.{add-one}
 use native.Mathlib.Nat.{mul-le-mul-right}
@@ -13,7 +13,7 @@ use Rattle.alf.specs.Words.{greatest, least, greatestOf}
 use Rattle.alf.specs.Expressions.{Boolean, Vector}
 use Rattle.alf.specs.Windows.{answer}
 use Rattle.alf.specs.Alternatives.{Alternative, alternatives}
-use Rattle.alf.proofs.Lists.{All, none, more}
+use Rattle.alf.proofs.Lists.{none, more}
 use Rattle.alf.proofs.Lifting.{Steps, most, win-off}
 use Rattle.alf.proofs.WindowsAreAlternatives.{window-alternatives, every-has-steps}
 use Rattle.evaluator.specs.Rows.{Within}
@@ -33,11 +33,10 @@ earlier-row {states} {names} {b} a h w =
 pub row-inside : {states : List ℕ} {names a b : ℕ} (m : ℕ) → m ≤ b → Span states names a b → Within states names m
 row-inside m h w = earlier-row m h (w .last)
 
-pub part-of-span : {states : List ℕ} {names a b : ℕ} (c d : ℕ) → c < d → d ≤ b → Span states names a b
-    → Span states names c d
-part-of-span c d h k w = record { some = h; last = row-inside d k w }
+pub span-of : {states : List ℕ} {names a b : ℕ} → a < b → Within states names b → Span states names a b
+span-of h w = record { some = h; last = w }
 
--- a loop over the entries of a window: one entry more, and all of them
+-- one entry of a window more
 pub least-step : {i low x r : ℕ} (f : ℕ → ℕ) → low ≡ least i f → x ≡ f i → r ≡ min low x → r ≡ least (i + 1) f
 unfolding least
 least-step f e d h = rw (add-one, ← e, ← d) h
@@ -46,9 +45,6 @@ pub greatest-step : {i high x r : ℕ} (f : ℕ → ℕ) → high ≡ greatest i
     → r ≡ greatest (i + 1) f
 unfolding greatest
 greatest-step f e d h = rw (add-one, ← e, ← d) h
-
-pub all-passed : {i n r : ℕ} (fold : ℕ → (ℕ → ℕ) → ℕ) (f : ℕ → ℕ) → i ≤ n → n ≤ i → r ≡ fold i f → r ≡ fold n f
-all-passed {i} {n} fold f l u h = let e : n ≡ i = omega arith in rw e h
 
 module _ (st : Boolean → ℕ → ℕ) where
   most-none : (xs : List Alternative) (a b : ℕ) → b ≤ a → Steps xs → most st xs a b ≡ 0

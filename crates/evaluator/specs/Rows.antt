@@ -1,11 +1,10 @@
 -- A trace's rows, as the functions over a tree ask for them, and what a part of a tree comes to there.
 use Prim.Native.Nat.{ℕ, _+_, _*_, _<_, _≤_}
-use mathlib.Core.Bool.{Bool}
 use mathlib.Core.Path.{_≡_}
-use mathlib.Core.List.{List}
+use mathlib.Core.List.{List, _++_}
 use lib.Dec.{ltb}
-use lib.ListN.{length, getD}
-use Rattle.alf.specs.Words.{if_then_else_}
+use lib.ListN.{length, getD, drop}
+use Rattle.alf.specs.Words.{if_then_else_, listed}
 use Rattle.alf.specs.States.{reduce}
 use Rattle.alf.specs.Values.{stateAt, valueAt}
 use Rattle.trees.specs.Parts.{booleanAt}
@@ -40,3 +39,12 @@ stateOf tree names states end = stateAt names states (booleanAt tree names end)
 
 abbrev pub valueOf : List ℕ → ℕ → List ℕ → ℕ → ℕ → ℕ
 valueOf tree names states end = valueAt names states (booleanAt tree names end)
+
+-- each of the first n rows stands in the states, and the list has room for an entry for each
+pub record Filling (states : List ℕ) (names n : ℕ) (out : List ℕ) : Type 0 where
+  pub rows : (i : ℕ) → i < n → Within states names i
+  pub room : n ≤ length out
+
+-- a list whose first n entries are f 0, f 1, ..; what is past them stays
+abbrev pub filled : ℕ → (ℕ → ℕ) → List ℕ → List ℕ
+filled n f out = listed 0 n f ++ drop n out

@@ -6,7 +6,7 @@ use Rattle.alf.specs.Words.{if_then_else_}
 use Rattle.alf.specs.Expressions.{Edge}
 use Rattle.alf.specs.Values.{stateAt}
 use Rattle.alf.specs.Windows.{Window, NO, edgeOn, answer, best}
-use Rattle.trees.specs.Parts.{EndsVector, vectorAt}
+use Rattle.trees.specs.Parts.{EndsBoolean, EndsVector, vectorAt}
 use Rattle.evaluator.specs.Rows.{Within}
 
 -- the rows from a to b of a trace, of one event or more
@@ -18,6 +18,11 @@ pub record Span (states : List ℕ) (names a b : ℕ) : Type 0 where
 pub record Both (tree : List ℕ) (names p q : ℕ) : Type 0 where
   pub left : EndsVector tree names p
   pub right : EndsVector tree names q
+
+-- a vector expression ends at p, a boolean one at c
+pub record Conditioned (tree : List ℕ) (names p c : ℕ) : Type 0 where
+  pub pattern : EndsVector tree names p
+  pub condition : EndsBoolean tree names c
 
 -- byte k is an operator of two vectors
 pub record JoinByte (k : ℕ) : Type 0 where

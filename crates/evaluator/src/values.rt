@@ -1,8 +1,8 @@
 // The state and the value of a boolean expression at a row, by recursion over the tree in its array: each operand ends
 // before its operator.
-ghost use Prim.Native.Nat.{_<_};
+ghost use mathlib.Core.Path.{_≡_};
 ghost use Rattle.trees.specs.Parts.{EndsBoolean};
-ghost use Rattle.evaluator.specs.Rows.{Within, IsState, stateOf, valueOf};
+ghost use Rattle.evaluator.specs.Rows.{Within, IsState, stateOf, valueOf, Filling, filled};
 use crate::operators::choose;
 use crate::operators::operated;
 use crate::operators::settle;
@@ -49,4 +49,18 @@ pub fn value(tree: &[u8], end: usize, states: &[u8], names: usize, row: usize) -
     let x = state(tree, end, states, names, row);
     let at = end - 1;
     settle(tree[at], x)
+}
+
+// Fills the first `n` entries of a list with the values at rows 0 to n-1.
+pub fn values(tree: &[u8], end: usize, states: &[u8], names: usize, n: usize, out: &mut [u8])
+    requires { ⌜ EndsBoolean (now tree) names end ⌝ }
+    requires { ⌜ Filling (now states) names n (now out) ⌝ }
+    ensures { λ _. ⌜ now (out .exit)
+        ≡ filled n (valueOf (now (tree .entry)) names (now (states .entry)) end) (now (out .entry)) ⌝ }
+{
+    let mut i = 0;
+    while i < n {
+        out[i] = value(tree, end, states, names, i);
+        i += 1;
+    }
 }

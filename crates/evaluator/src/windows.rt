@@ -1,12 +1,12 @@
-// The answers of a vector expression on windows of rows, by recursion over the tree in its array: each operand ends before
-// its operator. An answer is 0 no, 1 unknown, 2 yes.
+// The answers of a vector expression on windows of rows, by recursion over the tree in its array: each operand ends
+// before its operator. An answer is 0 no, 1 unknown, 2 yes.
 ghost use mathlib.Core.Path.{_≡_};
 ghost use Prim.Native.Nat.{_-_, min};
 ghost use Rattle.alf.specs.Windows.{held, followedBy, together, joined};
 ghost use Rattle.alf.specs.Bytes.{edgeAt, joinAt};
 ghost use Rattle.trees.specs.Parts.{EndsBoolean, EndsVector};
 ghost use Rattle.evaluator.specs.Rows.{Within, stateOf};
-ghost use Rattle.evaluator.specs.Spans.{Span, Both, JoinByte, edgeOver, answerOn};
+ghost use Rattle.evaluator.specs.Spans.{Span, Both, Conditioned, JoinByte, edgeOver, answerOn};
 use crate::values::state;
 use alf::edges::certainty_of;
 use alf::edges::edge_on;
@@ -44,4 +44,118 @@ fn held_over(tree: &[u8], end: usize, states: &[u8], names: usize, a: usize, b: 
         i += 1;
     }
     least
+}
+
+// The answer of the vector expression that ends at `end`, on the rows from `a` to `b`.
+pub fn answer(tree: &[u8], end: usize, states: &[u8], names: usize, a: usize, b: usize) -> u8
+    requires { ⌜ EndsVector (now tree) names end ⌝ }
+    requires { ⌜ Within (now states) names b ⌝ }
+    ensures { λ r. ⌜ r ≡ answerOn (now (tree .entry)) names (now (states .entry)) end a b ⌝ }
+{
+    if b <= a {
+        return 0;
+    }
+    let at = end - 1;
+    let k = tree[at];
+    if 64 <= k {
+        return edge_over(tree, at, k - 64, states, names, a, b);
+    }
+    let left = start_of(tree, at, names);
+    if k < 56 {
+        return join(k, tree, left, at, states, names, a, b);
+    }
+    if k == 56 {
+        return restrict(tree, left, at, states, names, a, b);
+    }
+    restrict(tree, at, left, states, names, a, b)
+}
+
+// `P & c`, of the vector expression that ends at `p` and the boolean one that ends at `c`.
+fn restrict(tree: &[u8], p: usize, c: usize, states: &[u8], names: usize, a: usize, b: usize) -> u8
+    requires { ⌜ Conditioned (now tree) names p c ⌝ }
+    requires { ⌜ Span (now states) names a b ⌝ }
+    ensures { λ r. ⌜ r ≡ min (answerOn (now (tree .entry)) names (now (states .entry)) p a b)
+        (held (stateOf (now (tree .entry)) names (now (states .entry)) c) a b) ⌝ }
+{
+    let x = answer(tree, p, states, names, a, b);
+    lesser(x, held_over(tree, c, states, names, a, b))
+}
+
+// `P k Q`, of the expressions that end at `p` and at `q`; k is one of `-> <-> &> <&> & |`, bytes 50 to 55.
+fn join(
+    k: u8,
+    tree: &[u8],
+    p: usize,
+    q: usize,
+    states: &[u8],
+    names: usize,
+    a: usize,
+    b: usize,
+) -> u8
+    requires { ⌜ Both (now tree) names p q ⌝ }
+    requires { ⌜ Span (now states) names a b ⌝ }
+    requires { ⌜ JoinByte k ⌝ }
+    ensures { λ r. ⌜ r ≡ joined (joinAt (k - 50)) (answerOn (now (tree .entry)) names (now (states .entry)) p)
+        (answerOn (now (tree .entry)) names (now (states .entry)) q) a b ⌝ }
+{
+    if k == 55 {
+        let x = answer(tree, p, states, names, a, b);
+        return greater(x, answer(tree, q, states, names, a, b));
+    }
+    if k == 54 {
+        return overlap(tree, p, q, states, names, a, b);
+    }
+    let x = sequence(tree, p, q, states, names, a, b);
+    if k == 50 {
+        return x;
+    }
+    if k == 51 {
+        return greater(x, sequence(tree, q, p, states, names, a, b));
+    }
+    let y = overlap(tree, p, q, states, names, a, b);
+    if k == 52 {
+        return greater(y, x);
+    }
+    greater(greater(x, y), sequence(tree, q, p, states, names, a, b))
+}
+
+// `P -> Q`: over each row a + 1 + i between `a` and `b`, P up to it and Q from it on.
+fn sequence(tree: &[u8], p: usize, q: usize, states: &[u8], names: usize, a: usize, b: usize) -> u8
+    requires { ⌜ Both (now tree) names p q ⌝ }
+    requires { ⌜ Span (now states) names a b ⌝ }
+    ensures { λ r. ⌜ r ≡ followedBy (answerOn (now (tree .entry)) names (now (states .entry)) p)
+        (answerOn (now (tree .entry)) names (now (states .entry)) q) a b ⌝ }
+{
+    let n = b - (a + 1);
+    let mut best: u8 = 0;
+    let mut i = 0;
+    while i < n {
+        let x = answer(tree, p, states, names, a, a + 1 + i);
+        let y = answer(tree, q, states, names, a + 1 + i, b);
+        best = greater(best, lesser(x, y));
+        i += 1;
+    }
+    best
+}
+
+// `P & Q`: both end at `b`, the longer starts at `a`, the shorter at each row m from `a` on.
+fn overlap(tree: &[u8], p: usize, q: usize, states: &[u8], names: usize, a: usize, b: usize) -> u8
+    requires { ⌜ Both (now tree) names p q ⌝ }
+    requires { ⌜ Span (now states) names a b ⌝ }
+    ensures { λ r. ⌜ r ≡ together (answerOn (now (tree .entry)) names (now (states .entry)) p)
+        (answerOn (now (tree .entry)) names (now (states .entry)) q) a b ⌝ }
+{
+    let n = b + 1 - a;
+    let x = answer(tree, p, states, names, a, b);
+    let y = answer(tree, q, states, names, a, b);
+    let mut best: u8 = 0;
+    let mut i = 0;
+    while i < n {
+        let m = a + i;
+        let u = answer(tree, q, states, names, m, b);
+        let v = answer(tree, p, states, names, m, b);
+        best = greater(best, greater(lesser(x, u), lesser(v, y)));
+        i += 1;
+    }
+    best
 }

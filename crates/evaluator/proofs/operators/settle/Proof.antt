@@ -1,5 +1,6 @@
 -- `operators::settle` meets its contract. Assumes nothing.
 use borrow.Author.Needs.{needs}
+use native.Mathlib.Omega.{arith}
 use Rattle.evaluator.proofs.Operating.{settled-name, settled-other}
 use Rattle.evaluator.proofs.operators.settle.Statement.{statement}
 use Rattle.evaluator.proofs.operators.settle.Tie as tie
@@ -9,5 +10,5 @@ settle-spec =
     tie.close
     (tie.spec
     (λ c κs. search needs)
-    (λ c. settled-name _ _ (c .before .if1 .taken) (c .reduced .ensures))
-    (λ c. settled-other _ _ (c .if1 .left) (c .before .pre)))
+    (λ c. settled-name (c .before .before .args .b) _ (omega arith) (c .reduced .ensures))
+    (λ c. settled-other (c .before .args .b) _ (omega arith) (c .before .pre)))

@@ -6,7 +6,8 @@ use mathlib.Core.Path.{_≡_, refl, ap, _∙_}
 use Rattle.alf.specs.Words.{least}
 use Rattle.alf.specs.Windows.{certainty, held}
 use Rattle.evaluator.specs.Rows.{stateOf}
-use Rattle.evaluator.proofs.Spans.{row-inside, least-step, all-passed}
+use Rattle.evaluator.proofs.Lists.{all-passed}
+use Rattle.evaluator.proofs.Spans.{row-inside, least-step}
 use Rattle.evaluator.proofs.windows.held_over.Statement.{statement}
 use Rattle.evaluator.proofs.windows.held_over.Tie as tie
 

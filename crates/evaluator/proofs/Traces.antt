@@ -1,0 +1,34 @@
+-- What calls over a whole trace have once its lists are found good: its rows are where the functions over a tree look.
+--   trace-row         a row below n stands in the states
+--   trace-filling     all n rows do, and a list of n entries has room for a value of each
+--   is-state-unique   two results that a contract allows coincide
+-- Assumes nothing.
+use Prim.Native.Nat.{ℕ, suc, _*_, _<_, _≤_}
+use native.Mathlib.Omega.{arith}
+use native.Mathlib.Nat.{mul-le-mul-right, suc-mul}
+use mathlib.Core.Path.{_≡_, sym, _∙_}
+use mathlib.Core.List.{List}
+use lib.ListN.{length, getD}
+use Rattle.alf.specs.Refusals.{NameCount, RowCount}
+use Rattle.evaluator.specs.Rows.{Within, Filling, IsState}
+
+module _ (states : List ℕ) (names n : ℕ) (named : NameCount names) (few : RowCount n)
+    (whole : length states ≡ n * names) (codes : (i : ℕ) → i < length states → getD states i 0 < 8) where
+  pub trace-row : (row : ℕ) → row < n → Within states names row
+  trace-row row h =
+      let l : suc row ≤ n = omega arith in
+      let m = mul-le-mul-right names l in
+      let e = suc-mul row names in
+      record {
+        some = named .0;
+        most = named .1;
+        few = omega (arith, few .1);
+        room = omega (arith, m, e, whole);
+        codes = codes;
+      }
+
+  pub trace-filling : (out : List ℕ) → length out ≡ n → Filling states names n out
+  trace-filling out e = record { rows = trace-row; room = omega arith }
+
+pub is-state-unique : {s q r : ℕ} → IsState s q → IsState s r → q ≡ r
+is-state-unique g h = g .is ∙ sym (h .is)

@@ -1,0 +1,38 @@
+-- `rows::best_at` meets its contract. The loop's invariant: `best` is the greatest over the windows passed; the window
+-- of the row alone answers no. Assumes nothing.
+use Prim.Native.Nat.{_-_, _≤_}
+use native.Mathlib.Omega.{arith}
+use mathlib.Core.Path.{_≡_, sym, _∙_}
+use Rattle.alf.specs.Words.{greatest}
+use Rattle.alf.proofs.RowsAreAlternatives.{best-short}
+use Rattle.evaluator.specs.Spans.{answerOn}
+use Rattle.evaluator.proofs.Lists.{all-passed}
+use Rattle.evaluator.proofs.Spans.{greatest-step}
+use Rattle.evaluator.proofs.Joining.{greatest-none}
+use Rattle.evaluator.proofs.rows.best_at.Statement.{statement}
+use Rattle.evaluator.proofs.rows.best_at.Tie as tie
+
+abbrev Inv-loop : tie.InvT-loop
+Inv-loop tree end states names row best₀ a₀ best a =
+    (a ≤ row) × (best ≡ greatest a (λ i. answerOn tree names states end i row))
+
+abbrev μ-loop : tie.MeasureT-loop
+μ-loop tree end states names row best₀ a₀ best a = row - a
+
+pub best-at-spec : {M : Type 1} → statement M
+best-at-spec =
+    tie.close
+    (tie.spec
+    Inv-loop
+    μ-loop
+    (λ c. (omega arith, greatest-none _))
+    (λ c κs. c .before .before .before .before .pre)
+    (λ c κs. tt)
+    (λ c. omega arith)
+    (λ c. omega arith)
+    (λ c.
+    let before = c .before .before .before .loop .inv .1 in
+    (omega arith, greatest-step _ before (c .before .answer .ensures) (c .greater .ensures)))
+    (λ c.
+    let all = all-passed greatest _ (c .before .loop .inv .0) (c .loop-test .left) (c .before .loop .inv .1) in
+    all ∙ sym (best-short _ _ _)))

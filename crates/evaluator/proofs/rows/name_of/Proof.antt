@@ -1,0 +1,15 @@
+-- `rows::name_of` meets its contract. Assumes nothing.
+use mathlib.Core.Path.{refl}
+use Rattle.alf.specs.Windows.{named}
+use Rattle.evaluator.proofs.RowAnswers.{named-yes}
+use Rattle.evaluator.proofs.rows.name_of.Statement.{statement}
+use Rattle.evaluator.proofs.rows.name_of.Tie as tie
+
+pub name-of-spec : {M : Type 1} → statement M
+unfolding named
+name-of-spec =
+    tie.close
+    (tie.spec
+    (λ c. rw (c .match .keys1) refl)
+    (λ c. rw (c .match .keys2) refl)
+    (λ c. named-yes _ (c .match .rest .0 .1) (c .match .rest .1)))
