@@ -6,5 +6,6 @@ pub mod Walking
 pub mod Written
 pub mod Filling
 pub mod Agreement
+pub mod Coding
 pub mod Unique
 pub mod Theorems

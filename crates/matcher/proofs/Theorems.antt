@@ -6,3 +6,5 @@ pub use Rattle.matcher.proofs.Agreement.{matches-windows, totals-window
 pub use Rattle.matcher.proofs.Unique.{matches-unique, filled-unique, totals-unique}
 -- of a list that is written anew: what is written, and what stays
 pub use Rattle.matcher.proofs.Written.{written-length, written-inside, written-before, written-after}
+-- refusal 15 of a list of states
+pub use Rattle.matcher.proofs.Coding.{bad-given, bad-never}

@@ -2,3 +2,4 @@
 pub mod Shapes
 pub mod Answers
 pub mod Tables
+pub mod Codes

@@ -50,8 +50,8 @@ pub record Shape (tree : List ℕ) (names : ℕ) (steps tests edges operands : L
   pub enough-tests : sum tests ≤ length edges
   pub known : Tests tree names edges operands
 
--- on the way through the lists: the test at t, the step of n tests from t on, the alternative of n steps from step s
--- and test t on, and the alternatives from k on
+-- on the way through the lists: the step of n tests from t on, the alternative of n steps from step s and test t on,
+-- and the alternatives from k on
 abbrev pub stepIn : List Test → ℕ → ℕ → Step
 stepIn all t n = take n (drop t all)
 

@@ -25,6 +25,13 @@ pub record RowsAsked (tree : List ℕ) (names : ℕ) (states steps tests edges o
   pub shape : Shape tree names steps tests edges operands
   pub rows : Rows states names n
 
+-- and lists with room for n answers and n numbers tried
+pub record FillAsked (tree : List ℕ) (names : ℕ) (states steps tests edges operands : List ℕ) (n : ℕ)
+    (answers tried : List ℕ) : Type 0 where
+  pub asked : RowsAsked tree names states steps tests edges operands n
+  pub room : n ≤ length answers
+  pub space : n ≤ length tried
+
 -- the number of row i's answer
 abbrev pub numberAt : (Boolean → ℕ → ℕ) → List Alternative → ℕ → ℕ
 numberAt st xs = λ i. numberOf (answerOf st xs i)

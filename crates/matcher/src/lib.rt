@@ -1,4 +1,5 @@
 // Matching by alternatives that stand in lists: answers and tries of a row and of all rows, totals.
 pub mod answers;
+pub mod codes;
 pub mod shapes;
 pub mod tables;

@@ -1,15 +1,12 @@
 // All rows: the list of answers, the list of numbers tried, the totals.
 ghost use mathlib.Core.Path.{_≡_};
-ghost use mathlib.Core.Bool.{Bool};
-ghost use Prim.Native.Nat.{_+_, _≤_};
 ghost use lib.Dec.{eqb};
-ghost use lib.ListN.{length};
 ghost use Rattle.alf.specs.Words.{if_then_else_};
 ghost use Rattle.alf.specs.Values.{stateAt};
 ghost use Rattle.alf.specs.Windows.{numberOf};
 ghost use Rattle.matcher.specs.Shapes.{alternativesOf};
 ghost use Rattle.matcher.specs.Answers.{RowAsked};
-ghost use Rattle.matcher.specs.Tables.{RowsAsked, numberAt, written, Filled, Totals};
+ghost use Rattle.matcher.specs.Tables.{RowsAsked, FillAsked, numberAt, Filled, Totals};
 use crate::answers::match_row;
 use alf::Answer;
 
@@ -66,8 +63,8 @@ pub fn match_all(
     answers: &mut [u8],
     tried: &mut [u32],
 )
-    requires { ⌜ RowsAsked (now tree) names (now states) (now steps) (now tests) (now edges) (now operands) n ⌝ }
-    requires { ⌜ (n ≤ length (now answers)) × (n ≤ length (now tried)) ⌝ }
+    requires { ⌜ FillAsked (now tree) names (now states) (now steps) (now tests) (now edges) (now operands) n
+        (now answers) (now tried) ⌝ }
     ensures { λ _. ⌜ Filled (stateAt names (now (states .entry)))
         (alternativesOf (now (tree .entry)) names (now (steps .entry)) (now (tests .entry)) (now (edges .entry))
         (now (operands .entry))) n (now (answers .entry)) (now (tried .entry)) (now (answers .exit))

@@ -28,7 +28,7 @@ lastRows names k n trace = drop ((n - k) * names) trace
 abbrev pub stored : List ℕ → List ℕ
 stored states = placed (replicate 512 0) 0 states
 
--- q keeps at most as many rows as there are, and 16
+-- q keeps at most k rows, k at most 16, of 1 to 32 names, and their states are codes
 pub record Room (names k : ℕ) (q : Queue) : Type 0 where
   pub some : 1 ≤ names
   pub most : names ≤ 32
@@ -53,6 +53,7 @@ pub record Keeps (trace : List ℕ) (names kept k : ℕ) (q : Queue) : Type 0 wh
   pub number : q .kept .0 ≡ min (kept + 1) k
   pub states : q .states ≡ stored (lastRows names k (kept + 1) trace)
 
+-- the alternatives, a queue with room for K rows, and a row of all names whose states are codes
 pub record PushAsked (tree : List ℕ) (names : ℕ) (steps tests edges operands : List ℕ) (q : Queue) (row : List ℕ)
     : Type 0 where
   pub shape : Shape tree names steps tests edges operands
@@ -62,8 +63,7 @@ pub record PushAsked (tree : List ℕ) (names : ℕ) (steps tests edges operands
 
 -- the answer and the number tried at the last row of what is kept and pushed; of that the last K rows are kept
 pub record Pushes (names : ℕ) (xs : List Alternative) (q : Queue) (row : List ℕ) (answer : Answer) (tried : ℕ)
-    (q′ : Queue)
-    : Type 0 where
+    (q′ : Queue) : Type 0 where
   pub matched : Matches (stateAt names (traceOf names q row)) xs (q .kept .0) answer tried
   pub kept : q′ .kept .0 ≡ min (q .kept .0 + 1) (longestOf xs)
   pub states : q′ .states ≡ stored (lastRows names (longestOf xs) (q .kept .0 + 1) (traceOf names q row))

@@ -21,12 +21,12 @@ abbrev μ-loop : tie.MeasureT-loop
 loop-holds : tie.Need-loop-holds Inv-loop μ-loop
 loop-holds c =
     let c8 = c .before .before .before .before .before .before .before .before in
-    filling-first (c8 .pre .1 .0) (c8 .pre .1 .1)
+    filling-first (c8 .pre .room) (c8 .pre .space)
 
 match-row-requires : tie.Need-match-row-requires Inv-loop μ-loop
 match-row-requires c κs =
     let c10 = c .before .before .before .before .before .before .before .before .before .before in
-    row-asked _ (c10 .pre .0) (c .loop-test .taken)
+    row-asked _ (c10 .pre .asked) (c .loop-test .taken)
 
 number-of-requires : tie.Need-number-of-requires Inv-loop μ-loop
 number-of-requires c κs = search needs

@@ -1,0 +1,10 @@
+-- Refusal 15 of a list of states (alf/specs/Refusals, `bad-code`): where the first code above 7 stands.
+use Prim.Native.Nat.{ℕ, _<_, _≤_}
+use mathlib.Core.List.{List}
+use lib.ListN.{length, getD}
+
+-- r is the first such place, or the length where there is none
+pub record FirstBad (states : List ℕ) (r : ℕ) : Type 0 where
+  pub within : r ≤ length states
+  pub before : (i : ℕ) → i < r → getD states i 0 < 8
+  pub there : r < length states → 7 < getD states r 0
