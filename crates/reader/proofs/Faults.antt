@@ -56,7 +56,8 @@ module _ (number : ℕ → ℕ) where
       (λ x. agree-after (ofThree t z x) (λ q. own q (λ y. fault (ofThree t z x y))) (faults-agree b)
       (λ y. fault-agree (ofThree t z x y))))
 
-  pub call-agree : (sort : Sort) (bytes : ℕ) (e : Tree) → Agree (sortedFor sort bytes number e) (faultsFor sort bytes number e)
+  pub call-agree : (sort : Sort) (bytes : ℕ) (e : Tree)
+      → Agree (sortedFor sort bytes number e) (faultsFor sort bytes number e)
   unfolding sortedFor faultsFor own
   call-agree sort bytes e =
       agree-after (asked sort bytes) (λ q. own q (λ x. fault (asked sort bytes x))) (faults-agree e)

@@ -15,3 +15,7 @@ pub mod Readings
 pub mod Whole
 pub mod Limits
 pub mod Limiting
+pub mod Unique
+pub mod PairBytes
+pub mod Filled
+pub mod Openings

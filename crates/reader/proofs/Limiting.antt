@@ -35,7 +35,8 @@ use Rattle.reader.proofs.Limits.{call-over, vector-ends, vector-is}
 -- what `measure` says
 module _ (v : Vector) {m : Measured} (e : m ≡ measured v) where
   abbrev told : Bool → Measured
-  told b = if b then size.Over else size.Within (record { alternatives = numberOfAlternatives v; steps = stepsOf v; tests = testsOf v })
+  told b = if b then size.Over else size.Within
+      (record { alternatives = numberOfAlternatives v; steps = stepsOf v; tests = testsOf v })
 
   is-told : m ≡ told (overLimit (alternatives v))
   unfolding measured
@@ -63,12 +64,14 @@ asked-sort the-sort.Boolean b (vector p) y e = let z : _≡_ {A = ℕ} 0 1 = cc 
 asked-sort the-sort.Vector b (boolean c) y e = let z : _≡_ {A = ℕ} 0 1 = cc in absurd (omega arith)
 asked-sort the-sort.Vector b (vector p) y e = let z : vector p ≡ y = cc in rw (sym z) refl
 
-given-sort : (o : Sort) (bytes : ℕ) (q : Sorted) (y : Expression) → given q (asked o bytes) ≡ is y → hasSort o (isVector y) ≡ true
+given-sort : (o : Sort) (bytes : ℕ) (q : Sorted) (y : Expression) → given q (asked o bytes) ≡ is y
+    → hasSort o (isVector y) ≡ true
 unfolding given
 given-sort o b (is x) y e = asked-sort o b x y e
 given-sort o b (faulty p) y e = let z : _≡_ {A = ℕ} 0 1 = cc in absurd (omega arith)
 
-never-large : (o : Sort) (x : Expression) → hasSort o false ≡ true → hasSort o (isVector x) ≡ true → (p : ℕ) → tooLarge (is x) p → ⊥
+never-large : (o : Sort) (x : Expression) → hasSort o false ≡ true → hasSort o (isVector x) ≡ true → (p : ℕ)
+    → tooLarge (is x) p → ⊥
 unfolding hasSort isVector tooLarge
 never-large the-sort.Boolean (boolean c) e f p h = h
 never-large the-sort.Boolean (vector v) e f p h = never f
@@ -123,7 +126,8 @@ module _ {names text : List ℕ} {sort : Sort} {x : Expression} (k : Clear names
     not-large e p h = let g = rw (v .is-it) at h in never (e ∙ g .given)
 
 -- the ways of `limit`
-pub limit-refused : {names text : List ℕ} {sort : Sort} {r : Read} → Unlimited names text sort r → r .refused ≡ true → Reading names text sort r
+pub limit-refused : {names text : List ℕ} {sort : Sort} {r : Read} → Unlimited names text sort r → r .refused ≡ true
+    → Reading names text sort r
 unfolding made refusedWith
 limit-refused (refused n p h) e = h
 limit-refused (unlimited k) e = never e
@@ -133,7 +137,8 @@ pub record Left (names text : List ℕ) (sort : Sort) (r : Read) : Type 0 where
   pub clear : Clear names text sort it
   pub is-made : r ≡ made it
 
-pub left-over : {names text : List ℕ} {sort : Sort} {r : Read} → Unlimited names text sort r → r .refused ≡ false → Left names text sort r
+pub left-over : {names text : List ℕ} {sort : Sort} {r : Read} → Unlimited names text sort r → r .refused ≡ false
+    → Left names text sort r
 unfolding made refusedWith
 left-over (refused n p h) e = never (sym e)
 left-over (unlimited {x = x} k) e = record { it = x; clear = k; is-made = refl }
@@ -151,7 +156,8 @@ module _ {names text : List ℕ} {sort : Sort} {r : Read} (l : Left names text s
     pub limit-asks : EndsVector (r .tree) (countOf names) (r .len)
     unfolding made
     limit-asks =
-        subst (λ (y : Read). EndsVector (y .tree) (countOf names) (y .len)) (sym (l .is-made)) (ends (l .clear) it-vector)
+        subst (λ (y : Read). EndsVector (y .tree) (countOf names) (y .len)) (sym (l .is-made))
+        (ends (l .clear) it-vector)
 
     measured-is : vectorAt (r .tree) (countOf names) (r .len) ≡ it-vector .it
     unfolding made

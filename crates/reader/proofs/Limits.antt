@@ -52,7 +52,8 @@ if-over : (n : ℕ) (b : Bool) (q r : Sorted) → SortedOver n q → SortedOver 
 if-over n true q r h k = h
 if-over n false q r h k = k
 
-over-one : (n : ℕ) (t : Token) → 64 ≤ t .code → t .code < 148 → (x : Expression) → ExpressionOver n x → SortedOver n (ofOne t x)
+over-one : (n : ℕ) (t : Token) → 64 ≤ t .code → t .code < 148 → (x : Expression) → ExpressionOver n x
+    → SortedOver n (ofOne t x)
 unfolding SortedOver ofOne ExpressionOver Over VectorOver
 over-one n t l h (boolean c) o = go (eqb (t .code) 147) refl
   where
@@ -65,8 +66,10 @@ over-one n t l h (vector p) o = tt
 over-two : (n : ℕ) (t : Token) (x y : Expression) → ExpressionOver n x → ExpressionOver n y → SortedOver n (ofTwo t x y)
 unfolding SortedOver ofTwo ExpressionOver Over VectorOver
 over-two n t (boolean a) (boolean b) o u = if-over n (ltb (t .code) 50) _ (faulty (t .place)) (o, u) tt
-over-two n t (boolean a) (vector q) o u = if-over n (eqb (t .code) 40) (is (vector (while on-left q a))) (faulty (t .place)) (u, o) tt
-over-two n t (vector p) (boolean b) o u = if-over n (eqb (t .code) 40) (is (vector (while on-right p b))) (faulty (t .place)) (o, u) tt
+over-two n t (boolean a) (vector q) o u = if-over n (eqb (t .code) 40) (is (vector (while on-left q a)))
+    (faulty (t .place)) (u, o) tt
+over-two n t (vector p) (boolean b) o u = if-over n (eqb (t .code) 40) (is (vector (while on-right p b)))
+    (faulty (t .place)) (o, u) tt
 over-two n t (vector p) (vector q) o u =
     if-over n (eqb (t .code) 40) (is (vector (join with p q))) _ (o, u)
     (if-over n (eqb (t .code) 41) (is (vector (join or-else p q))) _ (o, u)
@@ -84,7 +87,8 @@ over-three n t (vector r) x y o u w = tt
 abbrev pub Numbered : ℕ → (ℕ → ℕ) → Token → Type 0
 Numbered n number t = t .code ≡ 0 → number (t .place) < n
 
-over-leaf : (n : ℕ) (number : ℕ → ℕ) (t : Token) → t .code < 40 → Numbered n number t → SortedOver n (is (boolean (atom number t)))
+over-leaf : (n : ℕ) (number : ℕ → ℕ) (t : Token) → t .code < 40 → Numbered n number t
+    → SortedOver n (is (boolean (atom number t)))
 unfolding SortedOver ExpressionOver Over atom
 over-leaf n number t l k = go (eqb (t .code) 0) refl
   where
@@ -121,7 +125,8 @@ module _ (n : ℕ) (number : ℕ → ℕ) where
       let c = all-left (nodes z ++ nodes x) (nodes y) b in
       over-given n (sorted number z) _ (sorted-over o (all-left (nodes z) (nodes x) c))
       (λ r f. over-given n (sorted number x) _ (sorted-over p (all-right (nodes z) (nodes x) c))
-      (λ u g. over-given n (sorted number y) (ofThree t r u) (sorted-over q (all-right (nodes z ++ nodes x) (nodes y) b))
+      (λ u g. over-given n (sorted number y) (ofThree t r u)
+      (sorted-over q (all-right (nodes z ++ nodes x) (nodes y) b))
       (λ v h. over-three n t r u v f g h)))
 
   over-asked : (sort : Sort) (length : ℕ) (x : Expression) → ExpressionOver n x → SortedOver n (asked sort length x)

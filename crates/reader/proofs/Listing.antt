@@ -51,6 +51,7 @@ pub pass-next :
 pass-next number cs ps i h k e st w =
     rw (handed-next cs ps i h k, run-last number) (st .does number e _ w)
 
-pub pass-none : (number : ℕ → ℕ) (cs ps : List ℕ) {s : Sorting} → Shows s (going []) → Shows s (run number (handed cs ps 0) (going []))
+pub pass-none : (number : ℕ → ℕ) (cs ps : List ℕ) {s : Sorting} → Shows s (going [])
+    → Shows s (run number (handed cs ps 0) (going []))
 unfolding tokens run
 pass-none number cs ps w = w

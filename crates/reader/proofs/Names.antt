@@ -135,7 +135,8 @@ number-none names w k e b =
     rw e (first-none (countOf names) (λ k. same (nameAt names k) w) (λ j h. same-false _ _ (b j (rw e h))))
 
 -- the parts that the code compares
-pub word-part : (text : List ℕ) (at : ℕ) {end : ℕ} → end ≡ at + nameBytes (drop at text) → take (end - at) (drop at text) ≡ word text at
+pub word-part : (text : List ℕ) (at : ℕ) {end : ℕ} → end ≡ at + nameBytes (drop at text)
+    → take (end - at) (drop at text) ≡ word text at
 unfolding word
 word-part text at {end} e = let d : end - at ≡ nameBytes (drop at text) = omega arith in rw d
 

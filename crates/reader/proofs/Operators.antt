@@ -168,7 +168,11 @@ module _ (t : Token) {s r : Sorting} where
 -- one node: stopped before, or by the range of its code
 pub node-still : (t : Token) (b : ℕ) {s : Sorting} → Fine s → s .ok ≡ false → Stepped t b s s
 unfolding stepped
-node-still t b {s} f e = record { moved = record { fine = f; grown = omega arith }; does = λ number g v w. go number v w }
+node-still t b {s} f e = record {
+  moved = record { fine = f; grown = omega arith };
+  does = λ number g v w. go number v
+      w;
+}
   where
     go : (number : ℕ → ℕ) (v : Run) → Shows s v → Shows s (stepped number t v)
     go number (going xs) w = never (sym e ∙ shows-ok w)
@@ -179,7 +183,8 @@ module _ (t : Token) (b : ℕ) {s r : Sorting} where
   goes-on :
       s .ok ≡ true →
       Moved s r →
-      ((number : ℕ → ℕ) → b ≡ leafByte number t → (xs : List Expression) → Shows s (going xs) → Shows r (applied number t xs)) →
+      ((number : ℕ → ℕ) → b ≡ leafByte number t → (xs : List Expression) → Shows s (going xs)
+      → Shows r (applied number t xs)) →
       Stepped t b s r
   unfolding stepped
   goes-on o m f = record { moved = m; does = λ number g v w. go number g v w }

@@ -1,5 +1,5 @@
 -- Laws of a call's order that is put together of two: refused by the first, or by the second once the first is passed.
--- Main names: refused-first, refused-then, passed-both, fixed-both. Assumes nothing.
+-- Main names: refused-first, refused-then, passed-both, passed-left, passed-right, fixed-both. Assumes nothing.
 use mathlib.Core.Path.{_≡_}
 use mathlib.Core.List.{List, [], _∷_, _++_}
 use mathlib.Core.Logic.{_⊎_, inl, inr}
@@ -26,3 +26,13 @@ passed-both (c ∷ o) o′ h k = (h .0, passed-both o o′ (h .1) k)
 pub fixed-both : (o o′ : Order) → Fixed o → Fixed o′ → Fixed (o ++ o′)
 fixed-both [] o′ h k = k
 fixed-both (c ∷ o) o′ h k = (h .0, fixed-both o o′ (h .1) k)
+
+pub passed-left : (o o′ : Order) → Passed (o ++ o′) → Passed o
+unfolding Passed
+passed-left [] o′ h = tt
+passed-left (c ∷ o) o′ h = (h .0, passed-left o o′ (h .1))
+
+pub passed-right : (o o′ : Order) → Passed (o ++ o′) → Passed o′
+unfolding Passed
+passed-right [] o′ h = h
+passed-right (c ∷ o) o′ h = passed-right o o′ (h .1)

@@ -127,5 +127,6 @@ module _ (names text : List ℕ) (sort : Sort) where
               read-clear =
                   read
                   (passed-both (namesOrder names) (order text ++ treeOrder names text sort) good
-                  (passed-both (order text) (treeOrder names text sort) clear (no-five, (no-six, (no-seven, (no-eight, tt))))))
+                  (passed-both (order text) (treeOrder names text sort) clear
+                  (no-five, (no-six, (no-seven, (no-eight, tt))))))
                   gives

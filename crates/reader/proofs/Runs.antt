@@ -13,7 +13,8 @@ use Rattle.grammar.specs.declared.Token.{Token}
 use Rattle.grammar.specs.Grammar.{Tree, leaf, one, two, three, nodes}
 use Rattle.grammar.specs.Written.{Formed, leaf-is, one-is, two-is, three-is}
 use Rattle.reader.specs.Sorts.{Sorted, is, faulty, atom, ofOne, ofTwo, ofThree, given, sorted}
-use Rattle.reader.specs.Passes.{Run, going, stopped, settled, takesOne, takesTwo, takesThree, applied, stepped, run}
+use Rattle.reader.specs.Passes.{Run, going, stopped, settled, takesOne, takesTwo, takesThree, applied, stepped}
+use Rattle.reader.specs.Passes.{run}
 use Rattle.reader.proofs.Codes.{Coded, operand-code, prefix-code, question-code, binary-code}
 
 module _ (number : ℕ → ℕ) where
@@ -27,7 +28,8 @@ module _ (number : ℕ → ℕ) where
   run-stopped [] p = refl
   run-stopped (t ∷ ts) p = run-stopped ts p
 
-  pub run-last : (ts : List Token) (t : Token) (v : Run) → run number (ts ++ (t ∷ [])) v ≡ stepped number t (run number ts v)
+  pub run-last : (ts : List Token) (t : Token) (v : Run)
+      → run number (ts ++ (t ∷ [])) v ≡ stepped number t (run number ts v)
   unfolding run
   run-last ts t v = run-append ts (t ∷ []) v
 

@@ -15,7 +15,8 @@ use Rattle.alf.specs.Expressions.{Expression}
 use Rattle.alf.specs.Bytes.{bytesOf}
 use Rattle.grammar.specs.Answers.{padded}
 use Rattle.reader.specs.declared.sorts.Sorting.{Sorting}
-use Rattle.reader.specs.Passes.{Run, going, stopped, isVector, sortsOf, stackBytes, Shows, goes, stops, Fine, Moved}
+use Rattle.reader.specs.Passes.{Run, going, stopped, isVector, sortsOf, stackBytes, Shows, goes, stops, Fine}
+use Rattle.reader.specs.Passes.{Moved}
 use Rattle.reader.specs.Passes.{sortAt, Room, Put, Halted, Started}
 
 pub padded-set : (xs : List ℕ) (v : ℕ) → length xs < 256 → set (padded xs) (length xs) v ≡ padded (xs ++ (v ∷ []))
@@ -92,7 +93,8 @@ module _ (s : Sorting) (down : ℕ) (v : Bool) (b : ℕ) (room : Room s down) wh
         in
         goes {xs = z ∷ xs} (room .goes) (omega arith)
         (rw (q, add-one)
-        (take-suc-set (s .sorts) (length xs) v (omega (arith, f .sorts-whole, f .deep, room .spare, length-append ys xs))
+        (take-suc-set (s .sorts) (length xs) v (omega
+        (arith, f .sorts-whole, f .deep, room .spare, length-append ys xs))
         ∙ rw (below, sv) refl))
         (ap (λ (m : ℕ). m + 1) l ∙ sym (length-append (stackBytes (ys ++ xs)) (b ∷ [])) ∙ ap length whole)
         (rw (t, l) (padded-set (stackBytes (ys ++ xs)) b (omega (arith, room .spare)) ∙ ap padded whole))

@@ -14,7 +14,8 @@ use borrow.Author.Tests.{eqb-true, eqb-false, ltb-true, ltb-false, leb-true, eq-
 use Rattle.alf.specs.Words.{if_then_else_}
 use Rattle.alf.specs.Expressions.{Boolean, name, literal, negated, binary, choice, Vector, edge, join, while}
 use Rattle.alf.specs.Expressions.{with, or-else, on-right, on-left, Expression, boolean, vector}
-use Rattle.alf.specs.Bytes.{bytesOf, booleanBytes, vectorBytes, binaryByte, joinByte, binaryAt, joinAt, edgeAt, edgeNumber}
+use Rattle.alf.specs.Bytes.{bytesOf, booleanBytes, vectorBytes, binaryByte, joinByte, binaryAt, joinAt, edgeAt}
+use Rattle.alf.specs.Bytes.{edgeNumber}
 use Rattle.alf.proofs.Bools.{never}
 use Rattle.alf.proofs.Codes.{binary-byte, join-byte, edge-byte}
 use Rattle.grammar.specs.declared.Token.{Token}
@@ -203,7 +204,8 @@ module _ (t : Token) (k : isNode (t .code) ≡ true) (l : 40 ≤ t .code) (h : t
   fault-mixed z true b h e = absurd (omega arith)
   fault-mixed z false b h e = refl
 
-  pub fault-two : (x y : Expression) → pairByte (t .code) (isVector x) (isVector y) ≡ 255 → ofTwo t x y ≡ faulty (t .place)
+  pub fault-two : (x y : Expression) → pairByte (t .code) (isVector x) (isVector y) ≡ 255
+      → ofTwo t x y ≡ faulty (t .place)
   unfolding ofTwo pairByte isVector
   fault-two (boolean a) (boolean b) e = fault-booleans a b (ltb (t .code) 50) e
   fault-two (boolean a) (vector q) e = fault-mixed (vector (while on-left q a)) (eqb (t .code) 40) 57 (omega arith) e
@@ -227,45 +229,3 @@ made-three t c a b =
       sort = refl;
       bytes = simp append-assoc;
     }
-
--- the tests of `pair_byte`
-module _ {c : ℕ} {l r : Bool} where
-  pub both-and : l ≡ true → r ≡ true → c ≡ 40 → 54 ≡ pairByte c l r
-  unfolding pairByte
-  both-and a b e = rw (a, b, eq-eqb c 40 e)
-
-  pub both-or : l ≡ true → r ≡ true → (c ≡ 40 → ⊥) → c ≡ 41 → 55 ≡ pairByte c l r
-  unfolding pairByte
-  both-or a b n e = rw (a, b, ne-eqb c 40 n, eq-eqb c 41 e)
-
-  pub both-below : l ≡ true → r ≡ true → (c ≡ 40 → ⊥) → (c ≡ 41 → ⊥) → c < 50 → 255 ≡ pairByte c l r
-  unfolding pairByte
-  both-below a b n m e = rw (a, b, ne-eqb c 40 n, ne-eqb c 41 m, lt-ltb c 50 e)
-
-  pub both-above : l ≡ true → r ≡ true → (c ≡ 40 → ⊥) → (c ≡ 41 → ⊥) → 50 ≤ c → c ≡ pairByte c l r
-  unfolding pairByte
-  both-above a b n m e = rw (a, b, ne-eqb c 40 n, ne-eqb c 41 m, le-ltb c 50 e)
-
-  pub right-and : l ≡ true → r ≡ false → c ≡ 40 → 56 ≡ pairByte c l r
-  unfolding pairByte
-  right-and a b e = rw (a, b, eq-eqb c 40 e)
-
-  pub right-other : l ≡ true → r ≡ false → (c ≡ 40 → ⊥) → 255 ≡ pairByte c l r
-  unfolding pairByte
-  right-other a b n = rw (a, b, ne-eqb c 40 n)
-
-  pub left-and : l ≡ false → r ≡ true → c ≡ 40 → 57 ≡ pairByte c l r
-  unfolding pairByte
-  left-and a b e = rw (a, b, eq-eqb c 40 e)
-
-  pub left-other : l ≡ false → r ≡ true → (c ≡ 40 → ⊥) → 255 ≡ pairByte c l r
-  unfolding pairByte
-  left-other a b n = rw (a, b, ne-eqb c 40 n)
-
-  pub none-below : l ≡ false → r ≡ false → c < 50 → c ≡ pairByte c l r
-  unfolding pairByte
-  none-below a b e = rw (a, b, lt-ltb c 50 e)
-
-  pub none-above : l ≡ false → r ≡ false → 50 ≤ c → 255 ≡ pairByte c l r
-  unfolding pairByte
-  none-above a b e = rw (a, b, le-ltb c 50 e)

@@ -65,7 +65,8 @@ reads-rises bytes done e = none
 reads-rises bytes (blank h r) e = reads-rises bytes r (omega arith)
 reads-rises bytes (token {p = p} {c = c} {w = w} {after = after} {ts = ts} h t r) e =
     let q : p + length w + length after ≡ bytes = omega (arith, ap length (t .there), length-append w after) in
-    next {t = record { code = c; place = p }} {ts = tokensOf ts} (omega (arith, token-size (t .token), from-there bytes r q)) (reads-rises bytes r q)
+    next {t = record { code = c; place = p }} {ts = tokensOf ts}
+    (omega (arith, token-size (t .token), from-there bytes r q)) (reads-rises bytes r q)
 
 -- brackets and `:` are not counted, by codes and by kinds
 abbrev light : ℕ → Bool

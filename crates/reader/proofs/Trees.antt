@@ -28,7 +28,7 @@ use Rattle.reader.specs.declared.sorts.Sorting.{Sorting}
 use Rattle.reader.specs.Lookup.{countOf, numberAt}
 use Rattle.reader.specs.Sorts.{Sorted, is, faulty, given, asked, sorted, sortedFor}
 use Rattle.reader.specs.Passes.{Run, going, stopped, settled, run, isNode, isVector, sortsOf, stackBytes}
-use Rattle.reader.specs.Passes.{Shows, goes, stops, Listed, Handed, Passed, sortAt}
+use Rattle.reader.specs.Passes.{Shows, goes, stops, Listed, Handed, Shown, sortAt}
 use Rattle.reader.specs.Reads.{made, refusedWith, answered, hasSort, Grown}
 use Rattle.reader.proofs.Codes.{formed-nodes}
 use Rattle.reader.proofs.Runs.{run-tree}
@@ -58,14 +58,16 @@ pub handed-nodes : (ns : List Token) → handed (padded (codesOf ns)) (padded (p
 unfolding padded
 handed-nodes ns =
     rw (
-      take-at (codesOf ns) (replicate (256 - length (codesOf ns)) 0) (length ns) (length-map ns (λ (t : Token). t .code)),
+      take-at (codesOf ns) (replicate (256 - length (codesOf ns)) 0) (length ns)
+          (length-map ns (λ (t : Token). t .code)),
       take-at (placesOf ns) (replicate (256 - length (placesOf ns)) 0) (length ns)
           (length-map ns (λ (t : Token). t .place)),
     )
     (tokens-of ns)
 
 -- what the pass asks of them
-pub nodes-handed : {names text : List ℕ} {p : Parsed} → Grown names text p → Handed names text (p .codes) (p .places) (p .len)
+pub nodes-handed : {names text : List ℕ} {p : Parsed} → Grown names text p
+    → Handed names text (p .codes) (p .places) (p .len)
 unfolding padded
 nodes-handed {names} {text} {p} g =
     rw (g .is-tree)
@@ -95,7 +97,7 @@ pub pass-tree :
     {names text : List ℕ} {p : Parsed} {s : Sorting} (e : Tree) →
     Formed e →
     p ≡ accepted (nodes e) →
-    Passed names text (p .codes) (p .places) (p .len) s →
+    Shown names text (p .codes) (p .places) (p .len) s →
     Shows s (settled (sorted (numberAt names text) e) [])
 pass-tree {names} {text} e f q h =
     let w = rw q at (h .shows) in

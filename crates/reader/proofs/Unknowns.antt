@@ -62,7 +62,8 @@ rising-from (t ∷ ts) lo (suc k) r h =
     let j = rising-from ts (suc (t .place)) k (r .1) (omega arith) in let i = r .0 in omega arith
 
 rising-le :
-    (ts : List Token) (lo i j : ℕ) → Rising lo ts → i ≤ j → j < length ts → getD (placesOf ts) i 0 ≤ getD (placesOf ts) j 0
+    (ts : List Token) (lo i j : ℕ) → Rising lo ts → i ≤ j → j < length ts
+    → getD (placesOf ts) i 0 ≤ getD (placesOf ts) j 0
 unfolding placesOf
 rising-le [] lo i j r l h = absurd (omega arith)
 rising-le (t ∷ ts) lo zero zero r l h = omega arith
@@ -74,7 +75,8 @@ rising-le (t ∷ ts) lo (suc i) (suc j) r l h = rising-le ts (suc (t .place)) i 
 module _ (names text : List ℕ) where
   -- what the test says
   test-missing :
-      (c p : ℕ) → isUnknown names text c p ≡ true → (c ≡ 0) × ((k : ℕ) → k < countOf names → nameAt names k ≡ word text p → ⊥)
+      (c p : ℕ) → isUnknown names text c p ≡ true
+      → (c ≡ 0) × ((k : ℕ) → k < countOf names → nameAt names k ≡ word text p → ⊥)
   unfolding isUnknown
   test-missing c p e =
       let n : numberAt names text p ≡ countOf names = eqb-true _ _ (and-right (eqb c 0) _ e) in (
@@ -82,7 +84,8 @@ module _ (names text : List ℕ) where
         λ k l f. number-found names (word text p) .before k (omega (arith, n)) f,
       )
 
-  test-there : (p : ℕ) → isUnknown names text 0 p ≡ false → ((k : ℕ) → k < countOf names → nameAt names k ≡ word text p → ⊥) → ⊥
+  test-there : (p : ℕ) → isUnknown names text 0 p ≡ false
+      → ((k : ℕ) → k < countOf names → nameAt names k ≡ word text p → ⊥) → ⊥
   unfolding isUnknown
   test-there p e m =
       let f = number-found names (word text p) in
@@ -131,7 +134,8 @@ pub names-numbered :
 unfolding tokens codesOf placesOf
 names-numbered names bytes [] known = none
 names-numbered names bytes (t ∷ ts) known =
-    more {x = record { code = t .code; place = t .place }} (λ e. numbered e (below? (numberAt names bytes (t .place)) (countOf names)))
+    more {x = record { code = t .code; place = t .place }}
+    (λ e. numbered e (below? (numberAt names bytes (t .place)) (countOf names)))
     (names-numbered names bytes ts (λ p u. known p (record { stands = there (u .stands); missing = u .missing })))
   where
     numbered :

@@ -2,8 +2,6 @@
 --   listed, handed-over     what the search for names and the parser ask of the tokens
 --   grown                   what the pass over the nodes asks of the parser's answer
 --   whole-five, whole-six, whole-sorted     what each way comes to
---   text-refused, tokened                   a text whose tokens are refused, or read
---   names-wrong, names-done                 a list of names that is refused, or good
 -- Assumes nothing.
 use mathlib.Core.Path.{_≡_, refl, sym, ap, subst, _∙_}
 use mathlib.Core.Bool.{Bool, true, false}
@@ -15,10 +13,7 @@ use lib.ListN.{length, getD, take, replicate, length-append, List·getD-append}
 use lib.Seq.{take-at}
 use Rattle.alf.specs.declared.Sort.{Sort}
 use Rattle.alf.specs.Expressions.{Expression}
-use Rattle.alf.specs.declared.Outcome.{Outcome}
-use Rattle.alf.specs.declared.Outcome.the-variants as call
-use Rattle.alf.specs.declared.Refusal.{Refusal}
-use Rattle.alf.specs.Refusals.{Passed, Comes}
+use Rattle.alf.specs.Refusals.{Passed}
 use Rattle.alf.proofs.Lists.{All, none, more}
 use Rattle.alf.proofs.Bools.{never, below?}
 use Rattle.names.specs.Check.{namesOrder, Slots}
@@ -49,43 +44,11 @@ use Rattle.reader.specs.Reads.{made, refusedWith, answered, Grown, Answe
 use Rattle.reader.specs.Reading.{sortedIn, Unknown, Reading, Unlimited, refused, unlimited}
 use Rattle.reader.specs.Whole.{Tokened}
 use Rattle.reader.proofs.Names.{first-same}
+use Rattle.reader.proofs.Filled.{codes-length, places-length, place-inside, filled-at, filled-holds}
+use Rattle.reader.proofs.Filled.{handed-filled}
 use Rattle.reader.proofs.Texts.{reads-inside, reads-rises, few-counted, nodes-inside}
 use Rattle.reader.proofs.Unknowns.{unknown-here, unknown-never}
-use Rattle.reader.proofs.Readings.{names-refused, tokens-refused, five, six, seven}
-
--- lists of tokens, with zeros behind
-codes-length : (ts : List text.Token) → length (reading.codesOf ts) ≡ length ts
-unfolding reading.codesOf
-codes-length [] = refl
-codes-length (t ∷ ts) = ap suc (codes-length ts)
-
-places-length : (ts : List text.Token) → length (reading.placesOf ts) ≡ length ts
-unfolding reading.placesOf
-places-length [] = refl
-places-length (t ∷ ts) = ap suc (places-length ts)
-
-place-inside : (ts : List text.Token) (b i : ℕ) → All (λ (t : Token). t .place ≤ b) (tokensOf ts) → i < length ts
-    → getD (reading.placesOf ts) i 0 ≤ b
-unfolding tokens reading.codesOf reading.placesOf
-place-inside [] b i a h = absurd (omega arith)
-place-inside (t ∷ ts) b zero (more k a) h = k
-place-inside (t ∷ ts) b (suc i) (more k a) h = place-inside ts b i a (omega arith)
-
-filled-at : (xs : List ℕ) (i : ℕ) → i < length xs → getD (filled xs) i 0 ≡ getD xs i 0
-unfolding filled
-filled-at xs i h = List·getD-append xs _ 0 i h
-
-filled-holds : (xs : List ℕ) → length xs ≤ length (filled xs)
-unfolding filled
-filled-holds xs = rw length-append (omega arith)
-
-handed-filled : (ts : List text.Token) → handed (filled (reading.codesOf ts)) (filled (reading.placesOf ts)) (length ts) ≡ tokensOf ts
-unfolding filled
-handed-filled ts =
-    rw (
-      take-at (reading.codesOf ts) (replicate (4096 - length (reading.codesOf ts)) 0) (length ts) (codes-length ts),
-      take-at (reading.placesOf ts) (replicate (4096 - length (reading.placesOf ts)) 0) (length ts) (places-length ts),
-    )
+use Rattle.reader.proofs.Readings.{five, six, seven}
 
 pub names-few : (names : List ℕ) → Passed (namesOrder names) → countOf names ≤ 32
 unfolding Passed
@@ -95,7 +58,7 @@ names-few names h = go (below? 32 (countOf names))
     go (inl l) = absurd (h .0 0 (record { given = λ s. omega (arith, s .few); there = refl }))
     go (inr l) = l
 
-text-short : (bytes : List ℕ) → Passed (order bytes) → length bytes ≤ 4096
+pub text-short : (bytes : List ℕ) → Passed (order bytes) → length bytes ≤ 4096
 unfolding Passed order
 text-short bytes h = go (below? 4096 (length bytes))
   where
@@ -109,7 +72,8 @@ reads-short (text.blank h r) = omega (arith, reads-short r)
 reads-short (text.token {w = w} {after = after} h t r) =
     omega (arith, reads-short r, token-size (t .token), ap length (t .there), length-append w after)
 
-few-tokens : (bytes : List ℕ) {ts : List text.Token} → Passed (order bytes) → Reads 0 bytes ts → counted (tokensOf ts) ≤ 256
+few-tokens : (bytes : List ℕ) {ts : List text.Token} → Passed (order bytes) → Reads 0 bytes ts
+    → counted (tokensOf ts) ≤ 256
 unfolding Passed order
 few-tokens bytes h r = few-counted bytes r (h .1 .1 .1 .0)
 
@@ -143,7 +107,14 @@ module _ {names bytes : List ℕ} {t : Tokens} (k : Tokened names bytes t) where
   parse-asked =
       record {
         codes-hold = omega (arith, ap length codes-are, count-is, codes-length ts, filled-holds (reading.codesOf ts));
-        places-hold = omega (arith, ap length places-are, count-is, places-length ts, filled-holds (reading.placesOf ts));
+        places-hold = omega (
+          arith,
+          ap length places-are,
+          count-is,
+          places-length ts,
+          filled-holds
+              (reading.placesOf ts),
+        );
         few = rw tokens-are (few-tokens bytes (k .clear) (k .read));
       }
 
@@ -195,7 +166,8 @@ module _ {names bytes : List ℕ} {t : Tokens} (k : Tokened names bytes t) where
         (row-sound (reads-rises (length bytes) (k .read) (omega arith)) answer o)))
 
     module _ (o : p .ok ≡ true) {u : ℕ} (f : u ≡ unknownAt names bytes (t .codes) (t .places) (t .count)) where
-      pub whole-six : u < t .count → {r : Read} → r ≡ refusedWith 6 (getD (t .places) u 0) → Unlimited names bytes sort r
+      pub whole-six : u < t .count → {r : Read} → r ≡ refusedWith 6 (getD (t .places) u 0)
+          → Unlimited names bytes sort r
       whole-six l e =
           let (tree, w, q) = parse-sound answer o in
           let g = found-at f in
@@ -247,41 +219,3 @@ module _ {names bytes : List ℕ} {t : Tokens} (k : Tokened names bytes t) where
               }))
           by-sort e w known (faulty v) s d =
               rw d (refused 7 v (seven names bytes sort (k .good) (k .clear) (k .read) w known v s))
-
--- the tokens' reading: refused, or read
-pub text-refused :
-    {names bytes : List ℕ} (sort : Sort) {t : Tokens} {r : Read} →
-    Passed (namesOrder names) →
-    reading.Reading bytes t →
-    t .refused ≡ true →
-    r ≡ refusedWith (t .refusal .number) (t .refusal .place) →
-    Unlimited names bytes sort r
-unfolding reading.made reading.refusedWith
-text-refused sort g (reading.refused n p h) o e = rw e (refused n p (tokens-refused _ _ sort g n p h))
-text-refused sort g (reading.read h r) o e = never o
-
-pub tokened :
-    {names bytes : List ℕ} {t : Tokens} →
-    Passed (namesOrder names) →
-    reading.Reading bytes t →
-    t .refused ≡ false →
-    Tokened names bytes t
-unfolding reading.made reading.refusedWith
-tokened g (reading.refused n p h) o = never (sym o)
-tokened g (reading.read {ts = ts} h r) o = record { good = g; clear = h; tokens = ts; read = r; are = refl }
-
--- the list of names: refused, or good
-pub names-wrong :
-    (names bytes : List ℕ) (made : ℕ → Type 0) (sort : Sort) {o : Outcome} {f : Refusal} {r : Read} →
-    Comes (namesOrder names) made o →
-    o ≡ call.Refused f →
-    r ≡ refusedWith (f .number) (f .place) →
-    Reading names bytes sort r
-unfolding Comes
-names-wrong names bytes made sort {f = f} h e g =
-    let k = rw e at h in subst (Reading names bytes sort) (sym g) (names-refused names bytes sort (f .number) (f .place) k)
-
-pub names-done :
-    (names : List ℕ) (made : ℕ → Type 0) {o : Outcome} {n : ℕ} → Comes (namesOrder names) made o → o ≡ call.Done n → Passed (namesOrder names)
-unfolding Comes
-names-done names made h e = let k = rw e at h in k .0

@@ -1,4 +1,5 @@
--- For the functions inside: the sort pass as a run over the nodes of a tree with a stack of expressions. That a run over
+-- For the functions inside: the sort pass as a run over the nodes of a tree with a stack of expressions. That a run
+-- over
 -- a tree's nodes comes to `sorted` is shown in proofs/Runs.antt.
 use Prim.Native.Nat.{ℕ, _-_, _+_, _≤_, _<_}
 use mathlib.Core.Path.{_≡_}
@@ -148,6 +149,9 @@ pub record Took (takes : List Expression → Run) (s r : Sorting) : Type 0 where
 unfoldable pub leafByte : (ℕ → ℕ) → Token → ℕ
 leafByte number t = if eqb (t .code) 0 then number (t .place) else t .code
 
+abbrev pub leafIn : List ℕ → List ℕ → Token → ℕ
+leafIn names text t = leafByte (numberAt names text) t
+
 pub record Asked (s : Sorting) (c : ℕ) : Type 0 where
   pub fine : Fine s
   pub spare : s .len < 256
@@ -185,6 +189,6 @@ pub record Started (r : Sorting) : Type 0 where
   pub none : r .len ≡ 0
   pub shows : Shows r (going [])
 
-pub record Passed (names text codes places : List ℕ) (len : ℕ) (r : Sorting) : Type 0 where
+pub record Shown (names text codes places : List ℕ) (len : ℕ) (r : Sorting) : Type 0 where
   pub fine : Fine r
   pub shows : Shows r (run (numberAt names text) (handed codes places len) (going []))

@@ -1,4 +1,5 @@
--- Document 01, "Numbers for refused work", for a text: rows 5 to 8 over the text's tokens and its tree, the whole order,
+-- Document 01, "Numbers for refused work", for a text: rows 5 to 8 over the text's tokens and its tree, the whole
+-- order,
 -- and what is read. That any two answers coincide is shown in proofs/Unique.antt.
 use Prim.Native.Nat.{ℕ, _<_}
 use mathlib.Core.Path.{_≡_}

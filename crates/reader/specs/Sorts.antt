@@ -28,7 +28,8 @@ ofOne t (boolean c) =
     if eqb (t .code) 147 then is (boolean (negated c)) else is (vector (edge (edgeAt (t .code - 64)) c))
 ofOne t (vector p) = faulty (t .place)
 
--- `&` takes any, it is boolean only for two booleans; `|` takes two of one sort; level 2 takes booleans, level 4 vectors
+-- `&` takes any, it is boolean only for two booleans; `|` takes two of one sort; level 2 takes booleans, level 4
+-- vectors
 unfoldable pub ofTwo : Token → Expression → Expression → Sorted
 ofTwo t (boolean a) (boolean b) =
     if ltb (t .code) 50 then is (boolean (binary (binaryAt (t .code - 40)) a b)) else faulty (t .place)

@@ -67,7 +67,9 @@ fn is_unknown(names: &[u8], text: &[u8], code: u8, place: usize) -> bool
 // The first of `count` tokens that is a name that no slot holds; `count` where none is.
 pub fn first_unknown(names: &[u8], text: &[u8], codes: &[u8], places: &[u16], count: usize) -> usize
     requires { ⌜ Listed (now text) (now codes) (now places) count ⌝ }
-    ensures { λ r. ⌜ r ≡ unknownAt (now (names .entry)) (now (text .entry)) (now (codes .entry)) (now (places .entry)) count ⌝ }
+    ensures { λ r. ⌜
+        r ≡ unknownAt (now (names .entry)) (now (text .entry)) (now (codes .entry)) (now (places .entry)) count
+        ⌝ }
 {
     let mut i = 0;
     while i < count {

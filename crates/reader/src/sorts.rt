@@ -3,9 +3,8 @@ use crate::lookup::slot_of;
 ghost use mathlib.Core.Path.{_≡_};
 ghost use mathlib.Core.Bool.{_||_};
 ghost use Rattle.reader.specs.Passes.{Fine, Deep, sortAt, Room, Put, Halted, Ready, Took, takesOne, takesTwo};
-ghost use Rattle.reader.specs.Passes.{takesThree, pairByte, leafByte, Asked, Stepped};
-ghost use Rattle.reader.specs.Passes.{Named, Handed, Started, Passed};
-ghost use Rattle.reader.specs.Lookup.{numberAt};
+ghost use Rattle.reader.specs.Passes.{takesThree, pairByte, leafIn, Asked, Stepped};
+ghost use Rattle.reader.specs.Passes.{Named, Handed, Started, Shown};
 
 // Where the pass is: whether it goes on, or the place where it stopped; the sorts of `depth` expressions, true for a
 // vector; `len` bytes.
@@ -167,7 +166,7 @@ fn step(s: Sorting, code: u8, place: usize, byte: u8) -> Sorting
 // The byte of a name or literal: a name's is its slot's number.
 fn leaf_byte(names: &[u8], text: &[u8], code: u8, place: usize) -> u8
     requires { ⌜ Named (now names) (now text) place ⌝ }
-    ensures { λ r. ⌜ r ≡ leafByte (numberAt (now (names .entry)) (now (text .entry))) (record { code = code; place = place }) ⌝ }
+    ensures { λ r. ⌜ r ≡ leafIn (now (names .entry)) (now (text .entry)) (record { code = code; place = place }) ⌝ }
 {
     if code == 0 {
         return slot_of(names, text, place) as u8;
@@ -194,7 +193,7 @@ fn start() -> Sorting
 // The pass over the nodes of a tree.
 pub fn sort_nodes(names: &[u8], text: &[u8], codes: &[u8], places: &[u16], len: usize) -> Sorting
     requires { ⌜ Handed (now names) (now text) (now codes) (now places) len ⌝ }
-    ensures { λ r. ⌜ Passed (now (names .entry)) (now (text .entry)) (now (codes .entry)) (now (places .entry)) len r ⌝ }
+    ensures { λ r. ⌜ Shown (now (names .entry)) (now (text .entry)) (now (codes .entry)) (now (places .entry)) len r ⌝ }
 {
     let mut s = start();
     let mut i = 0;

@@ -10,23 +10,27 @@ returns c = limit-refused (c .before .before .before .pre) (c .if1 .taken)
 
 returns-2 : tie.Need-returns-2
 returns-2 c =
-    limit-boolean (left-over (c .before .before .before .before .before .pre) (c .before .before .if1 .left)) (sym (c .before .has-sort .ensures) ∙ c .if2 .taken)
+    limit-boolean (left-over (c .before .before .before .before .before .pre) (c .before .before .if1 .left))
+    (sym (c .before .has-sort .ensures) ∙ c .if2 .taken)
 
 is-over-requires : tie.Need-is-over-requires
 is-over-requires c κs =
     let b = c .before .before in
-    limit-asks (left-over (c .before .before .before .before .before .before .before .pre) (b .before .before .if1 .left)) (sym (b .before .has-sort .ensures) ∙ b .if2 .left)
+    limit-asks (left-over (c .before .before .before .before .before .before .before .pre)
+    (b .before .before .if1 .left)) (sym (b .before .has-sort .ensures) ∙ b .if2 .left)
 
 returns-3 : tie.Need-returns-3
 returns-3 c =
     let b = c .before .before .before .before .before in
-    limit-over (left-over (c .before .before .before .before .before .before .before .before .before .before .pre) (b .before .before .if1 .left)) (sym (b .before .has-sort .ensures) ∙ b .if2 .left)
+    limit-over (left-over (c .before .before .before .before .before .before .before .before .before .before .pre)
+    (b .before .before .if1 .left)) (sym (b .before .has-sort .ensures) ∙ b .if2 .left)
     (c .before .before .is-over .ensures) (c .before .if3 .taken) (c .refuse .ensures)
 
 returns-4 : tie.Need-returns-4
 returns-4 c =
     let b = c .before .before .before .before in
-    limit-within (left-over (c .before .before .before .before .before .before .before .before .before .pre) (b .before .before .if1 .left)) (sym (b .before .has-sort .ensures) ∙ b .if2 .left)
+    limit-within (left-over (c .before .before .before .before .before .before .before .before .before .pre)
+    (b .before .before .if1 .left)) (sym (b .before .has-sort .ensures) ∙ b .if2 .left)
     (c .before .is-over .ensures) (c .if3 .left)
 
 pub limit-spec : {M : Type 1} → statement M

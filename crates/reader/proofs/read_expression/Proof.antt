@@ -1,6 +1,6 @@
 -- `read_expression` meets its contract: the list of names first, then the text. Assumes nothing.
 use borrow.Author.Needs.{needs}
-use Rattle.reader.proofs.Whole.{names-done, names-wrong}
+use Rattle.reader.proofs.Openings.{names-done, names-wrong}
 use Rattle.reader.proofs.read_expression.Statement.{statement}
 use Rattle.reader.proofs.read_expression.Tie as tie
 
@@ -9,7 +9,8 @@ read-text-requires c κs = names-done _ _ (c .before .before .before .check-name
 
 returns : tie.Need-returns
 returns c =
-    names-wrong _ _ _ _ (c .before .before .before .before .check-names .ensures) (c .before .before .r .given .1) (c .refuse .ensures)
+    names-wrong _ _ _ _ (c .before .before .before .before .check-names .ensures) (c .before .before .r .given .1)
+    (c .refuse .ensures)
 
 pub read-expression-spec : {M : Type 1} → statement M
 read-expression-spec =

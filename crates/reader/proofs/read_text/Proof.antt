@@ -1,13 +1,14 @@
 -- `read_text` meets its contract. Assumes nothing.
 use borrow.Author.Needs.{needs}
-use Rattle.reader.proofs.Whole.{text-refused, tokened}
+use Rattle.reader.proofs.Openings.{text-refused, tokened}
 use Rattle.reader.proofs.read_text.Statement.{statement}
 use Rattle.reader.proofs.read_text.Tie as tie
 
 returns : tie.Need-returns
 returns c =
     let t = c .before .before .read-tokens in
-    text-refused _ (c .before .before .before .before .before .pre) (t .ensures) (c .before .if1 .taken) (c .refuse .ensures)
+    text-refused _ (c .before .before .before .before .before .pre) (t .ensures) (c .before .if1 .taken)
+    (c .refuse .ensures)
 
 read-tokened-requires : tie.Need-read-tokened-requires
 read-tokened-requires c κs =

@@ -12,7 +12,8 @@ parse-requires c κs = parse-asked (c .before .before .before .before .before .b
 
 returns : tie.Need-returns
 returns c =
-    whole-five (c .before .before .before .before .before .before .before .before .before .before .pre) _ (c .before .before .before .parse .ensures) (not-true _ (c .before .if1 .taken))
+    whole-five (c .before .before .before .before .before .before .before .before .before .before .pre) _
+    (c .before .before .before .parse .ensures) (not-true _ (c .before .if1 .taken))
     (c .refuse .ensures)
 
 first-unknown-requires : tie.Need-first-unknown-requires
@@ -21,35 +22,43 @@ first-unknown-requires c κs =
 
 mul-refuse : tie.Need-mul-refuse
 mul-refuse c =
-    let k = count-small (c .before .before .before .before .before .before .before .before .before .before .before .before .before .pre) in omega (arith, c .if2 .taken)
+    let k = count-small (c .before .before .before .before .before .before .before .before .before .before .before
+    .before .before .pre) in omega (arith, c .if2 .taken)
 
 array-read-refuse : tie.Need-array-read-refuse
 array-read-refuse c =
-    let k = count-small (c .before .before .before .before .before .before .before .before .before .before .before .before .before .pre) in omega (arith, c .if2 .taken)
+    let k = count-small (c .before .before .before .before .before .before .before .before .before .before .before
+    .before .before .pre) in omega (arith, c .if2 .taken)
 
 cast-refuse : tie.Need-cast-refuse
 cast-refuse c =
-    let k = c .before .before .before .before .before .before .before .before .before .before .before .before .before .pre in
+    let k = c .before .before .before .before .before .before .before .before .before .before .before .before .before
+    .pre in
     omega (arith, names-asked k .inside (c .before .first-unknown .result) (c .if2 .taken), short k)
 
 returns-2 : tie.Need-returns-2
 returns-2 c =
-    let k = c .before .before .before .before .before .before .before .before .before .before .before .before .before .before .pre in
+    let k = c .before .before .before .before .before .before .before .before .before .before .before .before .before
+    .before .pre in
     let b = c .before .before .before .before .before in
-    whole-six k _ (b .before .before .parse .ensures) (not-false _ (b .if1 .left)) (c .before .before .first-unknown .ensures)
+    whole-six k _ (b .before .before .parse .ensures) (not-false _ (b .if1 .left))
+    (c .before .before .first-unknown .ensures)
     (c .before .if2 .taken) (c .refuse2 .ensures)
 
 read-nodes-requires : tie.Need-read-nodes-requires
 read-nodes-requires c κs =
     let a = c .before .before .before .before .before .before .before .before .before .before .before .before .before in
     let b = c .before .before .before .before in
-    grown (a .pre) (a .args .sort) (b .before .before .parse .ensures) (not-false _ (b .if1 .left)) (c .before .first-unknown .ensures)
+    grown (a .pre) (a .args .sort) (b .before .before .parse .ensures) (not-false _ (b .if1 .left))
+    (c .before .first-unknown .ensures)
 
 returns-3 : tie.Need-returns-3
 returns-3 c =
-    let k = c .before .before .before .before .before .before .before .before .before .before .before .before .before .before .pre in
+    let k = c .before .before .before .before .before .before .before .before .before .before .before .before .before
+    .before .pre in
     let b = c .before .before .before .before .before in
-    whole-sorted k _ (b .before .before .parse .ensures) (not-false _ (b .if1 .left)) (c .before .before .first-unknown .ensures)
+    whole-sorted k _ (b .before .before .parse .ensures) (not-false _ (b .if1 .left))
+    (c .before .before .first-unknown .ensures)
     (c .before .if2 .left) (c .read-nodes .ensures)
 
 pub read-tokened-spec : {M : Type 1} → statement M

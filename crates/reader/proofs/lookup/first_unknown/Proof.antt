@@ -33,12 +33,14 @@ loop-again c = (
 returns-2 : tie.Need-returns-2 Inv-loop μ-loop
 returns-2 c =
     let i = c .before .loop in
-    let e : i .i ≡ c .before .before .before .before .before .before .args .count = omega (arith, c .loop-test .left, i .inv .0) in
+    let e : i .i ≡ c .before .before .before .before .before .before .args .count = omega
+    (arith, c .loop-test .left, i .inv .0) in
     e ∙ first-none _ _ (λ j l. i .inv .1 j (omega arith))
 
 is-unknown-requires : tie.Need-is-unknown-requires Inv-loop μ-loop
 is-unknown-requires c κs =
-    c .before .before .before .before .before .before .before .before .pre .inside _ (c .before .before .loop-test .taken)
+    c .before .before .before .before .before .before .before .before .pre .inside _
+    (c .before .before .loop-test .taken)
 
 pub first-unknown-spec : {M : Type 1} → statement M
 first-unknown-spec =

@@ -1,6 +1,6 @@
 -- `pair_byte` meets its contract, way by way. Assumes nothing.
-use Rattle.reader.proofs.Takes.{both-and, both-or, both-below, both-above, right-and, right-other}
-use Rattle.reader.proofs.Takes.{left-and, left-other, none-below, none-above}
+use Rattle.reader.proofs.PairBytes.{both-and, both-or, both-below, both-above, right-and, right-other}
+use Rattle.reader.proofs.PairBytes.{left-and, left-other, none-below, none-above}
 use Rattle.reader.proofs.sorts.pair_byte.Statement.{statement}
 use Rattle.reader.proofs.sorts.pair_byte.Tie as tie
 
@@ -9,17 +9,20 @@ returns c = both-and (c .before .before .if1 .taken) (c .before .if2 .taken) (c 
 
 returns-2 : tie.Need-returns-2
 returns-2 c =
-    both-or (c .before .before .before .if1 .taken) (c .before .before .if2 .taken) (c .before .if3 .left) (c .if4 .taken)
+    both-or (c .before .before .before .if1 .taken) (c .before .before .if2 .taken) (c .before .if3 .left)
+    (c .if4 .taken)
 
 returns-3 : tie.Need-returns-3
 returns-3 c =
     let b = c .before .before in
-    both-below (b .before .before .if1 .taken) (b .before .if2 .taken) (b .if3 .left) (c .before .if4 .left) (c .if5 .taken)
+    both-below (b .before .before .if1 .taken) (b .before .if2 .taken) (b .if3 .left) (c .before .if4 .left)
+    (c .if5 .taken)
 
 returns-4 : tie.Need-returns-4
 returns-4 c =
     let b = c .before .before in
-    both-above (b .before .before .if1 .taken) (b .before .if2 .taken) (b .if3 .left) (c .before .if4 .left) (c .if5 .left)
+    both-above (b .before .before .if1 .taken) (b .before .if2 .taken) (b .if3 .left) (c .before .if4 .left)
+    (c .if5 .left)
 
 returns-5 : tie.Need-returns-5
 returns-5 c = right-and (c .before .before .if1 .taken) (c .before .if2 .left) (c .if6 .taken)

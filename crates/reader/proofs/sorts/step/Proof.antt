@@ -11,11 +11,18 @@ returns c = node-still _ _ (c .before .before .pre .fine) (not-true _ (c .if1 .t
 
 put-requires : tie.Need-put-requires
 put-requires c κs =
-    record { fine = search needs; there = search needs; spare = search needs; goes = not-false _ (c .before .if1 .left) }
+    record {
+      fine = search needs;
+      there = search needs;
+      spare = search needs;
+      goes = not-false _
+          (c .before .if1 .left);
+    }
 
 returns-2 : tie.Need-returns-2
 returns-2 c =
-    node-leaf-put _ _ (c .before .before .before .before .pre) (not-false _ (c .before .before .if1 .left)) (c .before .if2 .taken)
+    node-leaf-put _ _ (c .before .before .before .before .pre) (not-false _ (c .before .before .if1 .left))
+    (c .before .if2 .taken)
     (c .put .ensures)
 
 take-two-requires : tie.Need-take-two-requires

@@ -14,7 +14,8 @@ returns-2 c = one-wrong _ (c .stop2 .ensures) (sym (c .before .before .sort-at .
 returns-3 : tie.Need-returns-3
 returns-3 c =
     let b = c .before .before in
-    one-right _ (b .before .before .before .pre) (b .before .if1 .left) (sym (b .sort-at .ensures) ∙ c .before .if2 .left) refl
+    one-right _ (b .before .before .before .pre) (b .before .if1 .left)
+    (sym (b .sort-at .ensures) ∙ c .before .if2 .left) refl
     (c .put .ensures)
 
 pub take-one-spec : {M : Type 1} → statement M

@@ -11,15 +11,18 @@ returns c = three-short _ (c .stop .ensures) (c .before .if1 .taken)
 
 returns-2 : tie.Need-returns-2
 returns-2 c =
-    three-wrong _ (c .stop2 .ensures) 2 (omega arith) (sym (c .before .before .sort-at .ensures) ∙ c .before .if2 .taken)
+    three-wrong _ (c .stop2 .ensures) 2 (omega arith)
+    (sym (c .before .before .sort-at .ensures) ∙ c .before .if2 .taken)
 
 returns-3 : tie.Need-returns-3
 returns-3 c =
-    three-wrong _ (c .stop3 .ensures) 1 (omega arith) (sym (c .before .before .sort-at2 .ensures) ∙ c .before .if3 .taken)
+    three-wrong _ (c .stop3 .ensures) 1 (omega arith)
+    (sym (c .before .before .sort-at2 .ensures) ∙ c .before .if3 .taken)
 
 returns-4 : tie.Need-returns-4
 returns-4 c =
-    three-wrong _ (c .stop4 .ensures) 0 (omega arith) (sym (c .before .before .sort-at3 .ensures) ∙ c .before .if4 .taken)
+    three-wrong _ (c .stop4 .ensures) 0 (omega arith)
+    (sym (c .before .before .sort-at3 .ensures) ∙ c .before .if4 .taken)
 
 returns-5 : tie.Need-returns-5
 returns-5 c =

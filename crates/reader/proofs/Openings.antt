@@ -1,0 +1,62 @@
+-- How the call begins: the list of names is refused or good, the text's tokens are refused or read.
+--   text-refused, tokened       a text whose tokens are refused, or read
+--   names-wrong, names-done     a list of names that is refused, or good
+-- Assumes nothing.
+use mathlib.Core.Path.{_≡_, refl, sym, subst, _∙_}
+use mathlib.Core.Bool.{true, false}
+use mathlib.Core.List.{List}
+use Prim.Native.Nat.{ℕ}
+use Rattle.alf.specs.declared.Sort.{Sort}
+use Rattle.alf.specs.declared.Outcome.{Outcome}
+use Rattle.alf.specs.declared.Outcome.the-variants as call
+use Rattle.alf.specs.declared.Refusal.{Refusal}
+use Rattle.alf.specs.Refusals.{Passed, Comes}
+use Rattle.alf.proofs.Bools.{never}
+use Rattle.names.specs.Check.{namesOrder}
+use Rattle.tokens.specs.declared.Tokens.{Tokens}
+use Rattle.tokens.specs.Reading as reading
+use Rattle.reader.specs.declared.Read.{Read}
+use Rattle.reader.specs.Reads.{refusedWith}
+use Rattle.reader.specs.Reading.{Reading, Unlimited, refused}
+use Rattle.reader.specs.Whole.{Tokened}
+use Rattle.reader.proofs.Readings.{names-refused, tokens-refused}
+
+-- the tokens' reading: refused, or read
+pub text-refused :
+    {names bytes : List ℕ} (sort : Sort) {t : Tokens} {r : Read} →
+    Passed (namesOrder names) →
+    reading.Reading bytes t →
+    t .refused ≡ true →
+    r ≡ refusedWith (t .refusal .number) (t .refusal .place) →
+    Unlimited names bytes sort r
+unfolding reading.made reading.refusedWith
+text-refused sort g (reading.refused n p h) o e = rw e (refused n p (tokens-refused _ _ sort g n p h))
+text-refused sort g (reading.read h r) o e = never o
+
+pub tokened :
+    {names bytes : List ℕ} {t : Tokens} →
+    Passed (namesOrder names) →
+    reading.Reading bytes t →
+    t .refused ≡ false →
+    Tokened names bytes t
+unfolding reading.made reading.refusedWith
+tokened g (reading.refused n p h) o = never (sym o)
+tokened g (reading.read {ts = ts} h r) o = record { good = g; clear = h; tokens = ts; read = r; are = refl }
+
+-- the list of names: refused, or good
+pub names-wrong :
+    (names bytes : List ℕ) (made : ℕ → Type 0) (sort : Sort) {o : Outcome} {f : Refusal} {r : Read} →
+    Comes (namesOrder names) made o →
+    o ≡ call.Refused f →
+    r ≡ refusedWith (f .number) (f .place) →
+    Reading names bytes sort r
+unfolding Comes
+names-wrong names bytes made sort {f = f} h e g =
+    let k = rw e at h in subst (Reading names bytes sort) (sym g)
+    (names-refused names bytes sort (f .number) (f .place) k)
+
+pub names-done :
+    (names : List ℕ) (made : ℕ → Type 0) {o : Outcome} {n : ℕ} → Comes (namesOrder names) made o → o ≡ call.Done n
+    → Passed (namesOrder names)
+unfolding Comes
+names-done names made h e = let k = rw e at h in k .0

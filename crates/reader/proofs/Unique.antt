@@ -1,0 +1,147 @@
+-- The answer of `read_expression` is unique, and what it reads is what the text gives.
+--   read-unique     any two answers that the contract allows coincide
+--   gives-unique    a text gives one expression
+--   read-sound      what is read is what the text gives; the list of names is good and the text has at most 4,096 bytes
+--   read-complete   and a text that gives an expression, with such names and such a length, is read as it
+-- Assumes nothing.
+use mathlib.Core.Path.{_≡_, refl, sym, ap, _∙_}
+use mathlib.Core.Bool.{false}
+use mathlib.Core.List.{List, [], _∷_, _++_}
+use Prim.Native.Nat.{ℕ, _≤_, _<_}
+use native.Mathlib.Omega.{arith}
+use lib.ListN.{length}
+use Rattle.alf.specs.declared.Sort.{Sort}
+use Rattle.alf.specs.Expressions.{Expression, boolean, vector}
+use Rattle.alf.specs.Refusals.{Row, Passed, First}
+use Rattle.alf.proofs.Bools.{never}
+use Rattle.alf.proofs.Outcomes.{Fixes, Fixed, at-fixes, first-fixes, first-of-fixes, refused-not-passed, refused-unique}
+use Rattle.names.specs.Check.{namesOrder}
+use Rattle.tokens.specs.Texts.{Token, Reads, OfTokens, deep, many, order}
+use Rattle.tokens.proofs.TextLaws.{reads-unique, reads-not-stuck}
+use Rattle.grammar.specs.Grammar.{Tree}
+use Rattle.grammar.proofs.Unique.{parses-unique}
+use Rattle.reader.specs.declared.Read.{Read}
+use Rattle.reader.specs.Sorts.{Sorted, is, faulty}
+use Rattle.reader.specs.Texts.{tokensOf}
+use Rattle.reader.specs.Reads.{made, refusedWith}
+use Rattle.reader.specs.Reading.{tooLarge, OfTree, stuck, unknown, sortedIn, treeOrder, readOrder}
+use Rattle.reader.specs.Reading.{Gives, Reading, refused, read}
+use Rattle.reader.proofs.Orders.{fixed-both, passed-left, passed-right}
+use Rattle.reader.proofs.Readings.{read-clear}
+use Rattle.reader.proofs.Whole.{text-short}
+
+-- each row fixes its place
+of-tokens-fixes : (text : List ℕ) (row : List Token → Row) → ((ts : List Token) → Fixes (row ts))
+    → Fixes (OfTokens text row)
+of-tokens-fixes text row f p q a b =
+    f (a .tokens) p q (a .holds) (rw (reads-unique (a .read) (b .read)) (b .holds))
+
+same-tree : {text : List ℕ} {row row′ : Tree → Row} {p q : ℕ} (a : OfTree text row p) (b : OfTree text row′ q)
+    → b .tree ≡ a .tree
+same-tree a b = parses-unique (rw (reads-unique (b .read) (a .read)) at (b .whole)) (a .whole)
+
+of-tree-fixes : (text : List ℕ) (row : Tree → Row) → ((e : Tree) → Fixes (row e)) → Fixes (OfTree text row)
+of-tree-fixes text row f p q a b = f (a .tree) p q (a .holds) (rw (same-tree a b) at (b .holds))
+
+large-fixes : (q : Sorted) → Fixes (tooLarge q)
+unfolding tooLarge
+large-fixes (is (boolean c)) p r a b = absurd a
+large-fixes (is (vector v)) p r a b = at-fixes _ _ p r a b
+large-fixes (faulty s) p r a b = absurd a
+
+text-fixed : (text : List ℕ) → Fixed (order text)
+unfolding order
+text-fixed text = (
+  at-fixes _ _,
+  (
+    first-fixes _,
+    (
+      of-tokens-fixes text deep (λ ts. first-fixes _),
+      (of-tokens-fixes text many (λ ts. first-fixes _), tt),
+    ),
+  ),
+)
+
+tree-fixed : (names text : List ℕ) (sort : Sort) → Fixed (treeOrder names text sort)
+unfolding treeOrder
+tree-fixed names text sort = (
+  of-tokens-fixes text (stuck text) (λ ts. first-fixes _),
+  (
+    of-tokens-fixes text (unknown names text) (λ ts. first-fixes _),
+    (
+      of-tree-fixes text _ (λ e. first-of-fixes _ _),
+      (of-tree-fixes text _ (λ e. large-fixes (sortedIn names text sort e)), tt),
+    ),
+  ),
+)
+
+read-fixed : (names text : List ℕ) (sort : Sort) → Fixed (readOrder names text sort)
+read-fixed names text sort =
+    fixed-both (namesOrder names) (order text ++ treeOrder names text sort) (at-fixes _ _, (first-fixes _, tt))
+    (fixed-both (order text) (treeOrder names text sort) (text-fixed text) (tree-fixed names text sort))
+
+-- a text gives one expression
+pub gives-unique : {names text : List ℕ} {sort : Sort} {x y : Expression} → Gives names text sort x
+    → Gives names text sort y → x ≡ y
+gives-unique {names} {text} {sort} a b =
+    let e = parses-unique (rw (reads-unique (b .read) (a .read)) at (b .whole)) (a .whole) in
+    let s = rw e at (b .sorts) in
+    let t = sym (a .sorts) ∙ s in cc
+
+pub read-unique : {names text : List ℕ} {sort : Sort} {r s : Read} → Reading names text sort r
+    → Reading names text sort s → r ≡ s
+read-unique {names} {text} {sort} (refused n p a) (refused m q b) =
+    let e = refused-unique (readOrder names text sort) (read-fixed names text sort) n m p q a b in
+    ap (λ (k : ℕ). refusedWith k p) (e .0) ∙ ap (refusedWith m) (e .1)
+read-unique {names} {text} {sort} (refused n p a) (read b g) =
+    absurd (refused-not-passed (readOrder names text sort) n p a b)
+read-unique {names} {text} {sort} (read a g) (refused n p b) =
+    absurd (refused-not-passed (readOrder names text sort) n p b a)
+read-unique (read a g) (read b h) = ap made (gives-unique g h)
+
+-- what is read is what the text gives
+pub record Read-as (names text : List ℕ) (sort : Sort) (r : Read) : Type 0 where
+  pub good : Passed (namesOrder names)
+  pub short : length text ≤ 4096
+  pub it : Expression
+  pub gives : Gives names text sort it
+  pub is-it : r ≡ made it
+
+pub read-sound : {names text : List ℕ} {sort : Sort} {r : Read} → Reading names text sort r → r .refused ≡ false
+    → Read-as names text sort r
+unfolding made refusedWith
+read-sound (refused n p a) e = never (sym e)
+read-sound {names} {text} {sort} (read {x = x} a g) e =
+    record {
+      good = passed-left (namesOrder names) _ a;
+      short = text-short text (passed-left (order text) _ (passed-right (namesOrder names) _ a));
+      it = x;
+      gives = g;
+      is-it = refl;
+    }
+
+text-clear : (text : List ℕ) {ts : List Token} → length text ≤ 4096 → Reads 0 text ts
+    → ((p : ℕ) → deep ts p → ⊥) → ((p : ℕ) → many ts p → ⊥) → Passed (order text)
+unfolding Passed order
+text-clear text l r d m = (
+  λ p a. let h = a .given in omega arith,
+  (
+    λ p a. reads-not-stuck r (a .given),
+    (
+      λ p a. d p (rw (reads-unique (a .read) r) at (a .holds)),
+      (λ p a. m p (rw (reads-unique (a .read) r) at (a .holds)), tt),
+    ),
+  ),
+)
+
+pub read-complete :
+    {names text : List ℕ} {sort : Sort} {r : Read} {x : Expression} →
+    Passed (namesOrder names) →
+    length text ≤ 4096 →
+    Gives names text sort x →
+    Reading names text sort r →
+    r ≡ made x
+read-complete {names} {text} {sort} n l g h =
+    read-unique h
+    (read-clear names text sort n (text-clear text l (g .read) (g .shallow) (g .few)) (g .read) (g .whole) (g .known)
+    (g .sorts) (g .small))
