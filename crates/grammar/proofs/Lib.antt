@@ -1,18 +1,18 @@
-mod Table
-mod Shunting
-mod Unique
-mod Counting
-mod Goes
-mod Refusals
-mod Ranks
-mod Levels
-mod Ranges
-mod Lists
-mod Steps
-mod Runs
-mod Padding
-mod Finish
-mod Outcome
-mod RowFive
-mod Written
-mod Fewest
+pub mod Table
+pub mod Shunting
+pub mod Unique
+pub mod Counting
+pub mod Goes
+pub mod Refusals
+pub mod Ranks
+pub mod Levels
+pub mod Ranges
+pub mod Lists
+pub mod Steps
+pub mod Runs
+pub mod Padding
+pub mod Finish
+pub mod Outcome
+pub mod RowFive
+pub mod Written
+pub mod Fewest

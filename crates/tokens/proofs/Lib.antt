@@ -1,21 +1,21 @@
 -- The laws of tokens.
-mod Ranges
-mod ByteClasses
-mod Lists
-mod Halves
-mod Words
-mod Table
-mod Ways
-mod Bytes
-mod Search
-mod Shapes
-mod Codes
-mod Taking
-mod TextLaws
-mod Filling
-mod Scanning
-mod Counts
-mod Places
-mod Orders
-mod ReadingLaws
-mod Handing
+pub mod Ranges
+pub mod ByteClasses
+pub mod Lists
+pub mod Halves
+pub mod Words
+pub mod Table
+pub mod Ways
+pub mod Bytes
+pub mod Search
+pub mod Shapes
+pub mod Codes
+pub mod Taking
+pub mod TextLaws
+pub mod Filling
+pub mod Scanning
+pub mod Counts
+pub mod Places
+pub mod Orders
+pub mod ReadingLaws
+pub mod Handing

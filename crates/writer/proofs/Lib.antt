@@ -1,0 +1,4 @@
+-- The laws of written texts.
+pub mod Signs
+pub mod Words
+pub mod Reading

@@ -1,0 +1,1 @@
+// An expression's tree as text: one blank between all tokens, only needed brackets.
