@@ -2,3 +2,6 @@
 pub mod Signs
 pub mod Words
 pub mod Reading
+pub mod Going
+pub mod Nodes
+pub mod Layouts

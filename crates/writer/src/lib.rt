@@ -1,1 +1,3 @@
 // An expression's tree as text: one blank between all tokens, only needed brackets.
+mod layout;
+mod puts;
