@@ -15,7 +15,7 @@ abbrev pub flat : List (List ℕ) → List ℕ
 flat [] = []
 flat (x ∷ xs) = x ++ flat xs
 
-sets-append : (xs ys out : List ℕ) (at : ℕ) → sets (sets out at xs) (at + length xs) ys ≡ sets out at (xs ++ ys)
+pub sets-append : (xs ys out : List ℕ) (at : ℕ) → sets (sets out at xs) (at + length xs) ys ≡ sets out at (xs ++ ys)
 sets-append [] ys out at = ap (λ (n : ℕ). sets out n ys) (omega arith)
 sets-append (x ∷ xs) ys out at =
     ap (λ (n : ℕ). sets (sets out at (x ∷ xs)) n ys) (omega arith) ∙ sets-append xs ys _ (suc at)
@@ -75,3 +75,13 @@ module _ {out : List ℕ} {at : ℕ} {whole : List ℕ} where
   going-end g =
       let e : g .done ≡ whole = sym (g .split ∙ append-nil (g .done)) in
       record { bytes = rw e at (g .put .bytes); next = rw e at (g .put .next) }
+
+  pub going-parts : {left left′ : List (List ℕ)} {out′ : List ℕ} {p : ℕ} → flat left ≡ flat left′
+      → Going out at whole left out′ p → Going out at whole left′ out′ p
+  going-parts e g =
+      record {
+        done = g .done;
+        split = g .split ∙ ap (λ (l : List ℕ). g .done ++ l) e;
+        put = g .put;
+        room = g .room;
+      }

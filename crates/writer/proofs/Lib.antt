@@ -5,3 +5,4 @@ pub mod Reading
 pub mod Going
 pub mod Nodes
 pub mod Layouts
+pub mod Spelling

@@ -1,7 +1,7 @@
--- For the functions inside: a token that is to be written as one byte. A name is its number, and any other token its code.
--- Main names: sign, signs (of a tree, where a level is asked for), word (a sign's spelling), line (some signs' text).
+-- For the functions inside: a token that is to be written, as one byte. A name is its number, any other token its code.
+-- Main names: sign, signs (of a tree, where a level is asked for), word (a sign's spelling), lineFrom (some words).
 -- That the line of a tree's signs is its text is shown in proofs/Lines.antt.
-use Prim.Native.Nat.{ℕ}
+use Prim.Native.Nat.{ℕ, suc, _-_}
 use mathlib.Core.Bool.{Bool, true, false}
 use mathlib.Core.List.{List, [], _∷_, _++_, map}
 use lib.Dec.{eqb, ltb, leb}
@@ -47,7 +47,11 @@ word names s = if ltb s 32 then nameAt names s else signSpelled s
 abbrev pub gap : ℕ → List ℕ
 gap i = if eqb i 0 then [] else 32 ∷ []
 
--- the signs from number i on
+-- the words of some signs, the first of which has number i
 unfoldable pub lineFrom : List ℕ → ℕ → List ℕ → List ℕ
 lineFrom names i [] = []
-lineFrom names i (s ∷ ss) = gap i ++ (word names s ++ lineFrom names 1 ss)
+lineFrom names i (s ∷ ss) = gap i ++ (word names s ++ lineFrom names (suc i) ss)
+
+-- where the bytes of an operator, a mark or a prefix stand in the code's table
+unfoldable pub markAt : ℕ → ℕ
+markAt c = if ltb c 60 then c - 40 else if ltb c 64 then c - 46 else c - 127
