@@ -1,6 +1,6 @@
 -- The kind of what a byte makes, from its operands' kinds, and where it starts.
 -- Main names: none, leaf-found, one-found, pair-found, three-found; no-right, no-left, no-first, where an operand is
--- missing. Assumes nothing.
+-- missing; ending-unique. Assumes nothing.
 use Prim.Native.Nat.{ℕ, zero, suc, _+_, _-_, _<_, _≤_}
 use native.Mathlib.Omega.{arith}
 use mathlib.Core.Path.{_≡_, refl, ap, sym, _∙_, subst}
@@ -9,18 +9,18 @@ use mathlib.Core.List.{List}
 use lib.ListN.{getD, length}
 use lib.Dec.{ltb, eqb}
 use native.Mathlib.Nat.{zero-add}
-use borrow.Author.Tests.{ltb-true, ltb-false, lt-ltb, le-ltb, ne-eqb}
+use borrow.Author.Tests.{ltb-true, ltb-false, ne-eqb}
 use Rattle.alf.specs.Words.{if_then_else_}
 use Rattle.alf.specs.Expressions.{Boolean, boolean, Vector, vector}
 use Rattle.alf.specs.Bytes.{Stack, empty, broken, push, Operation, leafAt, pairAt, threeAt, oneAt, operationAt}
 use Rattle.alf.specs.Bytes.{isBoolean, isVector, under, ifSo, run, arityAt, stackAt}
 use Rattle.alf.proofs.Bools.{never}
-use Rattle.alf.proofs.Choices.{if-all}
 use Rattle.alf.proofs.Codes.{leaf-class, pair-class, three-class, one-class}
-use Rattle.alf.proofs.Parts.{last, arity-zero, arity-one, arity-two, arity-three, deep, unders, deep-under}
+use Rattle.alf.proofs.Parts.{last, arity-zero, arity-one, arity-two, arity-three, deep, unders}
 use Rattle.trees.specs.Parts.{isWhole, Ends, Start}
 use Rattle.trees.specs.Sorts.{kindOf, givenOne, givenTwo, leafKind, oneKind, pairKind, threeKind, placed, Ending}
-use Rattle.trees.proofs.Starts.{Going, going-first, going-on, going-part, going-done, deep-whole, deep-one}
+use Rattle.trees.proofs.Operands.{arity-some, arity-more}
+use Rattle.trees.proofs.Starts.{Going, going-first, going-on, going-part, going-done, whole-at, start-unique}
 
 boolean-kind : (s : Stack) → isBoolean s ≡ eqb (kindOf s) 1
 unfolding isBoolean kindOf
@@ -94,25 +94,9 @@ pub none : (t : List ℕ) (names : ℕ) → Ending t names 0 0 (placed 0 0)
 unfolding stackAt kindOf placed
 none t names = record { is = refl; from = λ q. absurd (omega arith); nowhere = λ q. refl }
 
--- an expression that a byte takes is there
+-- an expression that a byte takes has a kind
 deep-at : (k n : ℕ) (s : Stack) → k < n → deep n s → 0 < kindOf (unders k s)
-unfolding unders
-deep-at zero zero s l d = absurd (omega arith)
-deep-at (suc k) zero s l d = absurd (omega arith)
-deep-at zero (suc n) s l d = whole-kind s (deep-whole s (deep-one n s d))
-deep-at (suc k) (suc n) s l d = deep-at k n (under s) (omega arith) (deep-under n s d)
-
-arity-some : (b : ℕ) → 40 ≤ b → 0 < arityAt b
-unfolding arityAt
-arity-some b k =
-    rw (le-ltb b 40 k)
-    (if-all (λ n. 0 < n) (ltb b 60) (λ e. omega arith)
-    (λ e. if-all (λ n. 0 < n) (ltb b 64) (λ f. omega arith) (λ f. omega arith)))
-
-arity-more : (b : ℕ) → 40 ≤ b → b < 64 → 1 < arityAt b
-unfolding arityAt
-arity-more b k j =
-    rw (le-ltb b 40 k, lt-ltb b 64 j) (if-all (λ n. 1 < n) (ltb b 60) (λ e. omega arith) (λ e. omega arith))
+deep-at k n s l d = whole-kind (unders k s) (whole-at k n s l d)
 
 -- the last byte of the bytes before `end`, and what it makes
 module _ (t : List ℕ) (names end : ℕ) (p : 0 < end) (u : end ≤ length t) where
@@ -198,3 +182,18 @@ module _ (t : List ℕ) (names end : ℕ) (p : 0 < end) (u : end ≤ length t) w
                 let h = going-part t names end _ 2 m (rw (arity-three _ k j) at g) (a .from q) in
                 let i = going-part t names end m 1 o h (c .from w) in
                 going-done (going-part t names end o 0 n i (y .from x)) (omega arith))
+
+-- bytes end with one thing only
+pub ending-unique : {t : List ℕ} {names end k m k′ m′ : ℕ} → Ending t names end k m → Ending t names end k′ m′
+    → (k ≡ k′) × (m ≡ m′)
+ending-unique {k = k} {m = m} {k′ = k′} {m′ = m′} x y = (x .is ∙ sym (y .is), go (ltb 0 k) refl)
+  where
+    same : k ≡ k′
+    same = x .is ∙ sym (y .is)
+
+    go : (q : Bool) → ltb 0 k ≡ q → m ≡ m′
+    go true h = let l = ltb-true 0 k h in start-unique (x .from l) (y .from (rw same at l))
+    go false h =
+        let l = ltb-false 0 k h in
+        let e = same in
+        x .nowhere (omega arith) ∙ sym (y .nowhere (omega arith))

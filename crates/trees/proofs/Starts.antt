@@ -1,6 +1,6 @@
 -- The way back from the end of a part to its start, by bytes or by whole parts.
--- Main names: Going, going-first, going-on (a byte), going-part (a part), going-done; ends-pos, whole-deep.
--- Assumes nothing.
+-- Main names: Going, going-first, going-on (a byte), going-part (a part), going-done; ends-pos, whole-deep, whole-at,
+-- start-unique. Assumes nothing.
 use Prim.Native.Nat.{ℕ, zero, suc, _+_, _-_, _<_, _≤_}
 use native.Mathlib.Omega.{arith}
 use mathlib.Core.Path.{_≡_, refl, ap, sym, _∙_}
@@ -30,6 +30,14 @@ unfolding deep
 deep-one n empty h = absurd h
 deep-one n broken h = absurd h
 deep-one n (push e s) h = tt
+
+-- an expression that a byte takes is there
+pub whole-at : (k n : ℕ) (s : Stack) → k < n → deep n s → isWhole (unders k s) ≡ true
+unfolding unders
+whole-at zero zero s l d = absurd (omega arith)
+whole-at (suc k) zero s l d = absurd (omega arith)
+whole-at zero (suc n) s l d = deep-whole s (deep-one n s d)
+whole-at (suc k) (suc n) s l d = whole-at k n (under s) (omega arith) (deep-under n s d)
 
 top-size : (s : Stack) → deep 1 s → size 1 s ≡ length (bytesOf (top s))
 unfolding deep size top
@@ -127,3 +135,7 @@ going-done {t} {names} {end} {at} {need = zero} g p =
     let k = g .left in
     record { is = omega arith; before = omega arith; left = g .same }
 going-done {t} {names} {end} {at} {need = suc n} g p = absurd (omega arith)
+
+-- a part starts in one place only
+pub start-unique : {t : List ℕ} {names end a b : ℕ} → Start t names end a → Start t names end b → a ≡ b
+start-unique x y = let e = x .is in let d = y .is in omega arith

@@ -1,5 +1,4 @@
 -- A tree: an expression as its bytes (alf/specs/Bytes). What the functions over trees promise.
 pub mod Parts
 pub mod Sorts
-pub mod Picks
-pub mod Sizes
+pub mod Brackets

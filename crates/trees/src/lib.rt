@@ -1,5 +1,4 @@
-// Expressions as their bytes: what a tree is, where its parts start, its size in alternatives, its brackets.
+// Expressions as their bytes: what a tree is, where its parts start, and the brackets that its text needs.
+pub mod brackets;
 pub mod parts;
-pub mod picking;
-pub mod sizes;
 pub mod sorts;
