@@ -6,3 +6,6 @@ pub mod Going
 pub mod Nodes
 pub mod Layouts
 pub mod Spelling
+pub mod Known
+pub mod Lines
+pub mod Calls

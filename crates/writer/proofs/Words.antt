@@ -1,6 +1,6 @@
 -- A written token, with nothing or a blank behind it, is the longest token there: names, and with them all tokens.
 -- Main names: Known (a token that can be written), spelled-taken, spelled-some. Assumes nothing.
-use Prim.Native.Nat.{ℕ, zero, suc, _+_, _<_, _≤_}
+use Prim.Native.Nat.{ℕ, zero, suc, _+_, _/_, _<_, _≤_}
 use native.Mathlib.Omega.{arith}
 use mathlib.Core.Path.{_≡_, refl, sym, ap, _∙_, subst}
 use mathlib.Core.Bool.{Bool, true, false, _&&_}
@@ -62,23 +62,23 @@ name-taken (x ∷ w) {rest} b h =
 
 -- a token that can be written: a name of the list, or a sign
 pub data Known (names : List ℕ) (t : Token) : Type 0 where
-  a-name : t .code ≡ 0 → isName (nameAt names (t .place)) ≡ true → Known names t
+  a-name : t .code ≡ 0 → t .place < length names / 32 → isName (nameAt names (t .place)) ≡ true → Known names t
   a-sign : Sign (t .code) → Known names t
 
-sign-positive : {c : ℕ} → Sign c → 0 < c
+pub sign-positive : {c : ℕ} → Sign c → 0 < c
 sign-positive (Sign.low l u) = omega arith
 sign-positive (Sign.high l u) = omega arith
 
-spelled-name : (names : List ℕ) (t : Token) → t .code ≡ 0 → spelled names t ≡ nameAt names (t .place)
+pub spelled-name : (names : List ℕ) (t : Token) → t .code ≡ 0 → spelled names t ≡ nameAt names (t .place)
 unfolding spelled
 spelled-name names t h = rw h
 
-spelled-sign : (names : List ℕ) (t : Token) → Sign (t .code) → spelled names t ≡ signSpelled (t .code)
+pub spelled-sign : (names : List ℕ) (t : Token) → Sign (t .code) → spelled names t ≡ signSpelled (t .code)
 unfolding spelled
 spelled-sign names t s = let z = ne-eqb (t .code) 0 (λ e. omega (arith, sign-positive s)) in rw z
 
 pub spelled-taken : {names rest : List ℕ} {t : Token} → Known names t → Behind rest
     → Taken (spelled names t ++ rest) (spelled names t) (t .code) rest
-spelled-taken {names} {rest} {t} (a-name e h) b =
+spelled-taken {names} {rest} {t} (a-name e l h) b =
     rw (spelled-name names t e, e) (name-taken (nameAt names (t .place)) b h)
 spelled-taken {names} {rest} {t} (a-sign s) b = rw (spelled-sign names t s) (sign-taken b s)

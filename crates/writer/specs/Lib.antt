@@ -5,3 +5,4 @@ pub mod Spelled
 pub mod Placed
 pub mod Signs
 pub mod Inner
+pub mod Writing
