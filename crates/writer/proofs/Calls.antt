@@ -53,7 +53,8 @@ pub holds-within : {list w : List ℕ} {r : ℕ} → Holds list r w → r ≤ le
 holds-within {list} {r = r} h = omega (arith, holds-count h, length-take r list)
 
 -- 1, 9, or the text at the front
-pub delivered-long : {w out : List ℕ} → 4096 < length w → Delivers w out out (Refused (record { number = 1; place = 4096 }))
+pub delivered-long : {w out : List ℕ} → 4096 < length w
+    → Delivers w out out (Refused (record { number = 1; place = 4096 }))
 unfolding Comes RefusedWith endOrder after
 delivered-long h = record { outcome = inl (refl, record { given = h; there = refl }); memory = refl }
 
@@ -171,10 +172,14 @@ module _ {names tree : List ℕ} {sort : Sort} (h : Named names) (a : Accepted (
   e = expressionAt tree (countOf names) (length tree)
 
   over : ExpressionOver (countOf names) e
-  over = rw (decoded (countOf names) tree (a .expression) (a .decodes)) (decode-over (countOf names) tree (a .expression) (a .decodes))
+  over =
+      rw (decoded (countOf names) tree (a .expression) (a .decodes))
+      (decode-over (countOf names) tree (a .expression) (a .decodes))
 
   bytes : length (bytesOf e) ≡ length tree
-  bytes = rw (decoded (countOf names) tree (a .expression) (a .decodes)) (ap length (bytes-decode (countOf names) tree (a .expression) (a .decodes)))
+  bytes =
+      rw (decoded (countOf names) tree (a .expression) (a .decodes))
+      (ap length (bytes-decode (countOf names) tree (a .expression) (a .decodes)))
 
   tokens : AllKnown names (written 6 (treeOf e))
   tokens = written-known 6 (tree-known (names-named h) e over)
@@ -190,7 +195,8 @@ module _ {names tree : List ℕ} {sort : Sort} (h : Named names) (a : Accepted (
   unfolding signs treeAt
   laid = record { ends = ends; few = rw length-map few }
 
-  module _ {list : List ℕ} {count : ℕ} (k : Holds list count (signs 6 (treeAt tree (countOf names) (length tree)))) where
+  module _ {list : List ℕ} {count : ℕ}
+      (k : Holds list count (signs 6 (treeAt tree (countOf names) (length tree)))) where
     pub line-is : lineFrom names 0 (take count list) ≡ textAt names tree
     unfolding signs treeAt textAt text
     line-is = ap (lineFrom names 0) (k .front) ∙ line-text (names-few h) tokens

@@ -92,14 +92,14 @@ unfolding HalfKnown halfNumber
 half-small any k = omega arith
 half-small (the s) k = omega arith
 
-edge-sign : (e : Edge) → EdgeKnown e → Sign (64 + edgeNumber e)
+pub edge-small : (e : Edge) → EdgeKnown e → edgeNumber e ≤ 82
 unfolding EdgeKnown edgeNumber
-edge-sign (pair f t) k =
-    let a = half-small f (k .0) in
-    let b = half-small t (k .1) in
-    high {c = 64 + (9 * halfNumber f + halfNumber t)} (omega arith) (omega arith)
-edge-sign changes k = high (lit≤ tt) (lit≤ tt)
-edge-sign stays k = high (lit≤ tt) (lit≤ tt)
+edge-small (pair f t) k = let a = half-small f (k .0) in let b = half-small t (k .1) in omega arith
+edge-small changes k = lit≤ tt
+edge-small stays k = lit≤ tt
+
+edge-sign : (e : Edge) → EdgeKnown e → Sign (64 + edgeNumber e)
+edge-sign e k = let u = edge-small e k in high {c = 64 + edgeNumber e} (omega arith) (omega arith)
 
 -- where the list holds names
 module _ {names : List ℕ} (good : (i : ℕ) → i < length names / 32 → isName (nameAt names i) ≡ true) where

@@ -165,7 +165,8 @@ code-positive b l =
 two-flat : (l m c : ℕ) (a b : Tree) → kind c ≡ binary m → 0 < m → 0 < c
     → signs l (two (made c) a b) ≡ flat (twoParts l m c a b)
 two-flat l zero c a b k h g = absurd (omega arith)
-two-flat l (suc m) c a b k h g = fitted-two l m (made c) a b k ∙ ap (λ (n : ℕ). flat (twoParts l (suc m) n a b)) (sign-made c g)
+two-flat l (suc m) c a b k h g =
+    fitted-two l m (made c) a b k ∙ ap (λ (n : ℕ). flat (twoParts l (suc m) n a b)) (sign-made c g)
 
 module _ (t : List ℕ) (names end : ℕ) (h : Ends t names end) where
   module _ (lo : 40 ≤ getD t (end - 1) 0) (hi : getD t (end - 1) 0 < 60) where
@@ -270,7 +271,8 @@ pub one-start :
     {t : List ℕ} {names end l : ℕ} {out : List ℕ} {at : ℕ} →
     Emitting t names end l out at →
     64 ≤ getD t (end - 1) 0 →
-    Going out at (signs l (treeAt t names end)) ((getD t (end - 1) 0 ∷ []) ∷ signs 1 (treeAt t names (end - 1)) ∷ []) out at
+    Going out at (signs l (treeAt t names end))
+    ((getD t (end - 1) 0 ∷ []) ∷ signs 1 (treeAt t names (end - 1)) ∷ []) out at
 one-start {t} {names} {end} {l} h k = going-start _ (one-signs t names end (h .ends) l k) (h .room)
 
 pub leaf-room :

@@ -9,3 +9,4 @@ pub mod Spelling
 pub mod Known
 pub mod Lines
 pub mod Calls
+pub mod Theorems

@@ -95,7 +95,8 @@ signs-short = refl
 sign-short : (c : ℕ) → 32 ≤ c → c < 148 → length (signSpelled c) ≤ 32
 unfolding short-sign
 sign-short c l u =
-    let h : length (signSpelled c) < 33 = ltb-true _ 33 (all-from-law short-sign 32 116 c signs-short l (omega arith)) in
+    let h : length (signSpelled c) < 33 =
+    ltb-true _ 33 (all-from-law short-sign 32 116 c signs-short l (omega arith)) in
     omega arith
 
 spelled-short : {names : List ℕ} {t : Token} → Known names t → length (spelled names t) ≤ 32

@@ -54,27 +54,32 @@ takes rest c =
     eqb (stepOf (signSpelled c ++ rest) .code) c &&
     (eqb (stepOf (signSpelled c ++ rest) .size) (length (signSpelled c)) && ltb 0 (length (signSpelled c)))
 
-low-end : all-from (takes []) 32 22 ≡ true
-unfolding takes signSpelled literalSpelled halfByte operators marks prefixes pairSpelled stepOf nameStep basedStep plainStep firstOf starts spellings halfAt halfOf among startsName goesOnName isLetter isDecimal nameBytes
-low-end = refl
+-- the test passes for every code, whatever stands behind the blank
+tested : List ℕ → Bool
+tested rest = all-from (takes rest) 32 22 && all-from (takes rest) 60 88
 
-high-end : all-from (takes []) 60 88 ≡ true
-unfolding takes signSpelled literalSpelled halfByte operators marks prefixes pairSpelled stepOf nameStep basedStep plainStep firstOf starts spellings halfAt halfOf among startsName goesOnName isLetter isDecimal nameBytes
-high-end = refl
+tested-end : tested [] ≡ true
+unfolding tested takes signSpelled literalSpelled halfByte operators marks prefixes pairSpelled
+    stepOf nameStep basedStep plainStep firstOf starts spellings halfAt halfOf among
+    startsName goesOnName isLetter isDecimal nameBytes
+tested-end = refl
 
-low-blank : (bs : List ℕ) → all-from (takes (32 ∷ bs)) 32 22 ≡ true
-unfolding takes signSpelled literalSpelled halfByte operators marks prefixes pairSpelled stepOf nameStep basedStep plainStep firstOf starts spellings halfAt halfOf among startsName goesOnName isLetter isDecimal nameBytes
-low-blank bs = refl
+tested-blank : (bs : List ℕ) → tested (32 ∷ bs) ≡ true
+unfolding tested takes signSpelled literalSpelled halfByte operators marks prefixes pairSpelled
+    stepOf nameStep basedStep plainStep firstOf starts spellings halfAt halfOf among
+    startsName goesOnName isLetter isDecimal nameBytes
+tested-blank bs = refl
 
-high-blank : (bs : List ℕ) → all-from (takes (32 ∷ bs)) 60 88 ≡ true
-unfolding takes signSpelled literalSpelled halfByte operators marks prefixes pairSpelled stepOf nameStep basedStep plainStep firstOf starts spellings halfAt halfOf among startsName goesOnName isLetter isDecimal nameBytes
-high-blank bs = refl
+behind-tested : {rest : List ℕ} → Behind rest → tested rest ≡ true
+behind-tested end = tested-end
+behind-tested blank = tested-blank _
 
 sign-takes : {rest : List ℕ} {c : ℕ} → Behind rest → Sign c → takes rest c ≡ true
-sign-takes {c = c} end (low l u) = all-from-law (takes []) 32 22 c low-end l (omega arith)
-sign-takes {c = c} end (high l u) = all-from-law (takes []) 60 88 c high-end l (omega arith)
-sign-takes {rest} {c} blank (low l u) = all-from-law (takes rest) 32 22 c (low-blank _) l (omega arith)
-sign-takes {rest} {c} blank (high l u) = all-from-law (takes rest) 60 88 c (high-blank _) l (omega arith)
+unfolding tested
+sign-takes {rest} {c} b (low l u) =
+    all-from-law (takes rest) 32 22 c (and-left (all-from (takes rest) 32 22) _ (behind-tested b)) l (omega arith)
+sign-takes {rest} {c} b (high l u) =
+    all-from-law (takes rest) 60 88 c (and-right (all-from (takes rest) 32 22) _ (behind-tested b)) l (omega arith)
 
 pub sign-small : {c : ℕ} → Sign c → c < 148
 sign-small (low l u) = omega arith

@@ -29,7 +29,8 @@ pub copied-more : (from out : List ℕ) (at i : ℕ) → i < length from
     → set (sets out at (take i from)) (at + i) (getD from i 0) ≡ sets out at (take (i + 1) from)
 copied-more from out at i h =
     rw (add-one i, take-suc from i 0 h)
-    (ap (λ (n : ℕ). set (sets out at (take i from)) (at + n) (getD from i 0)) (sym (length-take-le i from (omega arith)))
+    (ap (λ (n : ℕ). set (sets out at (take i from)) (at + n) (getD from i 0))
+    (sym (length-take-le i from (omega arith)))
     ∙ sets-append (take i from) (getD from i 0 ∷ []) out at)
 
 -- a slot's name is its first bytes

@@ -26,6 +26,9 @@ pub record Emitting (tree : List ℕ) (names end level : ℕ) (out : List ℕ) (
   pub ends : Ends tree names end
   pub room : Room out at (signs level (treeAt tree names end))
 
+abbrev pub Emitted : List ℕ → ℕ → ℕ → ℕ → List ℕ → ℕ → List ℕ → ℕ → Type 0
+Emitted tree names end level out at out′ r = Put out at (signs level (treeAt tree names end)) out′ r
+
 -- .. of which the last byte is an operator between two operands, or of a choice
 pub record EmittingTwo (tree : List ℕ) (names end level : ℕ) (out : List ℕ) (at : ℕ) : Type 0 where
   pub whole : Emitting tree names end level out at
@@ -80,3 +83,6 @@ pub record Lining (names list : List ℕ) (count : ℕ) (out : List ℕ) : Type 
   pub there : count ≤ length list
   pub signs : (i : ℕ) → i < count → Spellable names (getD list i 0)
   pub room : Room out 0 (lineFrom names 0 (take count list))
+
+abbrev pub Lined : List ℕ → List ℕ → ℕ → List ℕ → List ℕ → ℕ → Type 0
+Lined names list count out out′ r = Put out 0 (lineFrom names 0 (take count list)) out′ r

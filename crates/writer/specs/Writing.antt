@@ -56,6 +56,9 @@ pub record Holds (list : List ℕ) (r : ℕ) (w : List ℕ) : Type 0 where
   pub front : take r list ≡ w
   pub size : r ≡ length w
 
+abbrev pub Laid : List ℕ → ℕ → List ℕ → ℕ → Type 0
+Laid tree names list r = Holds list r (signs 6 (treeAt tree names (length tree)))
+
 pub record Linable (names list : List ℕ) (count : ℕ) : Type 0 where
   pub there : count ≤ 1024
   pub signs : (i : ℕ) → i < count → Spellable names (getD list i 0)

@@ -5,8 +5,8 @@ use crate::puts::push;
 use trees::parts::start_of;
 ghost use mathlib.Core.Path.{_≡_};
 ghost use Prim.Native.Nat.{_≤_, _<_};
-ghost use Rattle.writer.specs.Signs.{signs, treeAt, codeAt, levelAt};
-ghost use Rattle.writer.specs.Inner.{Put, Emitting, EmittingTwo, EmittingThree};
+ghost use Rattle.writer.specs.Signs.{codeAt, levelAt};
+ghost use Rattle.writer.specs.Inner.{Emitting, EmittingTwo, EmittingThree, Emitted};
 
 // The token of an operator between two operands, from byte 40 on, and its level.
 const CODES: [u8; 20] = [
@@ -51,7 +51,7 @@ fn level_of(b: u8) -> u8
 // An operator between its operands.
 fn emit_two(tree: &[u8], end: usize, names: usize, level: u8, out: &mut [u8], at: usize) -> usize
     requires { ⌜ EmittingTwo (now tree) names end level (now out) at ⌝ }
-    ensures { λ r. ⌜ Put (now (out .entry)) at (signs level (treeAt (now (tree .entry)) names end)) (now (out .exit)) r ⌝ }
+    ensures { λ r. ⌜ Emitted (now (tree .entry)) names end level (now (out .entry)) at (now (out .exit)) r ⌝ }
 {
     let last = end - 1;
     let b = tree[last];
@@ -67,7 +67,7 @@ fn emit_two(tree: &[u8], end: usize, names: usize, level: u8, out: &mut [u8], at
 // A choice.
 fn emit_three(tree: &[u8], end: usize, names: usize, level: u8, out: &mut [u8], at: usize) -> usize
     requires { ⌜ EmittingThree (now tree) names end level (now out) at ⌝ }
-    ensures { λ r. ⌜ Put (now (out .entry)) at (signs level (treeAt (now (tree .entry)) names end)) (now (out .exit)) r ⌝ }
+    ensures { λ r. ⌜ Emitted (now (tree .entry)) names end level (now (out .entry)) at (now (out .exit)) r ⌝ }
 {
     let last = end - 1;
     let mid = start_of(tree, last, names);
@@ -84,7 +84,7 @@ fn emit_three(tree: &[u8], end: usize, names: usize, level: u8, out: &mut [u8], 
 // The signs of the expression that ends at `end`, where a level is asked for, from `at` on; the place behind them.
 pub fn emit(tree: &[u8], end: usize, names: usize, level: u8, out: &mut [u8], at: usize) -> usize
     requires { ⌜ Emitting (now tree) names end level (now out) at ⌝ }
-    ensures { λ r. ⌜ Put (now (out .entry)) at (signs level (treeAt (now (tree .entry)) names end)) (now (out .exit)) r ⌝ }
+    ensures { λ r. ⌜ Emitted (now (tree .entry)) names end level (now (out .entry)) at (now (out .exit)) r ⌝ }
 {
     let last = end - 1;
     let b = tree[last];

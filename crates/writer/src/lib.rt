@@ -3,9 +3,9 @@ mod layout;
 mod puts;
 mod spells;
 
-ghost use lib.ListN.{length, take};
-ghost use Rattle.writer.specs.Signs.{signs, treeAt, lineFrom};
-ghost use Rattle.writer.specs.Writing.{Writes, Named, Layable, Holds, Linable, Delivers};
+ghost use lib.ListN.{take};
+ghost use Rattle.writer.specs.Signs.{lineFrom};
+ghost use Rattle.writer.specs.Writing.{Writes, Named, Layable, Laid, Holds, Linable, Delivers};
 use alf::Outcome;
 use alf::Sort;
 use layout::emit;
@@ -18,7 +18,7 @@ use spells::put_line;
 // The signs of a whole tree; how many.
 fn lay_out(tree: &[u8], names: usize, list: &mut [u8; 1024]) -> usize
     requires { ⌜ Layable (now tree) names ⌝ }
-    ensures { λ r. ⌜ Holds (now (list .exit)) r (signs 6 (treeAt (now (tree .entry)) names (length (now (tree .entry))))) ⌝ }
+    ensures { λ r. ⌜ Laid (now (tree .entry)) names (now (list .exit)) r ⌝ }
 {
     emit(tree, tree.len(), names, 6, &mut list[..], 0)
 }

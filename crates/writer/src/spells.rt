@@ -9,8 +9,9 @@ ghost use Rattle.alf.specs.Names.{nameAt};
 ghost use Rattle.tokens.specs.Spelling.{based};
 ghost use Rattle.tokens.specs.Inner.{wordOf};
 ghost use Rattle.writer.specs.Spelled.{halfByte, literalSpelled, pairSpelled, signSpelled};
-ghost use Rattle.writer.specs.Signs.{word, markAt, gap, lineFrom};
-ghost use Rattle.writer.specs.Inner.{Put, Room, Roomy, Copying, Naming, Halving, Pairing, Wording, Marking, Lining};
+ghost use Rattle.writer.specs.Signs.{word, markAt, gap};
+ghost use Rattle.writer.specs.Inner.{Put, Room, Roomy, Copying, Naming, Halving, Pairing};
+ghost use Rattle.writer.specs.Inner.{Wording, Marking, Lining, Lined};
 
 // `? 0 1 X H L W Z U`
 const HALVES: [u8; 9] = [63, 48, 49, 88, 72, 76, 87, 90, 85];
@@ -238,7 +239,7 @@ fn put_gap(i: usize, out: &mut [u8], at: usize) -> usize
 // The text of the first `count` signs; its length.
 pub fn put_line(names: &[u8], list: &[u8], count: usize, out: &mut [u8]) -> usize
     requires { ⌜ Lining (now names) (now list) count (now out) ⌝ }
-    ensures { λ r. ⌜ Put (now (out .entry)) 0 (lineFrom (now (names .entry)) 0 (take count (now (list .entry)))) (now (out .exit)) r ⌝ }
+    ensures { λ r. ⌜ Lined (now (names .entry)) (now (list .entry)) count (now (out .entry)) (now (out .exit)) r ⌝ }
 {
     let mut at: usize = 0;
     let mut i: usize = 0;

@@ -29,4 +29,5 @@ returns-3 c =
     (c .before .before .put-bytes .ensures)
 
 pub deliver-spec : {M : Type 1} → statement M
-deliver-spec = tie.close (tie.spec refuse-requires returns refuse-requires-2 returns-2 put-bytes-requires same-length returns-3)
+deliver-spec = tie.close (tie.spec refuse-requires returns refuse-requires-2 returns-2 put-bytes-requires
+    same-length returns-3)

@@ -27,4 +27,5 @@ returns-2 : tie.Need-returns-2
 returns-2 c = search needs
 
 pub write-expression-spec : {M : Type 1} → statement M
-write-expression-spec = tie.close (tie.spec check-names-requires enum-known-checked enum-told write-tree-requires returns same-length returns-2)
+write-expression-spec = tie.close
+    (tie.spec check-names-requires enum-known-checked enum-told write-tree-requires returns same-length returns-2)

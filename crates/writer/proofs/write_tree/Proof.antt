@@ -24,8 +24,11 @@ lay-out-requires c κs =
 
 spell-out-requires : tie.Need-spell-out-requires
 spell-out-requires c κs =
-    let h = c .before .before .before .before .before .before .before .before .before .pre in
-    let a = decided-yes _ (c .before .before .before .before .before .accepts .ensures) (c .before .before .before .before .if1 .left) in
+    let c4 = c .before .before .before .before in
+    let c5 = c4 .before in
+    let c9 = c5 .before .before .before .before in
+    let h = c9 .pre in
+    let a = decided-yes _ (c5 .accepts .ensures) (c4 .if1 .left) in
     lined h a (c .before .before .lay-out .ensures)
 
 array-share-prefix-buffer : tie.Need-array-share-prefix-buffer
@@ -42,10 +45,16 @@ same-length c = search needs
 
 returns-2 : tie.Need-returns-2
 returns-2 c =
-    let h = c .before .before .before .before .before .before .before .before .before .before .before .before .before .before .before .pre in
-    let a = decided-yes _ (c .before .before .before .before .before .before .before .before .before .before .before .accepts .ensures) (c .before .before .before .before .before .before .before .before .before .before .if1 .left) in
-    wrote h a (c .before .before .before .before .before .before .before .before .lay-out .ensures) (c .before .before .before .before .before .spell-out .ensures)
+    let c5 = c .before .before .before .before .before in
+    let c8 = c5 .before .before .before in
+    let c10 = c8 .before .before in
+    let c11 = c10 .before in
+    let c15 = c11 .before .before .before .before in
+    let h = c15 .pre in
+    let a = decided-yes _ (c11 .accepts .ensures) (c10 .if1 .left) in
+    wrote h a (c8 .lay-out .ensures) (c5 .spell-out .ensures)
     (c .before .before .deliver .ensures)
 
 pub write-tree-spec : {M : Type 1} → statement M
-write-tree-spec = tie.close (tie.spec accepts-requires refuse-requires returns lay-out-requires spell-out-requires array-share-prefix-buffer slice-aggregate-deliver deliver-requires same-length returns-2)
+write-tree-spec = tie.close (tie.spec accepts-requires refuse-requires returns lay-out-requires spell-out-requires
+    array-share-prefix-buffer slice-aggregate-deliver deliver-requires same-length returns-2)

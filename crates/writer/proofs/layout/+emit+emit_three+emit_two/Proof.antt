@@ -8,7 +8,8 @@ use borrow.Fn.Kinds.{In}
 use borrow.Fn.PlainCycle.{Measures, is, falls, and}
 use Rattle.trees.proofs.Starts.{ends-pos}
 use Rattle.writer.proofs.Going.{going-room, going-on, going-end, going-length, put-length}
-use Rattle.writer.proofs.Layouts.{leaf-signs, leaf-room, one-ends, one-start, two-right, two-parts, two-start, level-bounds}
+use Rattle.writer.proofs.Layouts.{leaf-signs, leaf-room, one-ends, one-start}
+use Rattle.writer.proofs.Layouts.{two-right, two-parts, two-start, level-bounds}
 use Rattle.writer.proofs.Layouts.{three-right, three-middle, three-parts, three-start}
 use Rattle.writer.proofs.layout.emit.Reads as emit
 use Rattle.writer.proofs.layout.emit.Kinds as emit-kinds
@@ -372,7 +373,8 @@ pub +emit+emit-three+emit-two-spec : {M : Type 1} → statement M
       record { ends = two-parts _ _ _ (h .whole .ends) (h .low) (h .high) 6 s .left; room = going-room g1 },
     ))
     (λ c κs.
-    let c27 = c .before .before .before .before .before .before .before .before .before .before .before .before .before .before in
+    let c27 = c .before .before .before .before .before .before .before
+    .before .before .before .before .before .before .before in
     let h = c27 .pre .1 in
     (h .low, h .high))
     (λ c κs.
@@ -387,7 +389,8 @@ pub +emit+emit-three+emit-two-spec : {M : Type 1} → statement M
     let g2 = going-on g1 (c16 .emit .ensures) in
     let k = going-room g2 in omega arith)
     (λ c.
-    let c23 = c .before .before .before .before .before .before .before .before .before .before .before .before .before .before in
+    let c23 = c .before .before .before .before .before .before .before
+    .before .before .before .before .before .before .before in
     let c27 = c23 .before .before .before .before in
     let h = c27 .pre .1 in
     omega (arith, c23 .level-of .ensures, level-bounds _ (h .low) (h .high)))

@@ -21,9 +21,12 @@ same-length c = search needs
 
 returns : tie.Need-returns
 returns c =
-    let g = going-start ((39 ∷ []) ∷ (98 ∷ []) ∷ (halfByte (c .before .before .before .before .before .before .before .before .before .before .before .before .before .args .h) ∷ []) ∷ []) refl (c .before .before .before .before .before .before .before .before .before .before .before .before .before .pre .room) in
-    let g1 = going-on g (c .before .before .before .before .before .before .before .before .before .before .push .ensures) in
-    let g2 = going-on g1 (c .before .before .before .before .before .before .push2 .ensures) in
+    let c6 = c .before .before .before .before .before .before in
+    let c10 = c6 .before .before .before .before in
+    let c13 = c10 .before .before .before in
+    let g = going-start ((39 ∷ []) ∷ (98 ∷ []) ∷ (halfByte (c13 .args .h) ∷ []) ∷ []) refl (c13 .pre .room) in
+    let g1 = going-on g (c10 .push .ensures) in
+    let g2 = going-on g1 (c6 .push2 .ensures) in
     let g3 = going-on g2 (c .before .before .put-half .ensures) in
     going-end g3
 

@@ -49,4 +49,5 @@ returns c =
     rw e at (c .before .loop .inv .1)
 
 pub put-bytes-spec : {M : Type 1} → statement M
-put-bytes-spec = tie.close (tie.spec Inv-loop μ-loop loop-holds shared-slice-read-out add-out slice-write-out add-i loop-less loop-again add-result same-length returns)
+put-bytes-spec = tie.close (tie.spec Inv-loop μ-loop loop-holds shared-slice-read-out add-out slice-write-out
+    add-i loop-less loop-again add-result same-length returns)

@@ -14,7 +14,9 @@ same-length : tie.Need-same-length
 same-length c = search needs
 
 returns : tie.Need-returns
-returns c = rw (← half-table _ (c .before .before .before .before .before .pre .known)) (c .before .before .push .ensures)
+returns c =
+    let c5 = c .before .before .before .before .before in
+    rw (← half-table _ (c5 .pre .known)) (c .before .before .push .ensures)
 
 pub put-half-spec : {M : Type 1} → statement M
 put-half-spec = tie.close (tie.spec array-read-push push-requires same-length returns)

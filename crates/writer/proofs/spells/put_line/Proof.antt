@@ -1,4 +1,5 @@
--- `put_line` meets its contract. The invariant: of the line the words of the first i signs are written. Assumes nothing.
+-- `put_line` meets its contract. The invariant: of the line the words of the first i signs are written.
+-- Assumes nothing.
 use borrow.Author.Needs.{needs}
 use Rattle.writer.proofs.Spelling.{line-going, line-done, line-start}
 use Rattle.writer.proofs.Going.{going-room, going-on, going-end, going-length}
@@ -24,8 +25,9 @@ loop-holds c = (omega arith, line-start (c .before .before .before .pre))
 
 put-gap-requires : tie.Need-put-gap-requires Inv-loop μ-loop
 put-gap-requires c κs =
+    let c6 = c .before .before .before .before .before .before in
     let v = c .before .before .loop .inv in
-    let g = line-going _ _ _ _ (c .before .before .before .before .before .before .pre .there) (c .before .loop-test .taken) (v .1) in
+    let g = line-going _ _ _ _ (c6 .pre .there) (c .before .loop-test .taken) (v .1) in
     going-room g
 
 shared-slice-read-put-word : tie.Need-shared-slice-read-put-word Inv-loop μ-loop
@@ -33,10 +35,14 @@ shared-slice-read-put-word c = omega arith
 
 put-word-requires : tie.Need-put-word-requires Inv-loop μ-loop
 put-word-requires c κs =
-    let v = c .before .before .before .before .before .before .before .loop .inv in
-    let g = line-going _ _ _ _ (c .before .before .before .before .before .before .before .before .before .before .before .pre .there) (c .before .before .before .before .before .before .loop-test .taken) (v .1) in
-    let g1 = going-on g (c .before .before .before .before .put-gap .ensures) in
-    record { sign = c .before .before .before .before .before .before .before .before .before .before .before .pre .signs _ (c .before .before .before .before .before .before .loop-test .taken); room = going-room g1 }
+    let c4 = c .before .before .before .before in
+    let c6 = c4 .before .before in
+    let c7 = c6 .before in
+    let c11 = c7 .before .before .before .before in
+    let v = c7 .loop .inv in
+    let g = line-going _ _ _ _ (c11 .pre .there) (c6 .loop-test .taken) (v .1) in
+    let g1 = going-on g (c4 .put-gap .ensures) in
+    record { sign = c11 .pre .signs _ (c6 .loop-test .taken); room = going-room g1 }
 
 add-i : tie.Need-add-i Inv-loop μ-loop
 add-i c = omega arith
@@ -46,9 +52,13 @@ loop-less c = omega arith
 
 loop-again : tie.Need-loop-again Inv-loop μ-loop
 loop-again c =
-    let v = c .before .before .before .before .before .before .before .before .before .before .loop .inv in
-    let g = line-going _ _ _ _ (c .before .before .before .before .before .before .before .before .before .before .before .before .before .before .pre .there) (c .before .before .before .before .before .before .before .before .before .loop-test .taken) (v .1) in
-    let g1 = going-on g (c .before .before .before .before .before .before .before .put-gap .ensures) in
+    let c7 = c .before .before .before .before .before .before .before in
+    let c9 = c7 .before .before in
+    let c10 = c9 .before in
+    let c14 = c10 .before .before .before .before in
+    let v = c10 .loop .inv in
+    let g = line-going _ _ _ _ (c14 .pre .there) (c9 .loop-test .taken) (v .1) in
+    let g1 = going-on g (c7 .put-gap .ensures) in
     let g2 = going-on g1 (c .before .before .put-word .ensures) in
     (omega arith, g2)
 
@@ -57,7 +67,9 @@ same-length c = going-length (c .before .loop .inv .1)
 
 returns : tie.Need-returns Inv-loop μ-loop
 returns c =
-    line-done _ _ _ _ (c .before .before .before .before .before .pre .there) (c .loop-test .left) (c .before .loop .inv .1)
+    let c5 = c .before .before .before .before .before in
+    line-done _ _ _ _ (c5 .pre .there) (c .loop-test .left) (c .before .loop .inv .1)
 
 pub put-line-spec : {M : Type 1} → statement M
-put-line-spec = tie.close (tie.spec Inv-loop μ-loop loop-holds put-gap-requires shared-slice-read-put-word put-word-requires add-i loop-less loop-again same-length returns)
+put-line-spec = tie.close (tie.spec Inv-loop μ-loop loop-holds put-gap-requires shared-slice-read-put-word
+    put-word-requires add-i loop-less loop-again same-length returns)

@@ -11,7 +11,9 @@ same-length : tie.Need-same-length
 same-length c = search needs
 
 returns : tie.Need-returns
-returns c = rw (literal-plain _ (c .before .before .before .before .if1 .taken)) (c .before .before .put-half .ensures)
+returns c =
+    let c4 = c .before .before .before .before in
+    rw (literal-plain _ (c4 .if1 .taken)) (c .before .before .put-half .ensures)
 
 put-based-requires : tie.Need-put-based-requires
 put-based-requires c κs = literal-base (c .before .before .before .pre) (c .before .if1 .left)
@@ -20,7 +22,10 @@ same-length-2 : tie.Need-same-length-2
 same-length-2 c = search needs
 
 returns-2 : tie.Need-returns-2
-returns-2 c = rw (literal-based _ (c .before .before .before .before .if1 .left)) (c .before .before .put-based .ensures)
+returns-2 c =
+    let c4 = c .before .before .before .before in
+    rw (literal-based _ (c4 .if1 .left)) (c .before .before .put-based .ensures)
 
 pub put-literal-spec : {M : Type 1} → statement M
-put-literal-spec = tie.close (tie.spec put-half-requires same-length returns put-based-requires same-length-2 returns-2)
+put-literal-spec = tie.close (tie.spec put-half-requires same-length returns put-based-requires same-length-2
+    returns-2)

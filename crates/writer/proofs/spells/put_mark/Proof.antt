@@ -34,8 +34,11 @@ same-length c = search needs
 
 returns : tie.Need-returns
 returns c =
-    put-as (mark-word (c .before .before .before .before .before .before .pre) (c .before .before .before .before .mark-of .ensures))
+    let c4 = c .before .before .before .before in
+    let c6 = c4 .before .before in
+    put-as (mark-word (c6 .pre) (c4 .mark-of .ensures))
     (c .before .before .put-three .ensures)
 
 pub put-mark-spec : {M : Type 1} → statement M
-put-mark-spec = tie.close (tie.spec mark-of-requires mul-k array-read-x add-y array-read-y add-z array-read-z put-three-requires same-length returns)
+put-mark-spec = tie.close (tie.spec mark-of-requires mul-k array-read-x add-y array-read-y add-z array-read-z
+    put-three-requires same-length returns)

@@ -33,14 +33,18 @@ part-put-bytes-end : tie.Need-part-put-bytes-end
 part-put-bytes-end c = search needs
 
 put-bytes-requires : tie.Need-put-bytes-requires
-put-bytes-requires c κs = name-copied _ _ (c .before .before .before .before .before .before .pre) (c .before .before .name-len .ensures)
+put-bytes-requires c κs =
+    let c6 = c .before .before .before .before .before .before in
+    name-copied _ _ (c6 .pre) (c .before .before .name-len .ensures)
 
 same-length : tie.Need-same-length
 same-length c = search needs
 
 returns : tie.Need-returns
 returns c =
-    put-as (slot-name _ _ (c .before .before .before .before .before .name-len .ensures)) (c .before .before .put-bytes .ensures)
+    let c5 = c .before .before .before .before .before in
+    put-as (slot-name _ _ (c5 .name-len .ensures)) (c .before .before .put-bytes .ensures)
 
 pub put-name-spec : {M : Type 1} → statement M
-put-name-spec = tie.close (tie.spec mul-from add-to sub-name-len part-name-len-start part-name-len-end name-len-requires sub-put-bytes part-put-bytes-start part-put-bytes-end put-bytes-requires same-length returns)
+put-name-spec = tie.close (tie.spec mul-from add-to sub-name-len part-name-len-start part-name-len-end
+    name-len-requires sub-put-bytes part-put-bytes-start part-put-bytes-end put-bytes-requires same-length returns)

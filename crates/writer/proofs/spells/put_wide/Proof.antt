@@ -19,8 +19,10 @@ same-length c = search needs
 
 returns : tie.Need-returns
 returns c =
-    let g = going-start (based (halfByte (c .before .before .before .before .before .before .before .before .before .args .f)) ∷ based (halfByte (c .before .before .before .before .before .before .before .before .before .args .t)) ∷ []) refl (c .before .before .before .before .before .before .before .before .before .pre .room) in
-    let g1 = going-on g (c .before .before .before .before .before .before .put-based .ensures) in
+    let c6 = c .before .before .before .before .before .before in
+    let c9 = c6 .before .before .before in
+    let g = going-start (based (halfByte (c9 .args .f)) ∷ based (halfByte (c9 .args .t)) ∷ []) refl (c9 .pre .room) in
+    let g1 = going-on g (c6 .put-based .ensures) in
     let g2 = going-on g1 (c .before .before .put-based2 .ensures) in
     going-end g2
 
