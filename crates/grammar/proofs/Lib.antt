@@ -12,16 +12,16 @@ pub mod Depth
 pub mod Examples
 pub mod Codes
 pub mod Nodes
-mod Fitting
-mod Shunting
-mod Counting
-mod Goes
-mod Refusals
-mod Ranks
-mod Levels
-mod Ranges
-mod Lists
-mod Steps
-mod Runs
-mod Padding
-mod Finish
+pub mod Fitting
+pub mod Shunting
+pub mod Counting
+pub mod Goes
+pub mod Refusals
+pub mod Ranks
+pub mod Levels
+pub mod Ranges
+pub mod Lists
+pub mod Steps
+pub mod Runs
+pub mod Padding
+pub mod Finish

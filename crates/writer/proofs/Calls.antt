@@ -1,0 +1,229 @@
+-- What the call and its parts are proved by.
+-- Main names: held, delivered-long, delivered-short, delivered, refused-names, refused-tree, laid, lined, wrote.
+-- Assumes nothing.
+use Prim.Native.Nat.{ℕ, zero, suc, _+_, _*_, _/_, _<_, _≤_}
+use native.Mathlib.Omega.{arith}
+use mathlib.Core.Path.{_≡_, refl, sym, ap, _∙_, subst}
+use mathlib.Core.Bool.{Bool, true, false, not}
+use mathlib.Core.Logic.{_⊎_, inl, inr}
+use mathlib.Core.List.{List, [], _∷_, _++_, map}
+use lib.Dec.{leb}
+use lib.ListN.{length, getD, take, drop, length-map, length-take}
+use borrow.Author.Tests.{leb-true, leb-false}
+use lib.Seq.{sets, sets-eq, take-at, take-length, getD-take}
+use Rattle.alf.specs.declared.Sort.{Sort}
+use Rattle.alf.specs.declared.Refusal.{Refusal}
+use Rattle.alf.specs.declared.Outcome.{Outcome}
+use Rattle.alf.specs.declared.Outcome.the-variants.{Done, Refused}
+use Rattle.alf.specs.Names.{isName, nameAt}
+use Rattle.alf.specs.Expressions.{Expression, ExpressionOver}
+use Rattle.alf.specs.Bytes.{bytesOf, Decodes}
+use Rattle.alf.proofs.Bools.{never}
+use Rattle.alf.proofs.Decoding.{bytes-decode, decode-over}
+use Rattle.alf.specs.Refusals.{At, First, RefusedWith, Passed, Comes}
+use Rattle.grammar.specs.Written.{written}
+use Rattle.trees.specs.Parts.{Ends, isWhole, top, expressionAt}
+use Rattle.names.specs.Check.{namesOrder}
+use Rattle.limits.specs.Accepted.{Accepted, Decides}
+use Rattle.writer.specs.Trees.{treeOf}
+use Rattle.writer.specs.Spelled.{text}
+use Rattle.writer.specs.Signs.{sign, signs, treeAt, lineFrom}
+use Rattle.writer.specs.Inner.{Put, Room, Spellable}
+use Rattle.writer.specs.Writing.{countOf, textAt, order, after, Writes, Named, Layable, Holds, Linable}
+use Rattle.writer.specs.Writing.{endOrder, Delivers}
+use Rattle.writer.proofs.Reading.{AllKnown}
+use Rattle.writer.proofs.Known.{written-known, tree-known, written-short, nodes-bytes}
+use Rattle.writer.proofs.Lines.{line-text, text-short, signs-spellable}
+
+-- what is written at the front stands there
+pub held : {out w out′ : List ℕ} {r : ℕ} → Put out 0 w out′ r → Room out 0 w → Holds out′ r w
+held {out} {w} {r = r} p h =
+    let e : _≡_ {A = ℕ} (0 + length w) (length w) = omega arith in
+    record {
+      front =
+          ap (take r) (p .bytes ∙ sets-eq w out 0 h)
+          ∙ take-at w (drop (0 + length w) out) r (sym (p .next ∙ e));
+      size = p .next ∙ e;
+    }
+
+pub holds-count : {list w : List ℕ} {r : ℕ} → Holds list r w → r ≡ length (take r list)
+holds-count h = h .size ∙ sym (ap length (h .front))
+
+pub holds-within : {list w : List ℕ} {r : ℕ} → Holds list r w → r ≤ length list
+holds-within {list} {r = r} h = omega (arith, holds-count h, length-take r list)
+
+-- 1, 9, or the text at the front
+pub delivered-long : {w out : List ℕ} → 4096 < length w
+    → Delivers w out out (Refused (record { number = 1; place = 4096 }))
+unfolding Comes RefusedWith endOrder after
+delivered-long h = record { outcome = inl (refl, record { given = h; there = refl }); memory = refl }
+
+pub delivered-short : {w out : List ℕ} → length w ≤ 4096 → length out < length w
+    → Delivers w out out (Refused (record { number = 9; place = length w }))
+unfolding Comes RefusedWith endOrder after
+delivered-short h k =
+    record {
+      outcome = inr ((λ p r. omega (arith, r .given)), inl (refl, record { given = k; there = refl }));
+      memory = refl;
+    }
+
+pub delivered : {w out out′ : List ℕ} {r : ℕ} → length w ≤ 4096 → length w ≤ length out
+    → Put out 0 (take (length w) w) out′ r → Delivers w out out′ (Done (length w))
+unfolding Comes Passed endOrder after
+delivered {w} {out} h k p =
+    let e : _≡_ {A = ℕ} (0 + length w) (length w) = omega arith in
+    let z : 0 + length w ≤ length out = omega arith in
+    record {
+      outcome = (((λ p r. omega (arith, r .given)), ((λ p r. omega (arith, r .given)), tt)), refl);
+      memory =
+          p .bytes ∙ ap (sets out 0) (take-length w) ∙ sets-eq w out 0 z ∙ ap (λ (n : ℕ). w ++ drop n out) e;
+    }
+
+-- what checked names are: at most 32, and names
+never-first : (so : ℕ → Type 0) → ((p : ℕ) → First so p → ⊥) → (n k : ℕ) → k < n → so k → ⊥
+never-first so f zero k h s = omega arith
+never-first so f (suc n) k h s =
+    f k (record { given = s; before = λ i l t. never-first so f n i (omega arith) t })
+
+module _ {names : List ℕ} (h : Named names) where
+  pub names-few : length names / 32 ≤ 32
+  unfolding Passed
+  names-few = go (leb (length names / 32) 32) refl
+    where
+      go : (b : Bool) → leb (length names / 32) 32 ≡ b → length names / 32 ≤ 32
+      go true e = leb-true _ 32 e
+      go false e =
+          let k : 32 < length names / 32 = leb-false _ 32 e in
+          absurd (h .passed .0 0 (record { given = λ s. omega (arith, s .few); there = refl }))
+
+  pub names-named : (i : ℕ) → i < length names / 32 → isName (nameAt names i) ≡ true
+  unfolding Passed
+  names-named i l = go (isName (nameAt names i)) refl
+    where
+      go : (b : Bool) → isName (nameAt names i) ≡ b → isName (nameAt names i) ≡ true
+      go true e = e
+      go false e = absurd (never-first _ (h .passed .1 .0) (suc i) i (omega arith) (l, λ g. never (sym e ∙ g .named)))
+
+-- the call's order: the names, 10, and the end
+abbrev done : List ℕ → List ℕ → ℕ → Type 0
+done names tree k = k ≡ length (textAt names tree)
+
+module _ (names tree : List ℕ) (sort : Sort) (room : ℕ) where
+  names-refused : (n p : ℕ) → RefusedWith (namesOrder names) n p → RefusedWith (order names tree sort room) n p
+  unfolding RefusedWith order
+  names-refused n p (inl x) = inl x
+  names-refused n p (inr (m, inl x)) = inr (m, inl x)
+  names-refused n p (inr (m, inr (l, x))) = absurd x
+
+  comes-names : (made : ℕ → Type 0) (r : Refusal) → Comes (namesOrder names) made (Refused r)
+      → Comes (order names tree sort room) (done names tree) (Refused r)
+  unfolding Comes
+  comes-names made r x = names-refused (r .number) (r .place) x
+
+  comes-ten : Named names → (Accepted (countOf names) sort tree → ⊥)
+      → Comes (order names tree sort room) (done names tree) (Refused (record { number = 10; place = 0 }))
+  unfolding Comes RefusedWith Passed order
+  comes-ten h f = inr (h .passed .0, inr (h .passed .1 .0, inl (refl, record { given = f; there = refl })))
+
+  comes-end : Named names → Accepted (countOf names) sort tree → (r : Outcome)
+      → Comes (endOrder (textAt names tree) room) (done names tree) r
+      → Comes (order names tree sort room) (done names tree) r
+  unfolding Comes RefusedWith Passed order endOrder
+  comes-end h a (Done k) x = ((h .passed .0, (h .passed .1 .0, ((λ p y. y .given a), x .0))), x .1)
+  comes-end h a (Refused q) x = inr (h .passed .0, inr (h .passed .1 .0, inr ((λ p y. y .given a), x)))
+
+-- refused before the text is made
+pub refused-names : {names tree : List ℕ} {sort : Sort} {out : List ℕ} (made : ℕ → Type 0) {r : Refusal} {o : Outcome}
+    → Comes (namesOrder names) made o → o ≡ Refused r → Writes names tree sort out out (Refused r)
+unfolding after
+refused-names {names} {tree} {sort} {out} made {r} x e =
+    record { outcome = comes-names names tree sort (length out) made r (rw e at x); memory = refl }
+
+pub refused-tree : {names tree : List ℕ} {sort : Sort} {out : List ℕ} {o : Outcome}
+    → Named names → (Accepted (countOf names) sort tree → ⊥) → o ≡ Refused (record { number = 10; place = 0 })
+    → Writes names tree sort out out o
+unfolding after
+refused-tree {names} {tree} {sort} {out} h f e =
+    rw e (record { outcome = comes-ten names tree sort (length out) h f; memory = refl })
+
+pub names-passed : {names : List ℕ} (made : ℕ → Type 0) {k : ℕ} {o : Outcome} → Comes (namesOrder names) made o
+    → o ≡ Done k → Named names
+unfolding Comes
+names-passed made x e = record { passed = (rw e at x) .0 }
+
+-- what a test says
+pub decided-no : {P : Type 0} (b : Bool) → Decides b P → not b ≡ true → P → ⊥
+unfolding Decides
+decided-no true d e = never e
+decided-no false d e = d
+
+pub decided-yes : {P : Type 0} (b : Bool) → Decides b P → not b ≡ false → P
+unfolding Decides
+decided-yes true d e = d
+decided-yes false d e = never (sym e)
+
+-- the expression that an accepted tree is
+decoded : (n : ℕ) (tree : List ℕ) (e : Expression) → Decodes n tree e → expressionAt tree n (length tree) ≡ e
+unfolding Decodes top
+decoded n tree e h = ap top h
+
+module _ {names tree : List ℕ} {sort : Sort} (h : Named names) (a : Accepted (countOf names) sort tree) where
+  abbrev e : Expression
+  e = expressionAt tree (countOf names) (length tree)
+
+  over : ExpressionOver (countOf names) e
+  over =
+      rw (decoded (countOf names) tree (a .expression) (a .decodes))
+      (decode-over (countOf names) tree (a .expression) (a .decodes))
+
+  bytes : length (bytesOf e) ≡ length tree
+  bytes =
+      rw (decoded (countOf names) tree (a .expression) (a .decodes))
+      (ap length (bytes-decode (countOf names) tree (a .expression) (a .decodes)))
+
+  tokens : AllKnown names (written 6 (treeOf e))
+  tokens = written-known 6 (tree-known (names-named h) e over)
+
+  few : length (written 6 (treeOf e)) ≤ 1024
+  few = omega (arith, written-short (treeOf e) 6, nodes-bytes e, bytes, a .tokens)
+
+  ends : Ends tree (countOf names) (length tree)
+  unfolding Decodes isWhole
+  ends = record { within = omega arith; whole = rw (a .decodes) refl }
+
+  pub laid : Layable tree (countOf names)
+  unfolding signs treeAt
+  laid = record { ends = ends; few = rw length-map few }
+
+  module _ {list : List ℕ} {count : ℕ}
+      (k : Holds list count (signs 6 (treeAt tree (countOf names) (length tree)))) where
+    pub line-is : lineFrom names 0 (take count list) ≡ textAt names tree
+    unfolding signs treeAt textAt text
+    line-is = ap (lineFrom names 0) (k .front) ∙ line-text (names-few h) tokens
+
+    counted : count ≡ length (written 6 (treeOf e))
+    unfolding signs treeAt
+    counted = k .size ∙ length-map (written 6 (treeOf e)) sign
+
+    spellable : (i : ℕ) → i < count → Spellable names (getD list i 0)
+    unfolding signs treeAt
+    spellable i l =
+        rw (sym (getD-take count list i 0 l) ∙ ap (λ (x : List ℕ). getD x i 0) (k .front))
+        (signs-spellable (names-few h) tokens i (omega (arith, k .size)))
+
+    short : length (textAt names tree) ≤ 33792
+    unfolding textAt text
+    short = omega (arith, text-short tokens, few)
+
+    pub lined : Linable names list count
+    lined = record { there = omega (arith, counted, few); signs = spellable; short = rw line-is short }
+
+    -- the text is made
+    pub wrote :
+        {buffer out out′ : List ℕ} {size : ℕ} {r : Outcome} →
+        Holds buffer size (lineFrom names 0 (take count list)) →
+        Delivers (take size buffer) out out′ r →
+        Writes names tree sort out out′ r
+    wrote {out = out} {r = r} m d =
+        let g = rw (m .front ∙ line-is) at d in
+        record { outcome = comes-end names tree sort (length out) h a r (g .outcome); memory = g .memory }

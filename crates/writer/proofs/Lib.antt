@@ -1,0 +1,12 @@
+-- The laws of written texts.
+pub mod Signs
+pub mod Words
+pub mod Reading
+pub mod Going
+pub mod Nodes
+pub mod Layouts
+pub mod Spelling
+pub mod Known
+pub mod Lines
+pub mod Calls
+pub mod Theorems

@@ -1,0 +1,23 @@
+-- `close` writes the bracket that is needed, or none. Assumes nothing.
+use borrow.Author.Needs.{needs}
+use native.Mathlib.Omega.{arith}
+use mathlib.Core.Path.{refl, ap}
+use lib.ListN.{length}
+use Rattle.writer.proofs.Layouts.{closer-none, closer-some}
+use Rattle.writer.proofs.puts.close.Statement.{statement}
+use Rattle.writer.proofs.puts.close.Tie as tie
+
+returns : tie.Need-returns
+returns c = rw (closer-none (c .if1 .taken)) (record { bytes = refl; next = omega arith })
+
+push-requires : tie.Need-push-requires
+push-requires c κs = omega (arith, ap length (closer-some (c .before .if1 .left)))
+
+same-length : tie.Need-same-length
+same-length c = search needs
+
+returns-2 : tie.Need-returns-2
+returns-2 c = rw (closer-some (c .before .before .before .before .if1 .left)) (c .before .before .push .ensures)
+
+pub close-spec : {M : Type 1} → statement M
+close-spec = tie.close (tie.spec returns push-requires same-length returns-2)

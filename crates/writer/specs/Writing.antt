@@ -1,0 +1,73 @@
+-- Document 01, "Writing" and rows 18, 12, 10, 1, 9 of "Numbers for refused work": what `write_expression` comes to.
+-- Row 10 is limits' `Accepted` here; that it holds exactly for what some text gives is shown in proofs/Exactness.antt.
+use Prim.Native.Nat.{ℕ, _/_, _≤_, _<_}
+use mathlib.Core.Path.{_≡_}
+use mathlib.Core.List.{List, [], _∷_, _++_}
+use lib.ListN.{length, drop, take, getD}
+use Rattle.alf.specs.declared.Sort.{Sort}
+use Rattle.alf.specs.declared.Outcome.{Outcome}
+use Rattle.alf.specs.declared.Outcome.the-variants.{Done, Refused}
+use Rattle.alf.specs.Refusals.{Order, check, bad-lists, bad-slot, cannot-be, too-long, no-room}
+use Rattle.alf.specs.Refusals.{Passed, Comes}
+use Rattle.names.specs.Check.{Slots, namesOrder}
+use Rattle.trees.specs.Parts.{Ends, expressionAt}
+use Rattle.limits.specs.Accepted.{Accepted}
+use Rattle.writer.specs.Spelled.{text}
+use Rattle.writer.specs.Signs.{signs, treeAt, lineFrom}
+use Rattle.writer.specs.Inner.{Spellable}
+
+abbrev pub countOf : List ℕ → ℕ
+countOf names = length names / 32
+
+-- the text of the expression that a tree is
+unfoldable pub textAt : List ℕ → List ℕ → List ℕ
+textAt names tree = text names (expressionAt tree (countOf names) (length tree))
+
+-- 18, 12, 10, 1, 9
+unfoldable pub order : List ℕ → List ℕ → Sort → ℕ → Order
+order names tree sort room =
+    check 18 (bad-lists (Slots names)) ∷
+    check 12 (bad-slot names) ∷
+    check 10 (cannot-be (Accepted (countOf names) sort tree → ⊥)) ∷
+    check 1 (too-long (length (textAt names tree))) ∷
+    check 9 (no-room (length (textAt names tree)) room) ∷
+    []
+
+-- the buffer afterwards: the text is at its front, and past the text it is as before; refused, all of it is as before
+unfoldable pub after : List ℕ → List ℕ → Outcome → List ℕ
+after w out (Done k) = w ++ drop (length w) out
+after w out (Refused r) = out
+
+pub record Writes (names tree : List ℕ) (sort : Sort) (out out′ : List ℕ) (r : Outcome) : Type 0 where
+  pub outcome : Comes (order names tree sort (length out)) (λ k. k ≡ length (textAt names tree)) r
+  pub memory : out′ ≡ after (textAt names tree) out r
+
+-- What the functions inside ask and give. The names are checked.
+pub record Named (names : List ℕ) : Type 0 where
+  pub passed : Passed (namesOrder names)
+
+-- a whole tree whose signs have room
+pub record Layable (tree : List ℕ) (names : ℕ) : Type 0 where
+  pub ends : Ends tree names (length tree)
+  pub few : length (signs 6 (treeAt tree names (length tree))) ≤ 1024
+
+-- the first r entries of a list are these
+pub record Holds (list : List ℕ) (r : ℕ) (w : List ℕ) : Type 0 where
+  pub front : take r list ≡ w
+  pub size : r ≡ length w
+
+abbrev pub Laid : List ℕ → ℕ → List ℕ → ℕ → Type 0
+Laid tree names list r = Holds list r (signs 6 (treeAt tree names (length tree)))
+
+pub record Linable (names list : List ℕ) (count : ℕ) : Type 0 where
+  pub there : count ≤ 1024
+  pub signs : (i : ℕ) → i < count → Spellable names (getD list i 0)
+  pub short : length (lineFrom names 0 (take count list)) ≤ 33792
+
+-- the end of the call, where the text is made: 1, 9, or done
+unfoldable pub endOrder : List ℕ → ℕ → Order
+endOrder w room = check 1 (too-long (length w)) ∷ check 9 (no-room (length w) room) ∷ []
+
+pub record Delivers (w out out′ : List ℕ) (r : Outcome) : Type 0 where
+  pub outcome : Comes (endOrder w (length out)) (λ k. k ≡ length w) r
+  pub memory : out′ ≡ after w out r
