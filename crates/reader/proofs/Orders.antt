@@ -5,7 +5,7 @@ use mathlib.Core.List.{List, [], _∷_, _++_}
 use mathlib.Core.Logic.{_⊎_, inl, inr}
 use Prim.Native.Nat.{ℕ}
 use Rattle.alf.specs.Refusals.{Order, RefusedWith, Passed}
-use Rattle.alf.proofs.Outcomes.{Fixed}
+use Rattle.alf.proofs.Outcomes.{AllFixed}
 
 pub refused-first : (o o′ : Order) (n p : ℕ) → RefusedWith o n p → RefusedWith (o ++ o′) n p
 unfolding RefusedWith
@@ -23,7 +23,7 @@ unfolding Passed
 passed-both [] o′ h k = k
 passed-both (c ∷ o) o′ h k = (h .0, passed-both o o′ (h .1) k)
 
-pub fixed-both : (o o′ : Order) → Fixed o → Fixed o′ → Fixed (o ++ o′)
+pub fixed-both : (o o′ : Order) → AllFixed o → AllFixed o′ → AllFixed (o ++ o′)
 fixed-both [] o′ h k = k
 fixed-both (c ∷ o) o′ h k = (h .0, fixed-both o o′ (h .1) k)
 

@@ -14,7 +14,7 @@ use Rattle.alf.specs.declared.Sort.{Sort}
 use Rattle.alf.specs.Expressions.{Expression, boolean, vector}
 use Rattle.alf.specs.Refusals.{Row, Passed, First}
 use Rattle.alf.proofs.Bools.{never}
-use Rattle.alf.proofs.Outcomes.{Fixes, Fixed, at-fixes, first-fixes, first-of-fixes, refused-not-passed, refused-unique}
+use Rattle.alf.proofs.Outcomes.{Fixed, AllFixed, at-fixed, first-fixed, first-of-fixed, refused-passed, refused-unique}
 use Rattle.names.specs.Check.{namesOrder}
 use Rattle.tokens.specs.Texts.{Token, Reads, OfTokens, deep, many, order}
 use Rattle.tokens.proofs.TextLaws.{reads-unique, reads-not-stuck}
@@ -31,8 +31,8 @@ use Rattle.reader.proofs.Readings.{read-clear}
 use Rattle.reader.proofs.Whole.{text-short}
 
 -- each row fixes its place
-of-tokens-fixes : (text : List ℕ) (row : List Token → Row) → ((ts : List Token) → Fixes (row ts))
-    → Fixes (OfTokens text row)
+of-tokens-fixes : (text : List ℕ) (row : List Token → Row) → ((ts : List Token) → Fixed (row ts))
+    → Fixed (OfTokens text row)
 of-tokens-fixes text row f p q a b =
     f (a .tokens) p q (a .holds) (rw (reads-unique (a .read) (b .read)) (b .holds))
 
@@ -40,44 +40,44 @@ same-tree : {text : List ℕ} {row row′ : Tree → Row} {p q : ℕ} (a : OfTre
     → b .tree ≡ a .tree
 same-tree a b = parses-unique (rw (reads-unique (b .read) (a .read)) at (b .whole)) (a .whole)
 
-of-tree-fixes : (text : List ℕ) (row : Tree → Row) → ((e : Tree) → Fixes (row e)) → Fixes (OfTree text row)
+of-tree-fixes : (text : List ℕ) (row : Tree → Row) → ((e : Tree) → Fixed (row e)) → Fixed (OfTree text row)
 of-tree-fixes text row f p q a b = f (a .tree) p q (a .holds) (rw (same-tree a b) at (b .holds))
 
-large-fixes : (q : Sorted) → Fixes (tooLarge q)
+large-fixes : (q : Sorted) → Fixed (tooLarge q)
 unfolding tooLarge
 large-fixes (is (boolean c)) p r a b = absurd a
-large-fixes (is (vector v)) p r a b = at-fixes _ _ p r a b
+large-fixes (is (vector v)) p r a b = at-fixed _ _ p r a b
 large-fixes (faulty s) p r a b = absurd a
 
-text-fixed : (text : List ℕ) → Fixed (order text)
+text-fixed : (text : List ℕ) → AllFixed (order text)
 unfolding order
 text-fixed text = (
-  at-fixes _ _,
+  at-fixed _ _,
   (
-    first-fixes _,
+    first-fixed _,
     (
-      of-tokens-fixes text deep (λ ts. first-fixes _),
-      (of-tokens-fixes text many (λ ts. first-fixes _), tt),
+      of-tokens-fixes text deep (λ ts. first-fixed _),
+      (of-tokens-fixes text many (λ ts. first-fixed _), tt),
     ),
   ),
 )
 
-tree-fixed : (names text : List ℕ) (sort : Sort) → Fixed (treeOrder names text sort)
+tree-fixed : (names text : List ℕ) (sort : Sort) → AllFixed (treeOrder names text sort)
 unfolding treeOrder
 tree-fixed names text sort = (
-  of-tokens-fixes text (stuck text) (λ ts. first-fixes _),
+  of-tokens-fixes text (stuck text) (λ ts. first-fixed _),
   (
-    of-tokens-fixes text (unknown names text) (λ ts. first-fixes _),
+    of-tokens-fixes text (unknown names text) (λ ts. first-fixed _),
     (
-      of-tree-fixes text _ (λ e. first-of-fixes _ _),
+      of-tree-fixes text _ (λ e. first-of-fixed _ _),
       (of-tree-fixes text _ (λ e. large-fixes (sortedIn names text sort e)), tt),
     ),
   ),
 )
 
-read-fixed : (names text : List ℕ) (sort : Sort) → Fixed (readOrder names text sort)
+read-fixed : (names text : List ℕ) (sort : Sort) → AllFixed (readOrder names text sort)
 read-fixed names text sort =
-    fixed-both (namesOrder names) (order text ++ treeOrder names text sort) (at-fixes _ _, (first-fixes _, tt))
+    fixed-both (namesOrder names) (order text ++ treeOrder names text sort) (at-fixed _ _, (first-fixed _, tt))
     (fixed-both (order text) (treeOrder names text sort) (text-fixed text) (tree-fixed names text sort))
 
 -- a text gives one expression
@@ -91,12 +91,12 @@ gives-unique {names} {text} {sort} a b =
 pub read-unique : {names text : List ℕ} {sort : Sort} {r s : Read} → Reading names text sort r
     → Reading names text sort s → r ≡ s
 read-unique {names} {text} {sort} (refused n p a) (refused m q b) =
-    let e = refused-unique (readOrder names text sort) (read-fixed names text sort) n m p q a b in
+    let e = refused-unique (readOrder names text sort) (read-fixed names text sort) a b in
     ap (λ (k : ℕ). refusedWith k p) (e .0) ∙ ap (refusedWith m) (e .1)
 read-unique {names} {text} {sort} (refused n p a) (read b g) =
-    absurd (refused-not-passed (readOrder names text sort) n p a b)
+    absurd (refused-passed (readOrder names text sort) n p b a)
 read-unique {names} {text} {sort} (read a g) (refused n p b) =
-    absurd (refused-not-passed (readOrder names text sort) n p b a)
+    absurd (refused-passed (readOrder names text sort) n p a b)
 read-unique (read a g) (read b h) = ap made (gives-unique g h)
 
 -- what is read is what the text gives

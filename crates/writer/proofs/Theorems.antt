@@ -20,7 +20,7 @@ use Rattle.alf.specs.Expressions.{Edge, EdgeKnown, Over, VectorOver, Expression
 use Rattle.alf.specs.Expressions.{on-right, on-left, Expression, boolean, vector}
 use Rattle.alf.specs.Bytes.{binaryByte, edgeNumber}
 use Rattle.alf.proofs.Bools.{never}
-use Rattle.alf.proofs.Outcomes.{Fixed, at-fixes, first-fixes, comes-unique}
+use Rattle.alf.proofs.Outcomes.{AllFixed, at-fixed, first-fixed, comes-unique}
 use Rattle.tokens.specs.Texts.{Reads}
 use Rattle.tokens.proofs.Ranges.{all-from, all-from-law}
 use Rattle.grammar.specs.declared.Token.{Token}
@@ -45,8 +45,8 @@ pub writes-unique : {names tree : List ℕ} {sort : Sort} {out a b : List ℕ} {
     → Writes names tree sort out a r → Writes names tree sort out b s → (r ≡ s) × (a ≡ b)
 unfolding order
 writes-unique {names} {tree} {sort} {out} {r = r} {s = s} w v =
-    let fixed : Fixed (order names tree sort (length out)) =
-    (at-fixes _ _, (first-fixes _, (at-fixes _ _, (at-fixes _ _, (at-fixes _ _, tt))))) in
+    let fixed : AllFixed (order names tree sort (length out)) =
+    (at-fixed _ _, (first-fixed _, (at-fixed _ _, (at-fixed _ _, (at-fixed _ _, tt))))) in
     let e : r ≡ s =
     comes-unique (order names tree sort (length out)) _ fixed (λ k l p q. p ∙ sym q) r s (w .outcome) (v .outcome) in
     (e, w .memory ∙ ap (after (textAt names tree) out) e ∙ sym (v .memory))
