@@ -17,7 +17,7 @@ use names::is_name;
 use names::refuse;
 
 // Whether the name record at a place, behind k others, has none of their names.
-pub fn is_new(file: &[u8], k: usize, at: usize) -> bool
+fn is_new(file: &[u8], k: usize, at: usize) -> bool
     requires { ⌜ NameStands (now file) k at ⌝ }
     ensures { λ r. ⌜ Tells (NewName (now (file .entry)) k) r ⌝ }
 {
@@ -38,7 +38,7 @@ pub fn is_new(file: &[u8], k: usize, at: usize) -> bool
 }
 
 // A record marked `NM`.
-pub fn check_name(file: &[u8], s: Cursor) -> Outcome
+fn check_name(file: &[u8], s: Cursor) -> Outcome
     requires { ⌜ StandsAt Name (now file) s ⌝ }
     ensures { λ r. ⌜ Checks (now (file .entry)) s r ⌝ }
 {
@@ -69,7 +69,7 @@ pub fn check_name(file: &[u8], s: Cursor) -> Outcome
 }
 
 // Whether the time of the row where the cursor stands is above the last row's.
-pub fn is_above(file: &[u8], s: Cursor) -> bool
+fn is_above(file: &[u8], s: Cursor) -> bool
     requires { ⌜ StandsWhole 6 (now file) s ⌝ }
     ensures { λ r. ⌜ Tells (Above (now (file .entry)) (s .names) (s .rows)) r ⌝ }
 {
@@ -84,7 +84,7 @@ pub fn is_above(file: &[u8], s: Cursor) -> bool
 }
 
 // A record marked `RW`.
-pub fn check_row(file: &[u8], s: Cursor) -> Outcome
+fn check_row(file: &[u8], s: Cursor) -> Outcome
     requires { ⌜ StandsAt Row (now file) s ⌝ }
     ensures { λ r. ⌜ Checks (now (file .entry)) s r ⌝ }
 {
@@ -112,7 +112,7 @@ pub fn check_row(file: &[u8], s: Cursor) -> Outcome
 }
 
 // A record marked `EN`.
-pub fn check_end(file: &[u8], s: Cursor) -> Outcome
+fn check_end(file: &[u8], s: Cursor) -> Outcome
     requires { ⌜ StandsAt End (now file) s ⌝ }
     ensures { λ r. ⌜ Checks (now (file .entry)) s r ⌝ }
 {
@@ -134,7 +134,7 @@ pub fn check_end(file: &[u8], s: Cursor) -> Outcome
 }
 
 // The record where the cursor stands.
-pub fn check_record(file: &[u8], s: Cursor) -> Outcome
+fn check_record(file: &[u8], s: Cursor) -> Outcome
     requires { ⌜ Stands (now file) s ⌝ }
     ensures { λ r. ⌜ Checks (now (file .entry)) s r ⌝ }
 {

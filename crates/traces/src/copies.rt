@@ -21,7 +21,7 @@ pub fn copy(src: &[u8], from: usize, n: usize, dst: &mut [u8], to: usize)
 }
 
 // Writes n zeros to a place of a list.
-pub fn clear(dst: &mut [u8], to: usize, n: usize)
+fn clear(dst: &mut [u8], to: usize, n: usize)
     requires { ⌜ to + n ≤ length (now dst) ⌝ }
     ensures { λ _. ⌜ Cleared n (now (dst .entry)) to n (now (dst .exit)) ⌝ }
 {
@@ -33,7 +33,7 @@ pub fn clear(dst: &mut [u8], to: usize, n: usize)
 }
 
 // Writes a name of n bytes as a slot: its bytes, then zeros.
-pub fn copy_slot(src: &[u8], from: usize, n: usize, dst: &mut [u8], to: usize)
+fn copy_slot(src: &[u8], from: usize, n: usize, dst: &mut [u8], to: usize)
     requires { ⌜ SlotFits (now src) from n (now dst) to ⌝ }
     ensures { λ _. ⌜ InSlot (now (src .entry)) from n (now (dst .entry)) to (now (dst .exit)) ⌝ }
 {

@@ -20,7 +20,7 @@ pub fn short_of(needed: usize) -> Reading
 }
 
 // Copies a file of k names and n rows that is known to be good, if there is room.
-pub fn fill(
+fn fill(
     file: &[u8],
     k: usize,
     n: usize,

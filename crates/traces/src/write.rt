@@ -1,4 +1,5 @@
-// Writing a trace file: what is handed in is checked first. Nothing is written before it is known to be good and to fit.
+// Writing a trace file: what is handed in is checked first. Nothing is written before it is known to be good
+// and to fit.
 ghost use mathlib.Core.Path.{_≡_};
 ghost use Prim.Native.Nat.{_+_, _*_, _<_, _≤_};
 ghost use lib.ListN.{length};
@@ -18,7 +19,7 @@ use names::name_len;
 use names::refuse;
 
 // Whether there are 1 to 32 slots, and lists of exactly n entries.
-pub fn lists_fit(names: &[u8], times: &[u32], states: &[u8], n: usize) -> bool
+fn lists_fit(names: &[u8], times: &[u32], states: &[u8], n: usize) -> bool
     ensures { λ r. ⌜ Tells (AllLists (now (names .entry)) (now (times .entry)) (now (states .entry)) n) r ⌝ }
 {
     let k = names.len() / 32;
@@ -47,7 +48,7 @@ pub fn lists_fit(names: &[u8], times: &[u32], states: &[u8], n: usize) -> bool
 }
 
 // Whether the time of row r is above the last row's.
-pub fn is_later(times: &[u32], r: usize) -> bool
+fn is_later(times: &[u32], r: usize) -> bool
     requires { ⌜ r < length (now times) ⌝ }
     ensures { λ b. ⌜ Tells (Later (now (times .entry)) r) b ⌝ }
 {
@@ -61,7 +62,7 @@ pub fn is_later(times: &[u32], r: usize) -> bool
 }
 
 // The rows, one by one: 13, then 15.
-pub fn check_rows(k: usize, times: &[u32], states: &[u8], n: usize) -> Outcome
+fn check_rows(k: usize, times: &[u32], states: &[u8], n: usize) -> Outcome
     requires { ⌜ RowsLent k (now times) (now states) n ⌝ }
     ensures { λ r. ⌜ Comes (rowsOrder k (now (times .entry)) (now (states .entry)) n) (λ m. m ≡ n) r ⌝ }
 {
@@ -83,7 +84,7 @@ pub fn check_rows(k: usize, times: &[u32], states: &[u8], n: usize) -> Outcome
 }
 
 // How many bytes the records of k names have.
-pub fn names_size(names: &[u8], k: usize) -> usize
+fn names_size(names: &[u8], k: usize) -> usize
     requires { ⌜ SlotsLent (now names) k ⌝ }
     ensures { λ r. ⌜ NamesSize (now (names .entry)) k r ⌝ }
 {
@@ -99,7 +100,7 @@ pub fn names_size(names: &[u8], k: usize) -> usize
 }
 
 // Writes the records of k names, and returns where they end.
-pub fn put_names(names: &[u8], k: usize, out: &mut [u8]) -> usize
+fn put_names(names: &[u8], k: usize, out: &mut [u8]) -> usize
     requires { ⌜ SlotsFit (now names) k (now out) ⌝ }
     ensures { λ r. ⌜ NamesPut (now (names .entry)) k (now (out .entry)) (now (out .exit)) r ⌝ }
 {
@@ -117,7 +118,7 @@ pub fn put_names(names: &[u8], k: usize, out: &mut [u8]) -> usize
 }
 
 // Writes the records of n rows of k codes each.
-pub fn put_rows(k: usize, times: &[u32], states: &[u8], n: usize, out: &mut [u8], at: usize)
+fn put_rows(k: usize, times: &[u32], states: &[u8], n: usize, out: &mut [u8], at: usize)
     requires { ⌜ RowsPut k (now times) (now states) n (now out) at ⌝ }
     ensures { λ _. ⌜ Put (now (out .entry)) at (rowRecords k (now (times .entry)) (now (states .entry)) n) (now (out .exit)) ⌝ }
 {
@@ -133,7 +134,7 @@ pub fn put_rows(k: usize, times: &[u32], states: &[u8], n: usize, out: &mut [u8]
 }
 
 // Writes a trace that is known to be good, if there is room.
-pub fn write_good(
+fn write_good(
     names: &[u8],
     k: usize,
     times: &[u32],
@@ -157,7 +158,7 @@ pub fn write_good(
 }
 
 // Writes a trace whose lists and names are known to be good, if its rows are and there is room.
-pub fn write_named(
+fn write_named(
     names: &[u8],
     k: usize,
     times: &[u32],
