@@ -2,11 +2,8 @@
 --   exact-accepted, exact-trace   a file is accepted exactly when it is the bytes of some trace
 --   one-trace                     a file has one trace
 --   refused-none                  a refused file is the bytes of none
---   reads-unique                  any two outcomes of a reading coincide, and so does the memory
---   writes-unique                 likewise of a writing
---   read-write                    reading what was written gives the same names, times and states
---   write-read                    writing what was read gives the same bytes
--- `exact-trace` and `write-read` assume that the file is a list of bytes; the rest assumes nothing.
+-- That any two outcomes coincide, and both round trips, are in RoundTrips.antt.
+-- `exact-trace` assumes that the file is a list of bytes; the rest assumes nothing.
 use mathlib.Core.Path.{_≡_, refl, sym, ap, _∙_}
 use mathlib.Core.List.{List, [], _∷_, _++_}
 use mathlib.Core.Logic.{_⊎_, inl, inr}
