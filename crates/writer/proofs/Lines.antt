@@ -18,7 +18,7 @@ use Rattle.writer.specs.Signs.{sign, word, gap, lineFrom}
 use Rattle.writer.specs.Inner.{Spellable}
 use Rattle.writer.proofs.Signs.{Sign, low, high, sign-small}
 use Rattle.writer.proofs.Words.{Known, a-name, a-sign, sign-positive, spelled-name, spelled-sign}
-use Rattle.writer.proofs.Spelling.{gap-some}
+use Rattle.writer.proofs.Steps.{gap-some}
 use Rattle.writer.proofs.Reading.{AllKnown, none, more}
 
 sign-name : (t : Token) → t .code ≡ 0 → sign t ≡ t .place

@@ -1,14 +1,13 @@
 -- What the functions that write a sign's spelling are proved by: the code's tables, and the spelling's cases.
--- Main names: half-table, mark-bytes, slot-name, going-parts, line-next. Assumes nothing.
+-- Main names: half-table, mark-bytes, slot-name, wording-name and its like, pair-start. Assumes nothing.
 use Prim.Native.Nat.{ℕ, zero, suc, _+_, _-_, _*_, _/_, _%_, _<_, _≤_}
 use native.Mathlib.Omega.{arith}
-use native.Mathlib.Numerals.{add-one}
 use mathlib.Core.Path.{_≡_, refl, sym, ap, _∙_}
 use mathlib.Core.Bool.{Bool, true, false, _&&_}
-use mathlib.Core.List.{List, [], _∷_, _++_, append-nil}
+use mathlib.Core.List.{List, [], _∷_, _++_}
 use lib.Dec.{eqb, ltb}
-use lib.ListN.{length, getD, take, drop, set, drop-of-length-le}
-use lib.Seq.{sets, take-suc, drop-cons, length-take-le, getD-take}
+use lib.ListN.{length, getD, take, drop}
+use lib.Seq.{length-take-le}
 use borrow.Author.Tests.{eqb-true, ltb-true, ltb-false, lt-ltb, le-ltb, ne-eqb}
 use Rattle.alf.specs.Words.{if_then_else_}
 use Rattle.alf.specs.Names.{untilZero, slot, nameAt}
@@ -19,19 +18,10 @@ use Rattle.tokens.specs.Spelling.{based}
 use Rattle.tokens.specs.Inner.{wordOf}
 use Rattle.tokens.proofs.Ranges.{and-left, and-right, all-from, all-from-law}
 use Rattle.writer.specs.Spelled.{halfByte, literalSpelled, pairSpelled, operators, marks, prefixes, signSpelled}
-use Rattle.writer.specs.Signs.{word, markAt, gap, lineFrom}
+use Rattle.writer.specs.Signs.{word, markAt}
 use Rattle.writer.specs.Inner.{Put, Room, Copying, Naming, Halving, Pairing, Wording}
-use Rattle.writer.specs.Inner.{Marking, Spellable, Lining, Roomy}
-use Rattle.writer.proofs.Going.{flat, Going, going-start, going-parts, going-end, sets-append}
-
--- one more byte of a list copied
-pub copied-more : (from out : List ℕ) (at i : ℕ) → i < length from
-    → set (sets out at (take i from)) (at + i) (getD from i 0) ≡ sets out at (take (i + 1) from)
-copied-more from out at i h =
-    rw (add-one i, take-suc from i 0 h)
-    (ap (λ (n : ℕ). set (sets out at (take i from)) (at + n) (getD from i 0))
-    (sym (length-take-le i from (omega arith)))
-    ∙ sets-append (take i from) (getD from i 0 ∷ []) out at)
+use Rattle.writer.specs.Inner.{Marking, Roomy}
+use Rattle.writer.proofs.Going.{flat, Going, going-start}
 
 -- a slot's name is its first bytes
 pub slot-name : (names : List ℕ) (i : ℕ) {n : ℕ}
@@ -243,39 +233,6 @@ module _ {names : List ℕ} {s : ℕ} {out : List ℕ} {at : ℕ} (h : Wording n
   wording-pair l k =
       record { first = omega arith; second = omega arith; room = room-as (word-pair names s l k) }
 
--- the line, word by word
-line-next : (names xs : List ℕ) (i : ℕ) → i < length xs
-    → lineFrom names i (drop i xs)
-    ≡ gap i ++ (word names (getD xs i 0) ++ (lineFrom names (i + 1) (drop (i + 1) xs) ++ []))
-unfolding lineFrom
-line-next names xs i h =
-    rw (append-nil, add-one i)
-    (ap (lineFrom names i) (drop-cons xs i 0 h))
-
-module _ (names list : List ℕ) (count i : ℕ) (there : count ≤ length list) {out₀ w out : List ℕ} {at : ℕ} where
-  pub line-going : i < count
-      → Going out₀ 0 w (lineFrom names i (drop i (take count list)) ∷ []) out at
-      → Going out₀ 0 w
-      (gap i ∷ word names (getD list i 0) ∷ lineFrom names (i + 1) (drop (i + 1) (take count list)) ∷ []) out at
-  line-going k g =
-      let l = length-take-le count list there in
-      going-parts (append-nil _ ∙ line-next names (take count list) i (omega arith) ∙ rw (getD-take count list i 0 k)) g
-
-  pub line-done : count ≤ i → Going out₀ 0 w (lineFrom names i (drop i (take count list)) ∷ []) out at
-      → Put out₀ 0 w out at
-  unfolding lineFrom
-  line-done k g =
-      let l = length-take-le count list there in
-      let m : length (take count list) ≤ i = omega arith in
-      let e : drop i (take count list) ≡ [] = drop-of-length-le _ m in
-      going-end (going-parts (rw e) g)
-
-pub gap-none : (i : ℕ) → i ≡ 0 → gap i ≡ []
-gap-none i e = rw e
-
-pub gap-some : (i : ℕ) → (i ≡ 0 → ⊥) → gap i ≡ 32 ∷ []
-gap-some i f = rw (ne-eqb i 0 f)
-
 -- where the writing of several parts begins
 pub pair-start : {f t : ℕ} {out : List ℕ} {at : ℕ} → Pairing f t out at (pairSpelled f t) → f < 3 → t < 3
     → Going out at (pairSpelled f t) ((halfByte f ∷ []) ∷ (halfByte t ∷ []) ∷ []) out at
@@ -288,20 +245,6 @@ module _ (x y z : ℕ) {out : List ℕ} {at : ℕ} (h : Roomy out at (wordOf x y
   pub three-start : (z ≡ 0 → ⊥) → Going out at (wordOf x y z) ((x ∷ []) ∷ (y ∷ []) ∷ (z ∷ []) ∷ []) out at
   three-start g = going-start _ (three-bytes x y z f g) (h .room)
 
--- copying, byte by byte
-pub copy-more : (from : List ℕ) (i : ℕ) {out₀ out : List ℕ} {at : ℕ} → i < length from
-    → Put out₀ at (take i from) out (at + i)
-    → Put out₀ at (take (i + 1) from) (set out (at + i) (getD from i 0)) (at + (i + 1))
-copy-more from i {out₀} {out} {at} h p =
-    record {
-      bytes = ap (λ (l : List ℕ). set l (at + i) (getD from i 0)) (p .bytes) ∙ copied-more from out₀ at i h;
-      next = omega (arith, length-take-le (i + 1) from (omega arith));
-    }
-
 pub mark-roomy : {c k : ℕ} {out : List ℕ} {at : ℕ} → Marking c out at → k ≡ markAt c
     → Roomy out at (wordOf (getD bytes (k * 3) 0) (getD bytes (k * 3 + 1) 0) (getD bytes (k * 3 + 2) 0))
 mark-roomy h e = rw (mark-word h e) (record { room = h .room })
-
-pub line-start : {names list : List ℕ} {count : ℕ} {out : List ℕ} → Lining names list count out
-    → Going out 0 (lineFrom names 0 (take count list)) (lineFrom names 0 (take count list) ∷ []) out 0
-line-start h = going-start _ (sym (append-nil _)) (h .room)

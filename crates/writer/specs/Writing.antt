@@ -1,5 +1,5 @@
 -- Document 01, "Writing" and rows 18, 12, 10, 1, 9 of "Numbers for refused work": what `write_expression` comes to.
--- Row 10 is limits' `Accepted` here; that it holds exactly for what some text gives is shown in proofs/Exactness.antt.
+-- Row 10 is what limits' `Accepted` refuses: no tree of the sort, over 256 nodes, brackets over 32 deep, over limit 8.
 use Prim.Native.Nat.{ℕ, _/_, _≤_, _<_}
 use mathlib.Core.Path.{_≡_}
 use mathlib.Core.List.{List, [], _∷_, _++_}

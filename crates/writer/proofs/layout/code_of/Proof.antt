@@ -1,6 +1,6 @@
 -- `code_of` reads the table of Layouts.antt. Assumes nothing.
 use borrow.Author.Needs.{needs}
-use Rattle.writer.proofs.Layouts.{code-table}
+use Rattle.writer.proofs.Tables.{code-table}
 use Rattle.writer.proofs.layout.code_of.Statement.{statement}
 use Rattle.writer.proofs.layout.code_of.Tie as tie
 

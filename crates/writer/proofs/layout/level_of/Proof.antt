@@ -1,6 +1,6 @@
 -- `level_of` reads the table of Layouts.antt. Assumes nothing.
 use borrow.Author.Needs.{needs}
-use Rattle.writer.proofs.Layouts.{level-table}
+use Rattle.writer.proofs.Tables.{level-table}
 use Rattle.writer.proofs.layout.level_of.Statement.{statement}
 use Rattle.writer.proofs.layout.level_of.Tie as tie
 

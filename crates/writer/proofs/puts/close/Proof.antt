@@ -3,7 +3,7 @@ use borrow.Author.Needs.{needs}
 use native.Mathlib.Omega.{arith}
 use mathlib.Core.Path.{refl, ap}
 use lib.ListN.{length}
-use Rattle.writer.proofs.Layouts.{closer-none, closer-some}
+use Rattle.writer.proofs.Tables.{closer-none, closer-some}
 use Rattle.writer.proofs.puts.close.Statement.{statement}
 use Rattle.writer.proofs.puts.close.Tie as tie
 

@@ -3,7 +3,7 @@ use borrow.Author.Needs.{needs}
 use native.Mathlib.Omega.{arith}
 use mathlib.Core.Path.{refl, ap}
 use lib.ListN.{length}
-use Rattle.writer.proofs.Layouts.{opener-none, opener-some}
+use Rattle.writer.proofs.Tables.{opener-none, opener-some}
 use Rattle.writer.proofs.puts.open.Statement.{statement}
 use Rattle.writer.proofs.puts.open.Tie as tie
 

@@ -1,6 +1,6 @@
 -- `put_bytes` meets its contract. The invariant: the first i bytes are copied. Assumes nothing.
 use borrow.Author.Needs.{needs}
-use Rattle.writer.proofs.Spelling.{copy-more}
+use Rattle.writer.proofs.Steps.{copy-more}
 use Rattle.writer.proofs.Going.{put-length}
 use native.Mathlib.Omega.{arith}
 use mathlib.Core.Path.{_≡_, refl}

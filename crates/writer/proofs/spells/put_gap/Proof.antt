@@ -1,6 +1,6 @@
 -- `put_gap` meets its contract. Assumes nothing.
 use borrow.Author.Needs.{needs}
-use Rattle.writer.proofs.Spelling.{gap-none, gap-some}
+use Rattle.writer.proofs.Steps.{gap-none, gap-some}
 use native.Mathlib.Omega.{arith}
 use mathlib.Core.Path.{refl, ap}
 use lib.ListN.{length}

@@ -1,7 +1,7 @@
 -- `put_line` meets its contract. The invariant: of the line the words of the first i signs are written.
 -- Assumes nothing.
 use borrow.Author.Needs.{needs}
-use Rattle.writer.proofs.Spelling.{line-going, line-done, line-start}
+use Rattle.writer.proofs.Steps.{line-going, line-done, line-start}
 use Rattle.writer.proofs.Going.{going-room, going-on, going-end, going-length}
 use native.Mathlib.Omega.{arith}
 use mathlib.Core.List.{[], _∷_}
