@@ -19,7 +19,8 @@ use Rattle.tokens.specs.Spelling.{spellings}
 use Rattle.tokens.specs.Taking.{nameBytes, Taken}
 use Rattle.tokens.specs.Steps.{starts, none, firstOf, nameStep, halfAt, basedStep, plainStep, stepOf}
 use Rattle.tokens.proofs.Ranges.{and-left, and-right, all-from, all-from-law}
-use Rattle.tokens.proofs.Taking.{Right, right}
+use Rattle.tokens.proofs.Right.{Right}
+use Rattle.tokens.proofs.Taking.{right}
 use Rattle.writer.specs.Spelled.{halfByte, literalSpelled, pairSpelled, operators, marks, prefixes, signSpelled}
 
 -- what stands behind a written token: nothing, or a blank
