@@ -1,0 +1,2 @@
+-- The laws that the alternatives are written by.
+pub mod Splits

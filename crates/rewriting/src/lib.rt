@@ -1,0 +1,2 @@
+// The alternatives of a tree, written into lent lists.
+pub mod splitting;
