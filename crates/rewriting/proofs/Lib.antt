@@ -1,2 +1,3 @@
 -- The laws that the alternatives are written by.
 pub mod Splits
+pub mod Operands
