@@ -1,8 +1,8 @@
 -- One step of one alternative, in memory.
-use Prim.Native.Nat.{ℕ, _+_, _≤_}
+use Prim.Native.Nat.{ℕ, _+_, _<_, _≤_}
 use mathlib.Core.Path.{_≡_}
 use mathlib.Core.List.{List, [], _++_}
-use lib.ListN.{length, getD}
+use lib.ListN.{length, getD, set}
 use lib.Seq.{sets}
 use Rattle.alf.specs.Alternatives.{Step, Alternative, padded, alternatives, stepsOf}
 use Rattle.trees.specs.Parts.{vectorAt}
@@ -37,3 +37,14 @@ pub record Behind (empty n j r : ℕ) : Type 0 where
 -- the right one
 pub record Split (how : How) (n m j l r : ℕ) : Type 0 where
   pub is : (x y : Alternative) → length x ≡ n → length y ≡ m → getD (put how x y) j [] ≡ getD x l [] ++ getD y r []
+
+-- one test: there is room for it, and its place fits; it is written, and the place behind it
+pub record Fits (place : ℕ) (edges operands : List ℕ) (from : ℕ) : Type 0 where
+  pub small : place < 65536
+  pub edges-room : from < length edges
+  pub operands-room : from < length operands
+
+pub record OnePut (k place from : ℕ) (edges operands : List ℕ) (next : ℕ) (edges′ operands′ : List ℕ) : Type 0 where
+  pub next-is : next ≡ from + 1
+  pub edges-is : edges′ ≡ set edges from k
+  pub operands-is : operands′ ≡ set operands from place
