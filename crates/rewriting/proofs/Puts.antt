@@ -1,12 +1,12 @@
 -- The tests of a step in memory, one part after the other, and what is asked for each part.
--- Main names: put-none, put-one, put-then, put-lengths; beyond, there. Assumes nothing.
+-- Main names: put-none, put-one, put-then, put-lengths, one-lengths; beyond, there. Assumes nothing.
 use Prim.Native.Nat.{ℕ, zero, suc, _+_, _-_, _<_, _≤_, min, max}
 use native.Mathlib.Omega.{arith}
 use native.Mathlib.Numerals.{add-one}
 use native.Mathlib.Nat.{add-zero, add-assoc}
 use mathlib.Core.Path.{_≡_, refl, ap, sym, _∙_}
 use mathlib.Core.List.{List, [], _∷_, _++_, map, map-append}
-use lib.ListN.{length, getD, set, length-append, length-map, List·getD-eq-default}
+use lib.ListN.{length, getD, set, length-append, length-map, length-set, List·getD-eq-default}
 use lib.Seq.{sets, length-sets}
 use Rattle.alf.specs.Words.{greatestOf}
 use Rattle.alf.specs.Expressions.{Edge, name, the, pair, Vector}
@@ -55,6 +55,14 @@ pub put-lengths : {s : Step} {from next : ℕ} {edges operands edges′ operands
 put-lengths {s} {from} {edges = edges} {operands = operands} h = (
   ap length (h .edges-is) ∙ length-sets edges from (numbers s),
   ap length (h .operands-is) ∙ length-sets operands from (ends s),
+)
+
+pub one-lengths : {k place from next : ℕ} {edges operands edges′ operands′ : List ℕ}
+    → OnePut k place from edges operands next edges′ operands′
+    → (length edges′ ≡ length edges) × (length operands′ ≡ length operands)
+one-lengths {k} {place} {from} {edges = edges} {operands = operands} h = (
+  ap length (h .edges-is) ∙ length-set edges from k,
+  ap length (h .operands-is) ∙ length-set operands from place,
 )
 
 -- no alternative is longer than the longest

@@ -10,18 +10,26 @@ use lib.ListN.{length, getD, length-append}
 use Rattle.alf.specs.Words.{greatestOf}
 use Rattle.alf.specs.Expressions.{Boolean, name, the, pair, Vector, join, while, Join, Side, on-right, on-left}
 use Rattle.alf.specs.Bytes.{edgeNumber, halfNumber, edgeAt, joinAt}
-use Rattle.alf.specs.Alternatives.{Test, test, Step, alternatives, numberOfAlternatives, stepsOf}
+use Rattle.alf.specs.Alternatives.{Test, test, Step, conditioned, alternatives, numberOfAlternatives, stepsOf}
+use Rattle.alf.proofs.Steps.{conditioned-length}
+use Rattle.alf.proofs.Codes.{edge-byte}
+use Rattle.alf.proofs.Tops.{edge-top, vector-class}
+use Rattle.alf.proofs.Parts.{made-last}
+use Rattle.limits.proofs.Lists.{getD-map}
+use Rattle.limits.proofs.Counts.{number-edge}
 use Rattle.alf.proofs.Growth.{Within, join-left, join-right, while-part}
-use Rattle.trees.specs.Parts.{vectorAt, Start}
-use Rattle.trees.proofs.Vectors.{Conditioned, Joined, before-is}
+use Rattle.trees.specs.Parts.{Ends, EndsVector, vectorAt, Start}
+use Rattle.trees.proofs.Starts.{of-vector}
+use Rattle.trees.proofs.Operands.{right-whole}
+use Rattle.trees.proofs.Vectors.{Conditioned, Joined, edge-is, before-is, vector-pos}
 use Rattle.limits.specs.declared.picking.How.{How}
 use Rattle.limits.specs.Picks.{Picked}
 use Rattle.limits.specs.Sizes.{alternativeAt, Chosen, Shaped}
 use Rattle.limits.proofs.Numbers.{Number}
 use Rattle.limits.proofs.Measures.{chosen-there}
-use Rattle.limits.proofs.Chosen.{before-chosen, condition-chosen, left-chosen, right-chosen}
+use Rattle.limits.proofs.Chosen.{edge-shape, before-chosen, condition-chosen, left-chosen, right-chosen}
 use Rattle.rewriting.specs.Steps.{stepAt, Placing, Put, Fits, OnePut, Split}
-use Rattle.rewriting.proofs.Placing.{before-step, condition-step, join-step}
+use Rattle.rewriting.proofs.Placing.{edge-step, before-step, condition-step, join-step}
 use Rattle.rewriting.proofs.Puts.{put-one, put-then, put-lengths, long}
 
 -- a part's longest alternative is no longer than the whole's
@@ -42,6 +50,22 @@ exact : (p : Vector) (a : ℕ) {s n : ℕ} → stepsOf p ≤ 64 → Shaped (getD
     → length (getD (alternatives p) a []) ≡ s
 unfolding stepsOf
 exact p a l g = let e = long (alternatives p) a in omega (arith, g .steps-is)
+
+-- the last operand ends right before the operator
+pub last-ends : (t : List ℕ) (names end : ℕ) → EndsVector t names end → getD t (end - 1) 0 < 64 → Ends t names (end - 1)
+last-ends t names end h k =
+    let b = made-last t names end (vector-pos t names end h) in
+    let (l, u) = vector-class names _ b (h .whole) k in
+    right-whole t names end (of-vector h) (omega arith)
+
+-- a condition adds no step
+while-there : (s : Side) (p : Vector) (c : Boolean) (a j : ℕ) → a < length (alternatives p)
+    → j < length (getD (alternatives (while s p c)) a []) → j < length (getD (alternatives p) a [])
+unfolding alternatives
+while-there s p c a j l k =
+    let e = ap length (getD-map (conditioned c) (alternatives p) a [] [] l) in
+    let d = conditioned-length c (getD (alternatives p) a []) in
+    omega arith
 
 -- the test that a condition adds
 abbrev pub held : ℕ → Step
@@ -80,12 +104,42 @@ module _ {t : List ℕ} {names end a j : ℕ} {edges operands : List ℕ} {from 
         operands-room = omega (arith, h .operands-room);
       }
 
+  module _ (k : 64 ≤ getD t (end - 1) 0) (l : j < length (alternativeAt t names end a)) where
+    edge-whole : stepAt t names end a j ≡ test (edgeAt (getD t (end - 1) 0 - 64)) (name (end - 1)) ∷ []
+    edge-whole =
+        let n = rw (edge-is t names end (h .chosen .ends) k, number-edge) at (h .chosen .there) in
+        let g = edge-shape t names end a (h .chosen) k in
+        edge-step t names end a j (h .chosen .ends) k n (omega (arith, g .steps-is))
+
+    pub edge-fits : Fits (end - 1) edges operands from
+    edge-fits =
+        let e = ap length edge-whole in
+        record {
+          small = omega (arith, h .few, h .chosen .ends .within);
+          edges-room = omega (arith, h .edges-room);
+          operands-room = omega (arith, h .operands-room);
+        }
+
+    pub edge-put : {next : ℕ} {edges′ operands′ : List ℕ}
+        → OnePut (getD t (end - 1) 0 - 64) (end - 1) from edges operands next edges′ operands′
+        → Put (stepAt t names end a j) from edges operands next edges′ operands′
+    edge-put q =
+        let u = edge-top names _ (made-last t names end (vector-pos t names end (h .chosen .ends))) (h .chosen .ends
+        .whole) k in
+        let e = edge-byte k (u .small) in rw edge-whole (put-one (omega arith) q)
+
   -- c & P, and P & c
   module _ {m : ℕ} (s : Start t names (end - 1) m) (k : getD t (end - 1) 0 ≡ 57)
-      (l : j < length (alternativeAt t names (end - 1) a)) where
+      (o : j < length (alternativeAt t names end a)) where
+    before-there : j < length (alternativeAt t names (end - 1) a)
+    before-there =
+        while-there on-left _ _ a j (chosen-there (before-chosen t names end a (h .chosen) k))
+        (rw (before-is t names end (h .chosen .ends) k) at o)
+
     pub before-whole : stepAt t names end a j ≡ stepAt t names (end - 1) a j ++ held m
     before-whole =
-        before-step t names end a j (h .chosen .ends) k s (chosen-there (before-chosen t names end a (h .chosen) k)) l
+        before-step t names end a j (h .chosen .ends) k s (chosen-there (before-chosen t names end a (h .chosen) k))
+        before-there
 
     pub before-placing : Placing t names (end - 1) a j edges operands from
     before-placing =
@@ -93,11 +147,15 @@ module _ {t : List ℕ} {names end a j : ℕ} {edges operands : List ℕ} {from 
         (while-short on-left _ _ (rw (before-is t names end (h .chosen .ends) k) at (h .short))) before-whole
 
   module _ {m : ℕ} (s : Start t names (end - 1) m) (c : Conditioned t names end m)
-      (l : j < length (alternativeAt t names m a)) where
+      (o : j < length (alternativeAt t names end a)) where
+    condition-there : j < length (alternativeAt t names m a)
+    condition-there =
+        while-there on-right _ _ a j (chosen-there (condition-chosen t names end a (h .chosen) c)) (rw (c .is) at o)
+
     pub condition-whole : stepAt t names end a j ≡ stepAt t names m a j ++ held (end - 1)
     condition-whole =
         condition-step t names end a j (h .chosen .ends) c s
-        (chosen-there (condition-chosen t names end a (h .chosen) c)) l
+        (chosen-there (condition-chosen t names end a (h .chosen) c)) condition-there
 
     pub condition-placing : Placing t names m a j edges operands from
     condition-placing =
