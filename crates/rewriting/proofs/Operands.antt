@@ -53,7 +53,12 @@ module _ (f : Boolean → Boolean) where
   overlaid-on : (x y : Alternative) → overlaid (alternativeOn x) (alternativeOn y) ≡ alternativeOn (overlaid x y)
   unfolding overlaid
   overlaid-on x y =
-      rw (length-map x stepOn, length-map y stepOn, padded-on (length y - length x) x, padded-on (length x - length y) y)
+      rw (
+        length-map x stepOn,
+        length-map y stepOn,
+        padded-on (length y - length x) x,
+        padded-on (length x - length y) y,
+      )
       (zipped-on (padded (length y - length x) x) (padded (length x - length y) y))
 
   condition-on : (c : Boolean) (x : Alternative) → conditioned (f c) (alternativeOn x) ≡ alternativeOn (conditioned c x)
@@ -75,8 +80,8 @@ module _ (f : Boolean → Boolean) where
       → each overlaid (map alternativeOn xs) (map alternativeOn ys) ≡ map alternativeOn (each overlaid xs ys)
   overlap-on = each-on overlaid alternativeOn overlaid-on
 
-  both-on : {us vs : List Alternative} (xs ys : List Alternative) → us ≡ map alternativeOn xs → vs ≡ map alternativeOn ys
-      → us ++ vs ≡ map alternativeOn (xs ++ ys)
+  both-on : {us vs : List Alternative} (xs ys : List Alternative) → us ≡ map alternativeOn xs
+      → vs ≡ map alternativeOn ys → us ++ vs ≡ map alternativeOn (xs ++ ys)
   both-on xs ys e d = rw (e, d) (sym (map-append alternativeOn xs ys))
 
   rewritten-on : (j : Join) (xs ys : List Alternative)

@@ -1,5 +1,6 @@
--- A test in memory is the number of its edge and the end of its operand in the tree's bytes. So the alternatives that are
--- written are those of document 01, of the same expression with each boolean operand named by the place where it ends.
+-- A test in memory is the number of its edge and the end of its operand in the bytes of a tree. So the alternatives
+-- that are written are those of document 01, of the same expression with each boolean operand named by the place where
+-- it ends.
 use Prim.Native.Nat.{ℕ, _+_, _-_}
 use mathlib.Core.List.{List, map}
 use lib.ListN.{length}

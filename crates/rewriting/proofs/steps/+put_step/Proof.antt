@@ -51,33 +51,299 @@ pub +put-step-spec : {M : Type 1} → statement M
 )
     (put-step-at t)
     put-step.Post
-    (λ c κs. (c .before .before .before .pre .1) .chosen)
-    (λ c. beyond (c .before .before .before .before .before .before .pre .1) (c .before .before .shape-of .ensures) (c .if1 .taken))
-    (λ c. let p = vector-pos _ _ _ ((c .before .before .before .before .before .before .pre .1) .chosen .ends) in omega arith)
-    (λ c. let p = vector-pos _ _ _ ((c .before .before .before .before .before .before .before .pre .1) .chosen .ends) in omega (arith, (c .before .before .before .before .before .before .before .pre .1) .chosen .ends .within))
-    (λ c κs. edge-fits (c .before .before .before .before .before .before .before .before .before .before .pre .1) (c .before .before .if2 .taken) (there (c .before .before .before .before .before .before .before .before .before .before .pre .1) (c .before .before .before .before .before .before .shape-of .ensures) (c .before .before .before .before .if1 .left)))
-    (λ c. one-lengths (c .before .before .before .before .put-test .ensures) .0)
-    (λ c. one-lengths (c .before .before .before .before .put-test .ensures) .1)
-    (λ c. edge-put (c .before .before .before .before .before .before .before .before .before .before .before .before .before .before .before .pre .1) (c .before .before .before .before .before .before .before .if2 .taken) (there (c .before .before .before .before .before .before .before .before .before .before .before .before .before .before .before .pre .1) (c .before .before .before .before .before .before .before .before .before .before .before .shape-of .ensures) (c .before .before .before .before .before .before .before .before .before .if1 .left)) (c .before .before .before .before .put-test .ensures))
-    (λ c κs. last-ends _ _ _ ((c .before .before .before .before .before .before .before .before .pre .1) .chosen .ends) (c .if2 .left))
-    (λ c κs. let p = vector-pos _ _ _ ((c .before .before .before .before .before .before .before .before .before .before .before .before .pre .1) .chosen .ends) in (omega (arith, c .before .before .before .before .before .before .before .before .before .before .before .before .pre .0), before-placing (c .before .before .before .before .before .before .before .before .before .before .before .before .pre .1) (c .before .before .before .start-of .ensures) (c .before .before .if3 .taken) (there (c .before .before .before .before .before .before .before .before .before .before .before .before .pre .1) (c .before .before .before .before .before .before .before .before .shape-of .ensures) (c .before .before .before .before .before .before .if1 .left))))
-    (λ c κs. held-fits (before-whole (c .before .before .before .before .before .before .before .before .before .before .before .before .before .before .before .before .before .before .before .pre .1) (c .before .before .before .before .before .before .before .before .before .before .start-of .ensures) (c .before .before .before .before .before .before .before .before .before .if3 .taken) (there (c .before .before .before .before .before .before .before .before .before .before .before .before .before .before .before .before .before .before .before .pre .1) (c .before .before .before .before .before .before .before .before .before .before .before .before .before .before .before .shape-of .ensures) (c .before .before .before .before .before .before .before .before .before .before .before .before .before .if1 .left))) (c .before .before .before .before .before .before .put-step .ensures) (let p = vector-pos _ _ _ ((c .before .before .before .before .before .before .before .before .before .before .before .before .before .before .before .before .before .before .before .pre .1) .chosen .ends) in let l = (c .before .before .before .before .before .before .before .before .before .before .start-of .ensures) .before in omega (arith, (c .before .before .before .before .before .before .before .before .before .before .before .before .before .before .before .before .before .before .before .pre .1) .few, (c .before .before .before .before .before .before .before .before .before .before .before .before .before .before .before .before .before .before .before .pre .1) .chosen .ends .within)) ((c .before .before .before .before .before .before .before .before .before .before .before .before .before .before .before .before .before .before .before .pre .1) .edges-room) ((c .before .before .before .before .before .before .before .before .before .before .before .before .before .before .before .before .before .before .before .pre .1) .operands-room))
-    (λ c. put-lengths (held-put (before-whole (c .before .before .before .before .before .before .before .before .before .before .before .before .before .before .before .before .before .before .before .before .before .before .before .before .pre .1) (c .before .before .before .before .before .before .before .before .before .before .before .before .before .before .before .start-of .ensures) (c .before .before .before .before .before .before .before .before .before .before .before .before .before .before .if3 .taken) (there (c .before .before .before .before .before .before .before .before .before .before .before .before .before .before .before .before .before .before .before .before .before .before .before .before .pre .1) (c .before .before .before .before .before .before .before .before .before .before .before .before .before .before .before .before .before .before .before .before .shape-of .ensures) (c .before .before .before .before .before .before .before .before .before .before .before .before .before .before .before .before .before .before .if1 .left))) (c .before .before .before .before .before .before .before .before .before .before .before .put-step .ensures) (c .before .before .before .before .put-test2 .ensures)) .0)
-    (λ c. put-lengths (held-put (before-whole (c .before .before .before .before .before .before .before .before .before .before .before .before .before .before .before .before .before .before .before .before .before .before .before .before .pre .1) (c .before .before .before .before .before .before .before .before .before .before .before .before .before .before .before .start-of .ensures) (c .before .before .before .before .before .before .before .before .before .before .before .before .before .before .if3 .taken) (there (c .before .before .before .before .before .before .before .before .before .before .before .before .before .before .before .before .before .before .before .before .before .before .before .before .pre .1) (c .before .before .before .before .before .before .before .before .before .before .before .before .before .before .before .before .before .before .before .before .shape-of .ensures) (c .before .before .before .before .before .before .before .before .before .before .before .before .before .before .before .before .before .before .if1 .left))) (c .before .before .before .before .before .before .before .before .before .before .before .put-step .ensures) (c .before .before .before .before .put-test2 .ensures)) .1)
-    (λ c. held-put (before-whole (c .before .before .before .before .before .before .before .before .before .before .before .before .before .before .before .before .before .before .before .before .before .before .before .before .pre .1) (c .before .before .before .before .before .before .before .before .before .before .before .before .before .before .before .start-of .ensures) (c .before .before .before .before .before .before .before .before .before .before .before .before .before .before .if3 .taken) (there (c .before .before .before .before .before .before .before .before .before .before .before .before .before .before .before .before .before .before .before .before .before .before .before .before .pre .1) (c .before .before .before .before .before .before .before .before .before .before .before .before .before .before .before .before .before .before .before .before .shape-of .ensures) (c .before .before .before .before .before .before .before .before .before .before .before .before .before .before .before .before .before .before .if1 .left))) (c .before .before .before .before .before .before .before .before .before .before .before .put-step .ensures) (c .before .before .before .before .put-test2 .ensures))
-    (λ c κs. let l = (c .before .before .before .before .start-of .ensures) .before in (omega (arith, c .before .before .before .before .before .before .before .before .before .before .before .before .before .pre .0), condition-placing (c .before .before .before .before .before .before .before .before .before .before .before .before .before .pre .1) (c .before .before .before .before .start-of .ensures) (condition-is _ _ _ ((c .before .before .before .before .before .before .before .before .before .before .before .before .before .pre .1) .chosen .ends) (c .before .before .before .before .start-of .ensures) (c .before .before .if4 .taken)) (there (c .before .before .before .before .before .before .before .before .before .before .before .before .before .pre .1) (c .before .before .before .before .before .before .before .before .before .shape-of .ensures) (c .before .before .before .before .before .before .before .if1 .left))))
-    (λ c κs. held-fits (condition-whole (c .before .before .before .before .before .before .before .before .before .before .before .before .before .before .before .before .before .before .before .before .pre .1) (c .before .before .before .before .before .before .before .before .before .before .before .start-of .ensures) (condition-is _ _ _ ((c .before .before .before .before .before .before .before .before .before .before .before .before .before .before .before .before .before .before .before .before .pre .1) .chosen .ends) (c .before .before .before .before .before .before .before .before .before .before .before .start-of .ensures) (c .before .before .before .before .before .before .before .before .before .if4 .taken)) (there (c .before .before .before .before .before .before .before .before .before .before .before .before .before .before .before .before .before .before .before .before .pre .1) (c .before .before .before .before .before .before .before .before .before .before .before .before .before .before .before .before .shape-of .ensures) (c .before .before .before .before .before .before .before .before .before .before .before .before .before .before .if1 .left))) (c .before .before .before .before .before .before .put-step2 .ensures) (let p = vector-pos _ _ _ ((c .before .before .before .before .before .before .before .before .before .before .before .before .before .before .before .before .before .before .before .before .pre .1) .chosen .ends) in let l = (c .before .before .before .before .before .before .before .before .before .before .before .start-of .ensures) .before in omega (arith, (c .before .before .before .before .before .before .before .before .before .before .before .before .before .before .before .before .before .before .before .before .pre .1) .few, (c .before .before .before .before .before .before .before .before .before .before .before .before .before .before .before .before .before .before .before .before .pre .1) .chosen .ends .within)) ((c .before .before .before .before .before .before .before .before .before .before .before .before .before .before .before .before .before .before .before .before .pre .1) .edges-room) ((c .before .before .before .before .before .before .before .before .before .before .before .before .before .before .before .before .before .before .before .before .pre .1) .operands-room))
-    (λ c. put-lengths (held-put (condition-whole (c .before .before .before .before .before .before .before .before .before .before .before .before .before .before .before .before .before .before .before .before .before .before .before .before .before .pre .1) (c .before .before .before .before .before .before .before .before .before .before .before .before .before .before .before .before .start-of .ensures) (condition-is _ _ _ ((c .before .before .before .before .before .before .before .before .before .before .before .before .before .before .before .before .before .before .before .before .before .before .before .before .before .pre .1) .chosen .ends) (c .before .before .before .before .before .before .before .before .before .before .before .before .before .before .before .before .start-of .ensures) (c .before .before .before .before .before .before .before .before .before .before .before .before .before .before .if4 .taken)) (there (c .before .before .before .before .before .before .before .before .before .before .before .before .before .before .before .before .before .before .before .before .before .before .before .before .before .pre .1) (c .before .before .before .before .before .before .before .before .before .before .before .before .before .before .before .before .before .before .before .before .before .shape-of .ensures) (c .before .before .before .before .before .before .before .before .before .before .before .before .before .before .before .before .before .before .before .if1 .left))) (c .before .before .before .before .before .before .before .before .before .before .before .put-step2 .ensures) (c .before .before .before .before .put-test3 .ensures)) .0)
-    (λ c. put-lengths (held-put (condition-whole (c .before .before .before .before .before .before .before .before .before .before .before .before .before .before .before .before .before .before .before .before .before .before .before .before .before .pre .1) (c .before .before .before .before .before .before .before .before .before .before .before .before .before .before .before .before .start-of .ensures) (condition-is _ _ _ ((c .before .before .before .before .before .before .before .before .before .before .before .before .before .before .before .before .before .before .before .before .before .before .before .before .before .pre .1) .chosen .ends) (c .before .before .before .before .before .before .before .before .before .before .before .before .before .before .before .before .start-of .ensures) (c .before .before .before .before .before .before .before .before .before .before .before .before .before .before .if4 .taken)) (there (c .before .before .before .before .before .before .before .before .before .before .before .before .before .before .before .before .before .before .before .before .before .before .before .before .before .pre .1) (c .before .before .before .before .before .before .before .before .before .before .before .before .before .before .before .before .before .before .before .before .before .shape-of .ensures) (c .before .before .before .before .before .before .before .before .before .before .before .before .before .before .before .before .before .before .before .if1 .left))) (c .before .before .before .before .before .before .before .before .before .before .before .put-step2 .ensures) (c .before .before .before .before .put-test3 .ensures)) .1)
-    (λ c. held-put (condition-whole (c .before .before .before .before .before .before .before .before .before .before .before .before .before .before .before .before .before .before .before .before .before .before .before .before .before .pre .1) (c .before .before .before .before .before .before .before .before .before .before .before .before .before .before .before .before .start-of .ensures) (condition-is _ _ _ ((c .before .before .before .before .before .before .before .before .before .before .before .before .before .before .before .before .before .before .before .before .before .before .before .before .before .pre .1) .chosen .ends) (c .before .before .before .before .before .before .before .before .before .before .before .before .before .before .before .before .start-of .ensures) (c .before .before .before .before .before .before .before .before .before .before .before .before .before .before .if4 .taken)) (there (c .before .before .before .before .before .before .before .before .before .before .before .before .before .before .before .before .before .before .before .before .before .before .before .before .before .pre .1) (c .before .before .before .before .before .before .before .before .before .before .before .before .before .before .before .before .before .before .before .before .before .shape-of .ensures) (c .before .before .before .before .before .before .before .before .before .before .before .before .before .before .before .before .before .before .before .if1 .left))) (c .before .before .before .before .before .before .before .before .before .before .before .put-step2 .ensures) (c .before .before .before .before .put-test3 .ensures))
-    (λ c κs. (join-is _ _ _ ((c .before .before .before .before .before .before .before .before .before .before .before .pre .1) .chosen .ends) (c .before .before .start-of .ensures) (c .before .before .before .if2 .left) (c .if4 .left) (c .before .if3 .left)) .left)
-    (λ c κs. (join-is _ _ _ ((c .before .before .before .before .before .before .before .before .before .before .before .before .pre .1) .chosen .ends) (c .before .before .before .start-of .ensures) (c .before .before .before .before .if2 .left) (c .before .if4 .left) (c .before .before .if3 .left)) .right)
-    (λ c κs. join-picking _ _ _ _ ((c .before .before .before .before .before .before .before .before .before .before .before .before .before .pre .1) .chosen) (join-is _ _ _ ((c .before .before .before .before .before .before .before .before .before .before .before .before .before .pre .1) .chosen .ends) (c .before .before .before .before .start-of .ensures) (c .before .before .before .before .before .if2 .left) (c .before .before .if4 .left) (c .before .before .before .if3 .left)) (c .before .count-of .ensures) (c .count-of2 .ensures))
-    (λ c κs. left-chosen _ _ _ _ ((c .before .before .before .before .before .before .before .before .before .before .before .before .before .before .pre .1) .chosen) (join-is _ _ _ ((c .before .before .before .before .before .before .before .before .before .before .before .before .before .before .pre .1) .chosen .ends) (c .before .before .before .before .before .start-of .ensures) (c .before .before .before .before .before .before .if2 .left) (c .before .before .before .if4 .left) (c .before .before .before .before .if3 .left)) (c .before .before .count-of .ensures) (c .before .count-of2 .ensures) (c .find .ensures))
-    (λ c κs. right-chosen _ _ _ _ ((c .before .before .before .before .before .before .before .before .before .before .before .before .before .before .before .pre .1) .chosen) (join-is _ _ _ ((c .before .before .before .before .before .before .before .before .before .before .before .before .before .before .before .pre .1) .chosen .ends) (c .before .before .before .before .before .before .start-of .ensures) (c .before .before .before .before .before .before .before .if2 .left) (c .before .before .before .before .if4 .left) (c .before .before .before .before .before .if3 .left)) (c .before .before .before .count-of .ensures) (c .before .before .count-of2 .ensures) (c .before .find .ensures))
+    (λ c κs.
+    let c3 = c .before .before .before in
+    (c3 .pre .1) .chosen)
+    (λ c.
+    let c2 = c .before .before in
+    let c6 = c2 .before .before .before .before in
+    beyond (c6 .pre .1) (c2 .shape-of .ensures) (c .if1 .taken))
+    (λ c.
+    let c6 = c .before .before .before .before .before .before in
+    let p = vector-pos _ _ _ ((c6 .pre .1) .chosen .ends) in omega arith)
+    (λ c.
+    let c7 = c .before .before .before .before .before .before .before in
+    let p = vector-pos _ _ _ ((c7 .pre .1) .chosen .ends) in omega (arith, (c7 .pre .1) .chosen .ends .within))
+    (λ c κs.
+    let c2 = c .before .before in
+    let c4 = c2 .before .before in
+    let c6 = c4 .before .before in
+    let c10 = c6 .before .before .before .before in
+    edge-fits (c10 .pre .1) (c2 .if2 .taken) (there (c10 .pre .1) (c6 .shape-of .ensures) (c4 .if1 .left)))
+    (λ c.
+    let c4 = c .before .before .before .before in
+    one-lengths (c4 .put-test .ensures) .0)
+    (λ c.
+    let c4 = c .before .before .before .before in
+    one-lengths (c4 .put-test .ensures) .1)
+    (λ c.
+    let c4 = c .before .before .before .before in
+    let c7 = c4 .before .before .before in
+    let c9 = c7 .before .before in
+    let c11 = c9 .before .before in
+    let c15 = c11 .before .before .before .before in
+    edge-put (c15 .pre .1) (c7 .if2 .taken) (there (c15 .pre .1) (c11 .shape-of .ensures) (c9 .if1 .left)) (c4
+    .put-test .ensures))
+    (λ c κs.
+    let c8 = c .before .before .before .before .before .before .before .before in
+    last-ends _ _ _ ((c8 .pre .1) .chosen .ends) (c .if2 .left))
+    (λ c κs.
+    let c2 = c .before .before in
+    let c3 = c2 .before in
+    let c6 = c3 .before .before .before in
+    let c8 = c6 .before .before in
+    let c12 = c8 .before .before .before .before in
+    let p = vector-pos _ _ _ ((c12 .pre .1) .chosen .ends) in (
+      omega (arith, c12 .pre .0),
+      before-placing (c12
+          .pre .1) (c3 .start-of .ensures) (c2 .if3 .taken) (there (c12 .pre .1) (c8 .shape-of .ensures) (c6 .if1
+          .left)),
+    ))
+    (λ c κs.
+    let c6 = c .before .before .before .before .before .before in
+    let c9 = c6 .before .before .before in
+    let c10 = c9 .before in
+    let c13 = c10 .before .before .before in
+    let c15 = c13 .before .before in
+    let c19 = c15 .before .before .before .before in
+    held-fits (before-whole (c19 .pre .1) (c10 .start-of .ensures) (c9 .if3 .taken) (there (c19 .pre .1) (c15
+    .shape-of .ensures) (c13 .if1 .left))) (c6 .put-step .ensures) (let p = vector-pos _ _ _ ((c19 .pre .1)
+    .chosen .ends) in let l = (c10 .start-of .ensures) .before in omega (
+      arith,
+      (c19 .pre .1) .few,
+      (c19 .pre
+          .1) .chosen .ends .within,
+    )) ((c19 .pre .1) .edges-room) ((c19 .pre .1) .operands-room))
+    (λ c.
+    let c4 = c .before .before .before .before in
+    let c11 = c4 .before .before .before .before .before .before .before in
+    let c14 = c11 .before .before .before in
+    let c15 = c14 .before in
+    let c18 = c15 .before .before .before in
+    let c20 = c18 .before .before in
+    let c24 = c20 .before .before .before .before in
+    put-lengths (held-put (before-whole (c24 .pre .1) (c15 .start-of .ensures) (c14 .if3 .taken) (there (c24
+    .pre .1) (c20 .shape-of .ensures) (c18 .if1 .left))) (c11 .put-step .ensures) (c4 .put-test2 .ensures)) .0)
+    (λ c.
+    let c4 = c .before .before .before .before in
+    let c11 = c4 .before .before .before .before .before .before .before in
+    let c14 = c11 .before .before .before in
+    let c15 = c14 .before in
+    let c18 = c15 .before .before .before in
+    let c20 = c18 .before .before in
+    let c24 = c20 .before .before .before .before in
+    put-lengths (held-put (before-whole (c24 .pre .1) (c15 .start-of .ensures) (c14 .if3 .taken) (there (c24
+    .pre .1) (c20 .shape-of .ensures) (c18 .if1 .left))) (c11 .put-step .ensures) (c4 .put-test2 .ensures)) .1)
+    (λ c.
+    let c4 = c .before .before .before .before in
+    let c11 = c4 .before .before .before .before .before .before .before in
+    let c14 = c11 .before .before .before in
+    let c15 = c14 .before in
+    let c18 = c15 .before .before .before in
+    let c20 = c18 .before .before in
+    let c24 = c20 .before .before .before .before in
+    held-put (before-whole (c24 .pre .1) (c15 .start-of .ensures) (c14 .if3 .taken) (there (c24 .pre .1) (c20
+    .shape-of .ensures) (c18 .if1 .left))) (c11 .put-step .ensures) (c4 .put-test2 .ensures))
+    (λ c κs.
+    let c2 = c .before .before in
+    let c4 = c2 .before .before in
+    let c7 = c4 .before .before .before in
+    let c9 = c7 .before .before in
+    let c13 = c9 .before .before .before .before in
+    let l = (c4 .start-of .ensures) .before in (
+      omega (arith, c13 .pre .0),
+      condition-placing (c13 .pre .1) (c4
+          .start-of .ensures) (condition-is _ _ _ ((c13 .pre .1) .chosen .ends) (c4 .start-of .ensures) (c2 .if4
+          .taken)) (there (c13 .pre .1) (c9 .shape-of .ensures) (c7 .if1 .left)),
+    ))
+    (λ c κs.
+    let c6 = c .before .before .before .before .before .before in
+    let c9 = c6 .before .before .before in
+    let c11 = c9 .before .before in
+    let c14 = c11 .before .before .before in
+    let c16 = c14 .before .before in
+    let c20 = c16 .before .before .before .before in
+    held-fits (condition-whole (c20 .pre .1) (c11 .start-of .ensures) (condition-is _ _ _ ((c20 .pre .1)
+    .chosen .ends) (c11 .start-of .ensures) (c9 .if4 .taken)) (there (c20 .pre .1) (c16 .shape-of .ensures)
+    (c14 .if1 .left))) (c6 .put-step2 .ensures) (let p = vector-pos _ _ _ ((c20 .pre .1) .chosen .ends) in let
+    l = (c11 .start-of .ensures) .before in omega (
+      arith,
+      (c20 .pre .1) .few,
+      (c20 .pre .1) .chosen .ends
+          .within,
+    )) ((c20 .pre .1) .edges-room) ((c20 .pre .1) .operands-room))
+    (λ c.
+    let c4 = c .before .before .before .before in
+    let c11 = c4 .before .before .before .before .before .before .before in
+    let c14 = c11 .before .before .before in
+    let c16 = c14 .before .before in
+    let c19 = c16 .before .before .before in
+    let c21 = c19 .before .before in
+    let c25 = c21 .before .before .before .before in
+    put-lengths (held-put (condition-whole (c25 .pre .1) (c16 .start-of .ensures) (condition-is _ _ _ ((c25
+    .pre .1) .chosen .ends) (c16 .start-of .ensures) (c14 .if4 .taken)) (there (c25 .pre .1) (c21 .shape-of
+    .ensures) (c19 .if1 .left))) (c11 .put-step2 .ensures) (c4 .put-test3 .ensures)) .0)
+    (λ c.
+    let c4 = c .before .before .before .before in
+    let c11 = c4 .before .before .before .before .before .before .before in
+    let c14 = c11 .before .before .before in
+    let c16 = c14 .before .before in
+    let c19 = c16 .before .before .before in
+    let c21 = c19 .before .before in
+    let c25 = c21 .before .before .before .before in
+    put-lengths (held-put (condition-whole (c25 .pre .1) (c16 .start-of .ensures) (condition-is _ _ _ ((c25
+    .pre .1) .chosen .ends) (c16 .start-of .ensures) (c14 .if4 .taken)) (there (c25 .pre .1) (c21 .shape-of
+    .ensures) (c19 .if1 .left))) (c11 .put-step2 .ensures) (c4 .put-test3 .ensures)) .1)
+    (λ c.
+    let c4 = c .before .before .before .before in
+    let c11 = c4 .before .before .before .before .before .before .before in
+    let c14 = c11 .before .before .before in
+    let c16 = c14 .before .before in
+    let c19 = c16 .before .before .before in
+    let c21 = c19 .before .before in
+    let c25 = c21 .before .before .before .before in
+    held-put (condition-whole (c25 .pre .1) (c16 .start-of .ensures) (condition-is _ _ _ ((c25 .pre .1) .chosen
+    .ends) (c16 .start-of .ensures) (c14 .if4 .taken)) (there (c25 .pre .1) (c21 .shape-of .ensures) (c19 .if1
+    .left))) (c11 .put-step2 .ensures) (c4 .put-test3 .ensures))
+    (λ c κs.
+    let c1 = c .before in
+    let c2 = c1 .before in
+    let c3 = c2 .before in
+    let c11 = c3 .before .before .before .before .before .before .before .before in
+    (join-is _ _ _ ((c11 .pre .1) .chosen .ends) (c2 .start-of .ensures) (c3 .if2 .left) (c .if4 .left) (c1
+    .if3 .left)) .left)
+    (λ c κs.
+    let c1 = c .before in
+    let c2 = c1 .before in
+    let c3 = c2 .before in
+    let c4 = c3 .before in
+    let c12 = c4 .before .before .before .before .before .before .before .before in
+    (join-is _ _ _ ((c12 .pre .1) .chosen .ends) (c3 .start-of .ensures) (c4 .if2 .left) (c1 .if4 .left) (c2
+    .if3 .left)) .right)
+    (λ c κs.
+    let c1 = c .before in
+    let c2 = c1 .before in
+    let c3 = c2 .before in
+    let c4 = c3 .before in
+    let c5 = c4 .before in
+    let c13 = c5 .before .before .before .before .before .before .before .before in
+    join-picking _ _ _ _ ((c13 .pre .1) .chosen) (join-is _ _ _ ((c13 .pre .1) .chosen .ends) (c4 .start-of
+    .ensures) (c5 .if2 .left) (c2 .if4 .left) (c3 .if3 .left)) (c1 .count-of .ensures) (c .count-of2 .ensures))
+    (λ c κs.
+    let c1 = c .before in
+    let c2 = c1 .before in
+    let c3 = c2 .before in
+    let c4 = c3 .before in
+    let c5 = c4 .before in
+    let c6 = c5 .before in
+    let c14 = c6 .before .before .before .before .before .before .before .before in
+    left-chosen _ _ _ _ ((c14 .pre .1) .chosen) (join-is _ _ _ ((c14 .pre .1) .chosen .ends) (c5 .start-of
+    .ensures) (c6 .if2 .left) (c3 .if4 .left) (c4 .if3 .left)) (c2 .count-of .ensures) (c1 .count-of2 .ensures)
+    (c .find .ensures))
+    (λ c κs.
+    let c1 = c .before in
+    let c2 = c1 .before in
+    let c3 = c2 .before in
+    let c4 = c3 .before in
+    let c5 = c4 .before in
+    let c6 = c5 .before in
+    let c7 = c6 .before in
+    let c15 = c7 .before .before .before .before .before .before .before .before in
+    right-chosen _ _ _ _ ((c15 .pre .1) .chosen) (join-is _ _ _ ((c15 .pre .1) .chosen .ends) (c6 .start-of
+    .ensures) (c7 .if2 .left) (c4 .if4 .left) (c5 .if3 .left)) (c3 .count-of .ensures) (c2 .count-of2 .ensures)
+    (c1 .find .ensures))
     (λ c κs. search needs)
-    (λ c κs. let l = (c .before .before .before .before .before .before .before .before .before .before .start-of .ensures) .before in (omega (arith, c .before .before .before .before .before .before .before .before .before .before .before .before .before .before .before .before .before .before .before .pre .0), left-placing (c .before .before .before .before .before .before .before .before .before .before .before .before .before .before .before .before .before .before .before .pre .1) (c .before .before .before .before .before .before .before .before .before .before .start-of .ensures) (join-is _ _ _ ((c .before .before .before .before .before .before .before .before .before .before .before .before .before .before .before .before .before .before .before .pre .1) .chosen .ends) (c .before .before .before .before .before .before .before .before .before .before .start-of .ensures) (c .before .before .before .before .before .before .before .before .before .before .before .if2 .left) (c .before .before .before .before .before .before .before .before .if4 .left) (c .before .before .before .before .before .before .before .before .before .if3 .left)) (c .before .before .before .before .before .before .before .count-of .ensures) (c .before .before .before .before .before .before .count-of2 .ensures) (c .before .before .before .before .before .find .ensures) (c .before .before .before .before .shape-of2 .ensures) (c .before .before .before .shape-of3 .ensures) (c .before .before .split .ensures)))
-    (λ c κs. let p = vector-pos _ _ _ ((c .before .before .before .before .before .before .before .before .before .before .before .before .before .before .before .before .before .before .before .before .before .before .before .before .before .before .pre .1) .chosen .ends) in (omega (arith, c .before .before .before .before .before .before .before .before .before .before .before .before .before .before .before .before .before .before .before .before .before .before .before .before .before .before .pre .0), right-placing (c .before .before .before .before .before .before .before .before .before .before .before .before .before .before .before .before .before .before .before .before .before .before .before .before .before .before .pre .1) (c .before .before .before .before .before .before .before .before .before .before .before .before .before .before .before .before .before .start-of .ensures) (join-is _ _ _ ((c .before .before .before .before .before .before .before .before .before .before .before .before .before .before .before .before .before .before .before .before .before .before .before .before .before .before .pre .1) .chosen .ends) (c .before .before .before .before .before .before .before .before .before .before .before .before .before .before .before .before .before .start-of .ensures) (c .before .before .before .before .before .before .before .before .before .before .before .before .before .before .before .before .before .before .if2 .left) (c .before .before .before .before .before .before .before .before .before .before .before .before .before .before .before .if4 .left) (c .before .before .before .before .before .before .before .before .before .before .before .before .before .before .before .before .if3 .left)) (c .before .before .before .before .before .before .before .before .before .before .before .before .before .before .count-of .ensures) (c .before .before .before .before .before .before .before .before .before .before .before .before .before .count-of2 .ensures) (c .before .before .before .before .before .before .before .before .before .before .before .before .find .ensures) (c .before .before .before .before .before .before .before .before .before .before .before .shape-of2 .ensures) (c .before .before .before .before .before .before .before .before .before .before .shape-of3 .ensures) (c .before .before .before .before .before .before .before .before .before .split .ensures) (c .before .before .before .before .before .before .put-step3 .ensures)))
-    (λ c. put-lengths (join-put (c .before .before .before .before .before .before .before .before .before .before .before .before .before .before .before .before .before .before .before .before .before .before .before .before .before .before .before .before .before .before .before .pre .1) (c .before .before .before .before .before .before .before .before .before .before .before .before .before .before .before .before .before .before .before .before .before .before .start-of .ensures) (join-is _ _ _ ((c .before .before .before .before .before .before .before .before .before .before .before .before .before .before .before .before .before .before .before .before .before .before .before .before .before .before .before .before .before .before .before .pre .1) .chosen .ends) (c .before .before .before .before .before .before .before .before .before .before .before .before .before .before .before .before .before .before .before .before .before .before .start-of .ensures) (c .before .before .before .before .before .before .before .before .before .before .before .before .before .before .before .before .before .before .before .before .before .before .before .if2 .left) (c .before .before .before .before .before .before .before .before .before .before .before .before .before .before .before .before .before .before .before .before .if4 .left) (c .before .before .before .before .before .before .before .before .before .before .before .before .before .before .before .before .before .before .before .before .before .if3 .left)) (c .before .before .before .before .before .before .before .before .before .before .before .before .before .before .before .before .before .before .before .count-of .ensures) (c .before .before .before .before .before .before .before .before .before .before .before .before .before .before .before .before .before .before .count-of2 .ensures) (c .before .before .before .before .before .before .before .before .before .before .before .before .before .before .before .before .before .find .ensures) (c .before .before .before .before .before .before .before .before .before .before .before .before .before .before .before .before .shape-of2 .ensures) (c .before .before .before .before .before .before .before .before .before .before .before .before .before .before .before .shape-of3 .ensures) (c .before .before .before .before .before .before .before .before .before .before .before .before .before .before .split .ensures) (c .before .before .before .before .before .before .before .before .before .before .before .put-step3 .ensures) (c .before .before .before .before .put-step4 .ensures)) .0)
-    (λ c. put-lengths (join-put (c .before .before .before .before .before .before .before .before .before .before .before .before .before .before .before .before .before .before .before .before .before .before .before .before .before .before .before .before .before .before .before .pre .1) (c .before .before .before .before .before .before .before .before .before .before .before .before .before .before .before .before .before .before .before .before .before .before .start-of .ensures) (join-is _ _ _ ((c .before .before .before .before .before .before .before .before .before .before .before .before .before .before .before .before .before .before .before .before .before .before .before .before .before .before .before .before .before .before .before .pre .1) .chosen .ends) (c .before .before .before .before .before .before .before .before .before .before .before .before .before .before .before .before .before .before .before .before .before .before .start-of .ensures) (c .before .before .before .before .before .before .before .before .before .before .before .before .before .before .before .before .before .before .before .before .before .before .before .if2 .left) (c .before .before .before .before .before .before .before .before .before .before .before .before .before .before .before .before .before .before .before .before .if4 .left) (c .before .before .before .before .before .before .before .before .before .before .before .before .before .before .before .before .before .before .before .before .before .if3 .left)) (c .before .before .before .before .before .before .before .before .before .before .before .before .before .before .before .before .before .before .before .count-of .ensures) (c .before .before .before .before .before .before .before .before .before .before .before .before .before .before .before .before .before .before .count-of2 .ensures) (c .before .before .before .before .before .before .before .before .before .before .before .before .before .before .before .before .before .find .ensures) (c .before .before .before .before .before .before .before .before .before .before .before .before .before .before .before .before .shape-of2 .ensures) (c .before .before .before .before .before .before .before .before .before .before .before .before .before .before .before .shape-of3 .ensures) (c .before .before .before .before .before .before .before .before .before .before .before .before .before .before .split .ensures) (c .before .before .before .before .before .before .before .before .before .before .before .put-step3 .ensures) (c .before .before .before .before .put-step4 .ensures)) .1)
-    (λ c. join-put (c .before .before .before .before .before .before .before .before .before .before .before .before .before .before .before .before .before .before .before .before .before .before .before .before .before .before .before .before .before .before .before .pre .1) (c .before .before .before .before .before .before .before .before .before .before .before .before .before .before .before .before .before .before .before .before .before .before .start-of .ensures) (join-is _ _ _ ((c .before .before .before .before .before .before .before .before .before .before .before .before .before .before .before .before .before .before .before .before .before .before .before .before .before .before .before .before .before .before .before .pre .1) .chosen .ends) (c .before .before .before .before .before .before .before .before .before .before .before .before .before .before .before .before .before .before .before .before .before .before .start-of .ensures) (c .before .before .before .before .before .before .before .before .before .before .before .before .before .before .before .before .before .before .before .before .before .before .before .if2 .left) (c .before .before .before .before .before .before .before .before .before .before .before .before .before .before .before .before .before .before .before .before .if4 .left) (c .before .before .before .before .before .before .before .before .before .before .before .before .before .before .before .before .before .before .before .before .before .if3 .left)) (c .before .before .before .before .before .before .before .before .before .before .before .before .before .before .before .before .before .before .before .count-of .ensures) (c .before .before .before .before .before .before .before .before .before .before .before .before .before .before .before .before .before .before .count-of2 .ensures) (c .before .before .before .before .before .before .before .before .before .before .before .before .before .before .before .before .before .find .ensures) (c .before .before .before .before .before .before .before .before .before .before .before .before .before .before .before .before .shape-of2 .ensures) (c .before .before .before .before .before .before .before .before .before .before .before .before .before .before .before .shape-of3 .ensures) (c .before .before .before .before .before .before .before .before .before .before .before .before .before .before .split .ensures) (c .before .before .before .before .before .before .before .before .before .before .before .put-step3 .ensures) (c .before .before .before .before .put-step4 .ensures))
+    (λ c κs.
+    let c2 = c .before .before in
+    let c3 = c2 .before in
+    let c4 = c3 .before in
+    let c5 = c4 .before in
+    let c6 = c5 .before in
+    let c7 = c6 .before in
+    let c8 = c7 .before in
+    let c9 = c8 .before in
+    let c10 = c9 .before in
+    let c11 = c10 .before in
+    let c19 = c11 .before .before .before .before .before .before .before .before in
+    let l = (c10 .start-of .ensures) .before in (
+      omega (arith, c19 .pre .0),
+      left-placing (c19 .pre .1) (c10
+          .start-of .ensures) (join-is _ _ _ ((c19 .pre .1) .chosen .ends) (c10 .start-of .ensures) (c11 .if2 .left)
+          (c8 .if4 .left) (c9 .if3 .left)) (c7 .count-of .ensures) (c6 .count-of2 .ensures) (c5 .find .ensures) (c4
+          .shape-of2 .ensures) (c3 .shape-of3 .ensures) (c2 .split .ensures),
+    ))
+    (λ c κs.
+    let c6 = c .before .before .before .before .before .before in
+    let c9 = c6 .before .before .before in
+    let c10 = c9 .before in
+    let c11 = c10 .before in
+    let c12 = c11 .before in
+    let c13 = c12 .before in
+    let c14 = c13 .before in
+    let c15 = c14 .before in
+    let c16 = c15 .before in
+    let c17 = c16 .before in
+    let c18 = c17 .before in
+    let c26 = c18 .before .before .before .before .before .before .before .before in
+    let p = vector-pos _ _ _ ((c26 .pre .1) .chosen .ends) in (
+      omega (arith, c26 .pre .0),
+      right-placing (c26
+          .pre .1) (c17 .start-of .ensures) (join-is _ _ _ ((c26 .pre .1) .chosen .ends) (c17 .start-of .ensures)
+          (c18 .if2 .left) (c15 .if4 .left) (c16 .if3 .left)) (c14 .count-of .ensures) (c13 .count-of2 .ensures) (c12
+          .find .ensures) (c11 .shape-of2 .ensures) (c10 .shape-of3 .ensures) (c9 .split .ensures) (c6 .put-step3
+          .ensures),
+    ))
+    (λ c.
+    let c4 = c .before .before .before .before in
+    let c11 = c4 .before .before .before .before .before .before .before in
+    let c14 = c11 .before .before .before in
+    let c15 = c14 .before in
+    let c16 = c15 .before in
+    let c17 = c16 .before in
+    let c18 = c17 .before in
+    let c19 = c18 .before in
+    let c20 = c19 .before in
+    let c21 = c20 .before in
+    let c22 = c21 .before in
+    let c23 = c22 .before in
+    let c31 = c23 .before .before .before .before .before .before .before .before in
+    put-lengths (join-put (c31 .pre .1) (c22 .start-of .ensures) (join-is _ _ _ ((c31 .pre .1) .chosen .ends)
+    (c22 .start-of .ensures) (c23 .if2 .left) (c20 .if4 .left) (c21 .if3 .left)) (c19 .count-of .ensures) (c18
+    .count-of2 .ensures) (c17 .find .ensures) (c16 .shape-of2 .ensures) (c15 .shape-of3 .ensures) (c14 .split
+    .ensures) (c11 .put-step3 .ensures) (c4 .put-step4 .ensures)) .0)
+    (λ c.
+    let c4 = c .before .before .before .before in
+    let c11 = c4 .before .before .before .before .before .before .before in
+    let c14 = c11 .before .before .before in
+    let c15 = c14 .before in
+    let c16 = c15 .before in
+    let c17 = c16 .before in
+    let c18 = c17 .before in
+    let c19 = c18 .before in
+    let c20 = c19 .before in
+    let c21 = c20 .before in
+    let c22 = c21 .before in
+    let c23 = c22 .before in
+    let c31 = c23 .before .before .before .before .before .before .before .before in
+    put-lengths (join-put (c31 .pre .1) (c22 .start-of .ensures) (join-is _ _ _ ((c31 .pre .1) .chosen .ends)
+    (c22 .start-of .ensures) (c23 .if2 .left) (c20 .if4 .left) (c21 .if3 .left)) (c19 .count-of .ensures) (c18
+    .count-of2 .ensures) (c17 .find .ensures) (c16 .shape-of2 .ensures) (c15 .shape-of3 .ensures) (c14 .split
+    .ensures) (c11 .put-step3 .ensures) (c4 .put-step4 .ensures)) .1)
+    (λ c.
+    let c4 = c .before .before .before .before in
+    let c11 = c4 .before .before .before .before .before .before .before in
+    let c14 = c11 .before .before .before in
+    let c15 = c14 .before in
+    let c16 = c15 .before in
+    let c17 = c16 .before in
+    let c18 = c17 .before in
+    let c19 = c18 .before in
+    let c20 = c19 .before in
+    let c21 = c20 .before in
+    let c22 = c21 .before in
+    let c23 = c22 .before in
+    let c31 = c23 .before .before .before .before .before .before .before .before in
+    join-put (c31 .pre .1) (c22 .start-of .ensures) (join-is _ _ _ ((c31 .pre .1) .chosen .ends) (c22 .start-of
+    .ensures) (c23 .if2 .left) (c20 .if4 .left) (c21 .if3 .left)) (c19 .count-of .ensures) (c18 .count-of2
+    .ensures) (c17 .find .ensures) (c16 .shape-of2 .ensures) (c15 .shape-of3 .ensures) (c14 .split .ensures)
+    (c11 .put-step3 .ensures) (c4 .put-step4 .ensures))
