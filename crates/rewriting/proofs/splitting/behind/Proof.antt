@@ -1,0 +1,13 @@
+-- `rewriting::splitting::behind` meets its contract. Assumes nothing.
+use Rattle.rewriting.proofs.Splits.{behind-empty, behind-own}
+use Rattle.rewriting.proofs.splitting.behind.Statement.{statement}
+use Rattle.rewriting.proofs.splitting.behind.Tie as tie
+
+returns : tie.Need-returns
+returns c = behind-empty _ _ _ (c .if1 .taken)
+
+returns-2 : tie.Need-returns-2
+returns-2 c = behind-own _ _ _ (c .if1 .left)
+
+pub behind-spec : {M : Type 1} → statement M
+behind-spec = tie.close (tie.spec returns returns-2)

@@ -1,0 +1,3 @@
+// The alternatives of a tree, written into lent lists.
+pub mod splitting;
+pub mod steps;
