@@ -114,8 +114,8 @@ boolean-depth (literal s) l h = sym (bracketed-none l (boolean (literal s)) 0 (o
 boolean-depth (negated a) l h = boolean-depth a 1 (lit≤ tt) ∙ sym (bracketed-none l (boolean (negated a)) _ h)
 boolean-depth (binary o a b) l h =
     let k = binary-between o .0 in
-    two-depth l (binaryLevel o) (binaryByte o) (booleanTree a) (booleanTree b) (boolean (binary o a b)) (binary-level o)
-    refl (boolean-depth a _ (omega arith)) (boolean-depth b _ (omega arith))
+    two-depth l (binaryLevel o) (binaryByte o) (booleanTree a) (booleanTree b) (boolean (binary o a b))
+    (binary-level o) refl (boolean-depth a _ (omega arith)) (boolean-depth b _ (omega arith))
 boolean-depth (choice c a b) l h =
     rw (
       boolean-depth c 5 (lit≤ tt),

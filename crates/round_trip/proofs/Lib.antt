@@ -5,3 +5,6 @@ pub mod Depths
 pub mod Counted
 pub mod Numbered
 pub mod Given
+pub mod Stable
+pub mod Pairs
+pub mod Theorems

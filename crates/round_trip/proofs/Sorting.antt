@@ -1,4 +1,4 @@
--- The sort pass goes by the codes of tokens and the numbers of names: an expression's tree is sorted as the expression.
+-- The sort pass goes by the codes of tokens and the numbers of names: an expression's tree is sorted as it.
 --   Agree, sorted-renumbered   with numbers for places the sort pass says the same, but for the places of faults
 --   tree-sorted                the tree of an expression is sorted as the expression
 --   matched-sorted             and so is every tree that is the same up to places
@@ -101,7 +101,8 @@ sorted-renumbered number (three t c a b) =
     (λ x. agree-given _ _ (sorted-renumbered number b) (three-renumbered number t z x)))
 
 -- the operators of an expression take its operands
-of-binary : (o : Binary) (a b : Boolean) → ofTwo (made (binaryByte o)) (boolean a) (boolean b) ≡ is (boolean (binary o a b))
+of-binary : (o : Binary) (a b : Boolean)
+    → ofTwo (made (binaryByte o)) (boolean a) (boolean b) ≡ is (boolean (binary o a b))
 unfolding ofTwo binaryByte binaryAt
 of-binary and a b = refl
 of-binary or a b = refl
