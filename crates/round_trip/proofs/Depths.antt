@@ -2,8 +2,7 @@
 -- tree. Main name: tree-depth. Assumes nothing.
 use Prim.Native.Nat.{ℕ, zero, suc, pred, _+_, _-_, _<_, _≤_, max}
 use native.Mathlib.Omega.{arith}
-use mathlib.Core.Path.{_≡_, refl, sym, ap, _∙_}
-use mathlib.Core.Bool.{Bool, true, false}
+use mathlib.Core.Path.{_≡_, refl, sym, _∙_}
 use mathlib.Core.Logic.{_⊎_, inl, inr}
 use lib.Dec.{leb, ltb, lit≤}
 use borrow.Author.Tests.{lt-ltb, le-ltb, le-leb, lt-leb}
@@ -14,8 +13,8 @@ use Rattle.alf.specs.Expressions.{Join, followed-by, either-order, with-or-then
 use Rattle.alf.specs.Expressions.{on-right, on-left, Expression, boolean, vector}
 use Rattle.alf.specs.Bytes.{binaryByte}
 use Rattle.alf.proofs.Bools.{below?}
-use Rattle.grammar.specs.Tokens.{table, kindIn, kind, kindOf}
-use Rattle.grammar.specs.Grammar.{Tree, leaf, one, two, three}
+use Rattle.grammar.specs.Tokens.{table, kindIn, kind}
+use Rattle.grammar.specs.Grammar.{Tree, two}
 use Rattle.grammar.specs.Written.{made, deepened}
 use Rattle.grammar.specs.Written as text
 use Rattle.trees.specs.Brackets.{binaryLevel, joinLevel, levelOf, bracketed, booleanDepth, vectorDepth, depthOf}

@@ -1,21 +1,19 @@
 -- The text of an accepted tree, of whatever length, gives the expression that the tree is.
 -- Main names: written-gives, text-gives. Assumes nothing.
-use Prim.Native.Nat.{ℕ, _+_, _/_, _<_, _≤_}
+use Prim.Native.Nat.{ℕ, _≤_}
 use native.Mathlib.Omega.{arith}
 use mathlib.Core.Path.{_≡_, refl, sym, ap, _∙_}
-use mathlib.Core.Bool.{true, false}
-use mathlib.Core.List.{List, [], _∷_, map}
+use mathlib.Core.Bool.{false}
+use mathlib.Core.List.{List, map}
 use lib.ListN.{length}
 use Rattle.alf.specs.declared.Sort.{Sort}
 use Rattle.alf.specs.Expressions.{Expression, boolean, vector, ExpressionOver}
 use Rattle.alf.specs.Bytes.{bytesOf}
-use Rattle.alf.specs.Alternatives.{alternatives, overLimit}
 use Rattle.alf.proofs.Bools.{never}
 use Rattle.alf.proofs.Decoding.{bytes-decode, decode-over}
 use Rattle.tokens.specs.Texts as texts
 use Rattle.grammar.specs.declared.Token.{Token}
 use Rattle.grammar.specs.Tokens.{counted}
-use Rattle.grammar.specs.Grammar.{nodes}
 use Rattle.grammar.specs.Answers.{codesOf}
 use Rattle.grammar.specs.Written.{written, depth}
 use Rattle.grammar.proofs.Written.{expression-formed}
@@ -25,11 +23,11 @@ use Rattle.trees.specs.Parts.{expressionAt}
 use Rattle.trees.specs.Brackets.{depthOf}
 use Rattle.limits.specs.Accepted.{Accepted, sortOf, overSize}
 use Rattle.reader.specs.Lookup.{countOf, numberAt}
-use Rattle.reader.specs.Sorts.{Sorted, is, faulty, given, asked, sortedFor}
+use Rattle.reader.specs.Sorts.{is, given, asked, sortedFor}
 use Rattle.reader.specs.Texts.{tokensOf}
-use Rattle.reader.specs.Reading.{tooLarge, sortedIn, Gives}
+use Rattle.reader.specs.Reading.{tooLarge, Gives}
 use Rattle.writer.specs.Trees.{treeOf}
-use Rattle.writer.specs.Spelled.{textOf, text}
+use Rattle.writer.specs.Spelled.{text}
 use Rattle.writer.specs.Placed.{placed}
 use Rattle.writer.specs.Writing.{textAt, Named}
 use Rattle.writer.proofs.Reading.{AllKnown}
@@ -74,7 +72,9 @@ module _ {names : List ℕ} (h : Named names) (x : Expression) (o : ExpressionOv
 
   pub codes-there : codesOf (tokensOf there) ≡ codesOf written-tokens
   codes-there =
-      sym (codes-renumbered number (tokensOf there)) ∙ ap codesOf same-tokens ∙ codes-renumbered (λ k. k) written-tokens
+      sym (codes-renumbered number (tokensOf there))
+      ∙ ap codesOf same-tokens
+      ∙ codes-renumbered (λ k. k) written-tokens
 
   tree-there : Matched number (λ k. k) (tokensOf there) (treeOf x)
   tree-there = matched number (λ k. k) same-tokens (text-parses h x o)

@@ -3,7 +3,7 @@
 --   fewer-other          tokens with fewer brackets are not that tree, whatever their places
 --   pair-left-out        nor are the written tokens with an opening and a closing bracket left out
 -- Assumes nothing.
-use Prim.Native.Nat.{ℕ, suc, pred, _+_, _<_, _≤_}
+use Prim.Native.Nat.{ℕ, pred, _+_, _<_}
 use native.Mathlib.Omega.{arith}
 use mathlib.Core.Path.{_≡_, refl, sym, ap, _∙_}
 use mathlib.Core.Bool.{Bool, true, false}
@@ -12,7 +12,7 @@ use lib.Dec.{eqb, leb}
 use lib.ListN.{length}
 use Rattle.alf.specs.Words.{if_then_else_}
 use Rattle.grammar.specs.declared.Token.{Token}
-use Rattle.grammar.specs.Tokens.{Kind, opening, closing, kind, kindOf}
+use Rattle.grammar.specs.Tokens.{opening, closing, kindOf}
 use Rattle.grammar.specs.Grammar.{Tree, leaf, one, two, three, nodes, Expression}
 use Rattle.grammar.specs.Answers.{codesOf}
 use Rattle.grammar.specs.Written.{made, levelOf, fitted, written, opens, brackets}
@@ -20,7 +20,7 @@ use Rattle.grammar.specs.Written.{Formed, leaf-is, one-is, two-is, three-is}
 use Rattle.grammar.proofs.Nodes.{nodes-unique}
 use Rattle.grammar.proofs.Written.{expression-formed}
 use Rattle.grammar.proofs.Fewest.{written-fewest}
-use Rattle.round_trip.proofs.Renumbering.{renumbered, renumberedTree, codes-renumbered}
+use Rattle.round_trip.proofs.Renumbering.{renumbered, renumberedTree}
 
 -- all places and all names taken away
 abbrev bare : Token → Token
@@ -74,7 +74,8 @@ module _ (number : ℕ → ℕ) where
       go false = rw map-append refl
 
   seam-renumbered : (ts us : List Token) (t : Token) {ts′ us′ : List Token} → ts′ ≡ map (renumbered number) ts
-      → us′ ≡ map (renumbered number) us → ts′ ++ (renumbered number t ∷ us′) ≡ map (renumbered number) (ts ++ (t ∷ us))
+      → us′ ≡ map (renumbered number) us
+      → ts′ ++ (renumbered number t ∷ us′) ≡ map (renumbered number) (ts ++ (t ∷ us))
   seam-renumbered ts us t a b = rw (a, b) (sym (map-append (renumbered number) ts (t ∷ us)))
 
   written-renumbered : (e : Tree) (l : ℕ)

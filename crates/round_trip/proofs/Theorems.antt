@@ -1,5 +1,7 @@
 -- Reading what was written, for every list of names, tree and buffer.
---   read-write           reading a written text gives the tree, byte for byte
+--   written-read         a written text is read as the expression that the tree is
+--   read-write           so reading a written text gives the tree, byte for byte
+--   read-again           writing what was read and reading it again gives the same result
 --   written-at-limit     a tree whose text has exactly 4,096 bytes is written, given room
 --   refused-past-limit   one whose text has more is refused with 1 at 4,096
 --   one-pair-less        the tokens of a written text with a pair of brackets left out are another tree, or none
@@ -8,7 +10,7 @@ use Prim.Native.Nat.{ℕ, _<_, _≤_}
 use native.Mathlib.Omega.{arith}
 use mathlib.Core.Path.{_≡_, refl, sym, ap, _∙_}
 use mathlib.Core.Bool.{false}
-use mathlib.Core.List.{List, [], _∷_, _++_}
+use mathlib.Core.List.{List, _∷_, _++_}
 use mathlib.Core.Logic.{_⊎_, inl, inr}
 use lib.ListN.{length, take}
 use lib.Seq.{take-at}
@@ -35,7 +37,7 @@ use Rattle.reader.specs.declared.Read.{Read}
 use Rattle.reader.specs.Texts.{tokensOf}
 use Rattle.reader.specs.Reads.{made}
 use Rattle.reader.specs.Reading.{Reading}
-use Rattle.reader.proofs.Unique.{read-complete}
+use Rattle.reader.proofs.Unique.{read-unique, read-sound, gives-read}
 use Rattle.writer.specs.Trees.{treeOf}
 use Rattle.writer.specs.Spelled.{text}
 use Rattle.writer.specs.Writing.{countOf, textAt, order, after, Writes, Named, endOrder}
@@ -93,15 +95,46 @@ made-as x e b =
       all = ap (λ (s : Read). s .tree) e ∙ ap padded b;
     }
 
+pub written-read : {names tree : List ℕ} {sort : Sort} {out out′ : List ℕ} {k : ℕ}
+    → Writes names tree sort out out′ (Done k)
+    → Reading names (take k out′) sort (made (expressionAt tree (countOf names) (length tree)))
+written-read w =
+    let g = was-written w in
+    rw (g .is) (gives-read (g .named .passed) (rw (g .is) at (g .short)) (written-gives (g .named) (g .accepted)))
+
 pub read-write : {names tree : List ℕ} {sort : Sort} {out out′ : List ℕ} {k : ℕ} {r : Read}
     → Writes names tree sort out out′ (Done k) → Reading names (take k out′) sort r → ReadAs tree r
 read-write {names} {tree} {sort} w v =
-    let g = was-written w in
-    let a = g .accepted in
+    let a = was-written w .accepted in
     let n = countOf names in
-    let e = read-complete (g .named .passed) (rw (g .is) at (g .short)) (written-gives (g .named) a) (rw (g .is) at v) in
-    made-as (expressionAt tree n (length tree)) e
+    made-as (expressionAt tree n (length tree)) (read-unique v (written-read w))
     (ap bytesOf (decoded n tree (a .expression) (a .decodes)) ∙ bytes-decode n tree (a .expression) (a .decodes))
+
+-- what is read is told by its bytes alone
+abbrev readOf : List ℕ → Read
+readOf bs =
+    record { refused = false; refusal = record { number = 0; place = 0 }; len = length bs; tree = padded bs }
+
+made-same : (x y : Expression) → bytesOf x ≡ bytesOf y → made x ≡ made y
+unfolding made
+made-same x y b = ap readOf b
+
+front : (xs : List ℕ) → take (length xs) (padded xs) ≡ xs
+unfolding padded
+front xs = take-at xs _ (length xs) refl
+
+tree-of : (x : Expression) → take (made x .len) (made x .tree) ≡ bytesOf x
+unfolding made
+tree-of x = front (bytesOf x)
+
+pub read-again : {names bytes : List ℕ} {sort : Sort} {q r : Read} {out out′ : List ℕ} {k : ℕ}
+    → Reading names bytes sort q → q .refused ≡ false
+    → Writes names (take (q .len) (q .tree)) sort out out′ (Done k) → Reading names (take k out′) sort r → r ≡ q
+read-again {q = q} u n w v =
+    let s = read-sound u n in
+    let a = read-write w v in
+    let b = a .bytes ∙ ap (λ (z : Read). take (z .len) (z .tree)) (s .is-it) ∙ tree-of (s .it) in
+    a .is-it ∙ made-same (a .it) (s .it) b ∙ sym (s .is-it)
 
 -- at the limit of 4,096 bytes, and past it
 module _ {names tree : List ℕ} {sort : Sort} {out out′ : List ℕ} {r : Outcome} (h : Named names)
@@ -152,5 +185,5 @@ module _ {names : List ℕ} (h : Named names) (x : Expression) (o : ExpressionOv
       → codesOf (nodes e) ≡ codesOf (nodes (treeOf x)) → ⊥
   one-pair-less {ts} r p e q =
       let s = ap tokensOf (reads-unique r (text-tokens h x o)) in
-      pair-left-out (expression-formed (text-parses h x o)) (tokensOf ts) (p .before) (p .inside) (p .behind) (p .opener)
-      (p .closer) (ap codesOf s ∙ codes-there h x o) (p .had) (p .opens) (p .closes) e (rw (p .has) at q)
+      pair-left-out (expression-formed (text-parses h x o)) (tokensOf ts) (p .before) (p .inside) (p .behind)
+      (p .opener) (p .closer) (ap codesOf s ∙ codes-there h x o) (p .had) (p .opens) (p .closes) e (rw (p .has) at q)
