@@ -1,6 +1,7 @@
 -- From the tokens of a text to what the parser asks of them.
 --   reads-inside    each token begins inside the text
 --   reads-rises     each begins before the next, the last before the text's end
+--   counts          a token is counted by its code as by its kind
 --   few-counted     where refusal 4 is not given, at most 256 are counted
 --   nodes-inside    what holds of each token of a text holds of each node of its tree
 -- Assumes nothing.
@@ -93,7 +94,7 @@ weigh c = go (below? c 148)
     go (inl l) = eqb-true _ _ (every-at 148 (λ c. eqb (weight (kind c)) (if light c then 0 else 1)) weigh-near c l)
     go (inr l) = weigh-far c l
 
-counts : (c n : ℕ) → text.counted c n ≡ n + weight (kind c)
+pub counts : (c n : ℕ) → text.counted c n ≡ n + weight (kind c)
 unfolding text.counted
 counts c n = rw (weigh c) (go (light c))
   where
