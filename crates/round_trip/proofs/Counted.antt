@@ -6,7 +6,7 @@
 -- Assumes nothing.
 use Prim.Native.Nat.{ℕ, zero, suc, pred, _+_, _-_, _<_, _≤_, max}
 use native.Mathlib.Omega.{arith}
-use mathlib.Core.Path.{_≡_, refl, sym, ap, _∙_}
+use mathlib.Core.Path.{_≡_, refl, sym, ap}
 use mathlib.Core.Bool.{Bool, true, false, _||_}
 use mathlib.Core.List.{List, [], _∷_, map}
 use mathlib.Core.Logic.{_⊎_, inl, inr}
@@ -83,7 +83,8 @@ unfolding running depth tokens reading.codesOf reading.placesOf
 running-depth [] n p = omega arith
 running-depth (t ∷ ts) n p = go (leb (t .place) p) (running-depth ts (text.opened (t .code) n) p)
   where
-    go : (b : Bool) → running text.opened (text.opened (t .code) n) ts p ≤ depth (text.opened (t .code) n) (tokensOf ts)
+    go : (b : Bool)
+        → running text.opened (text.opened (t .code) n) ts p ≤ depth (text.opened (t .code) n) (tokensOf ts)
         → (if b then running text.opened (text.opened (t .code) n) ts p else n)
         ≤ max n (depth (opened (kind (t .code)) n) (tokensOf ts))
     go true h = omega (arith, h, ap (λ (d : ℕ). depth d (tokensOf ts)) (opens (t .code) n))
@@ -98,7 +99,8 @@ unfolding running counted tokens reading.codesOf reading.placesOf
 running-counted [] n p = omega arith
 running-counted (t ∷ ts) n p = go (leb (t .place) p) (running-counted ts (text.counted (t .code) n) p)
   where
-    go : (b : Bool) → running text.counted (text.counted (t .code) n) ts p ≤ text.counted (t .code) n + counted (tokensOf ts)
+    go : (b : Bool)
+        → running text.counted (text.counted (t .code) n) ts p ≤ text.counted (t .code) n + counted (tokensOf ts)
         → (if b then running text.counted (text.counted (t .code) n) ts p else n)
         ≤ n + (weight (kind (t .code)) + counted (tokensOf ts))
     go true h = omega (arith, h, counts (t .code) n)

@@ -2,8 +2,7 @@
 -- tree. Main name: tree-depth. Assumes nothing.
 use Prim.Native.Nat.{ℕ, zero, suc, pred, _+_, _-_, _<_, _≤_, max}
 use native.Mathlib.Omega.{arith}
-use mathlib.Core.Path.{_≡_, refl, sym, ap, _∙_}
-use mathlib.Core.Bool.{Bool, true, false}
+use mathlib.Core.Path.{_≡_, refl, sym, _∙_}
 use mathlib.Core.Logic.{_⊎_, inl, inr}
 use lib.Dec.{leb, ltb, lit≤}
 use borrow.Author.Tests.{lt-ltb, le-ltb, le-leb, lt-leb}
@@ -14,8 +13,8 @@ use Rattle.alf.specs.Expressions.{Join, followed-by, either-order, with-or-then
 use Rattle.alf.specs.Expressions.{on-right, on-left, Expression, boolean, vector}
 use Rattle.alf.specs.Bytes.{binaryByte}
 use Rattle.alf.proofs.Bools.{below?}
-use Rattle.grammar.specs.Tokens.{table, kindIn, kind, kindOf}
-use Rattle.grammar.specs.Grammar.{Tree, leaf, one, two, three}
+use Rattle.grammar.specs.Tokens.{table, kindIn, kind}
+use Rattle.grammar.specs.Grammar.{Tree, two}
 use Rattle.grammar.specs.Written.{made, deepened}
 use Rattle.grammar.specs.Written as text
 use Rattle.trees.specs.Brackets.{binaryLevel, joinLevel, levelOf, bracketed, booleanDepth, vectorDepth, depthOf}
@@ -114,8 +113,8 @@ boolean-depth (literal s) l h = sym (bracketed-none l (boolean (literal s)) 0 (o
 boolean-depth (negated a) l h = boolean-depth a 1 (lit≤ tt) ∙ sym (bracketed-none l (boolean (negated a)) _ h)
 boolean-depth (binary o a b) l h =
     let k = binary-between o .0 in
-    two-depth l (binaryLevel o) (binaryByte o) (booleanTree a) (booleanTree b) (boolean (binary o a b)) (binary-level o)
-    refl (boolean-depth a _ (omega arith)) (boolean-depth b _ (omega arith))
+    two-depth l (binaryLevel o) (binaryByte o) (booleanTree a) (booleanTree b) (boolean (binary o a b))
+    (binary-level o) refl (boolean-depth a _ (omega arith)) (boolean-depth b _ (omega arith))
 boolean-depth (choice c a b) l h =
     rw (
       boolean-depth c 5 (lit≤ tt),

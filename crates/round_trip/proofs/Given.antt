@@ -1,21 +1,20 @@
 -- The text of an accepted tree, of whatever length, gives the expression that the tree is.
 -- Main names: written-gives, text-gives. Assumes nothing.
-use Prim.Native.Nat.{ℕ, _+_, _/_, _<_, _≤_}
+use Prim.Native.Nat.{ℕ, _≤_}
 use native.Mathlib.Omega.{arith}
 use mathlib.Core.Path.{_≡_, refl, sym, ap, _∙_}
-use mathlib.Core.Bool.{true, false}
-use mathlib.Core.List.{List, [], _∷_, map}
+use mathlib.Core.Bool.{false}
+use mathlib.Core.List.{List, map}
 use lib.ListN.{length}
 use Rattle.alf.specs.declared.Sort.{Sort}
 use Rattle.alf.specs.Expressions.{Expression, boolean, vector, ExpressionOver}
 use Rattle.alf.specs.Bytes.{bytesOf}
-use Rattle.alf.specs.Alternatives.{alternatives, overLimit}
 use Rattle.alf.proofs.Bools.{never}
 use Rattle.alf.proofs.Decoding.{bytes-decode, decode-over}
 use Rattle.tokens.specs.Texts as texts
 use Rattle.grammar.specs.declared.Token.{Token}
 use Rattle.grammar.specs.Tokens.{counted}
-use Rattle.grammar.specs.Grammar.{nodes}
+use Rattle.grammar.specs.Answers.{codesOf}
 use Rattle.grammar.specs.Written.{written, depth}
 use Rattle.grammar.proofs.Written.{expression-formed}
 use Rattle.grammar.proofs.Fewest.{counted-nodes}
@@ -24,18 +23,18 @@ use Rattle.trees.specs.Parts.{expressionAt}
 use Rattle.trees.specs.Brackets.{depthOf}
 use Rattle.limits.specs.Accepted.{Accepted, sortOf, overSize}
 use Rattle.reader.specs.Lookup.{countOf, numberAt}
-use Rattle.reader.specs.Sorts.{Sorted, is, faulty, given, asked, sortedFor}
+use Rattle.reader.specs.Sorts.{is, given, asked, sortedFor}
 use Rattle.reader.specs.Texts.{tokensOf}
-use Rattle.reader.specs.Reading.{tooLarge, sortedIn, Gives}
+use Rattle.reader.specs.Reading.{tooLarge, Gives}
 use Rattle.writer.specs.Trees.{treeOf}
-use Rattle.writer.specs.Spelled.{textOf, text}
+use Rattle.writer.specs.Spelled.{text}
 use Rattle.writer.specs.Placed.{placed}
 use Rattle.writer.specs.Writing.{textAt, Named}
 use Rattle.writer.proofs.Reading.{AllKnown}
 use Rattle.writer.proofs.Known.{written-known, tree-known, nodes-bytes}
 use Rattle.writer.proofs.Calls.{names-named, decoded}
 use Rattle.writer.proofs.Theorems.{text-tokens, text-parses}
-use Rattle.round_trip.proofs.Renumbering.{renumbered, Matched, matched}
+use Rattle.round_trip.proofs.Renumbering.{renumbered, codes-renumbered, Matched, matched}
 use Rattle.round_trip.proofs.Sorting.{matched-sorted}
 use Rattle.round_trip.proofs.Depths.{tree-depth}
 use Rattle.round_trip.proofs.Counted.{never-deep, never-many, depth-renumbered, counted-renumbered}
@@ -55,13 +54,13 @@ never-large (vector v) h p l = never (sym h ∙ l .given)
 
 -- of an expression over checked names, within the limits of a text's tokens, brackets and alternatives
 module _ {names : List ℕ} (h : Named names) (x : Expression) (o : ExpressionOver (countOf names) x) where
-  abbrev written-tokens : List Token
+  abbrev pub written-tokens : List Token
   written-tokens = written 6 (treeOf x)
 
-  abbrev number : ℕ → ℕ
+  abbrev pub number : ℕ → ℕ
   number = numberAt names (text names x)
 
-  abbrev there : List texts.Token
+  abbrev pub there : List texts.Token
   there = placed names 0 written-tokens
 
   known : AllKnown names written-tokens
@@ -70,6 +69,12 @@ module _ {names : List ℕ} (h : Named names) (x : Expression) (o : ExpressionOv
   same-tokens : map (renumbered number) (tokensOf there) ≡ map (renumbered (λ k. k)) written-tokens
   unfolding text
   same-tokens = placed-numbered h (text names x) 0 known refl
+
+  pub codes-there : codesOf (tokensOf there) ≡ codesOf written-tokens
+  codes-there =
+      sym (codes-renumbered number (tokensOf there))
+      ∙ ap codesOf same-tokens
+      ∙ codes-renumbered (λ k. k) written-tokens
 
   tree-there : Matched number (λ k. k) (tokensOf there) (treeOf x)
   tree-there = matched number (λ k. k) same-tokens (text-parses h x o)

@@ -3,17 +3,14 @@
 --   placed-numbered the tokens of a written text, with the numbers that are found, are the tokens that were written
 --   none-unknown    so refusal 6 is not given
 -- Assumes nothing.
-use Prim.Native.Nat.{ℕ, suc, _+_, _/_, _<_, _≤_}
+use Prim.Native.Nat.{ℕ, suc, _+_, _<_}
 use native.Mathlib.Omega.{arith}
-use native.Mathlib.Numerals.{add-one}
 use mathlib.Core.Path.{_≡_, refl, sym, ap, _∙_}
-use mathlib.Core.Bool.{Bool, true, false}
+use mathlib.Core.Bool.{true}
 use mathlib.Core.List.{List, [], _∷_, _++_, map}
-use lib.Dec.{eqb}
 use lib.ListN.{length, take, drop}
 use lib.Seq.{take-at, drop-at, drop-drop}
 use borrow.Author.Tests.{eq-eqb, ne-eqb}
-use Rattle.alf.specs.Words.{if_then_else_}
 use Rattle.alf.specs.Names.{isName, nameAt}
 use Rattle.alf.proofs.Bools.{never}
 use Rattle.alf.proofs.Lists.{All}

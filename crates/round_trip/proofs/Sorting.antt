@@ -1,9 +1,9 @@
--- The sort pass goes by the codes of tokens and the numbers of names: an expression's tree is sorted as the expression.
+-- The sort pass goes by the codes of tokens and the numbers of names: an expression's tree is sorted as it.
 --   Agree, sorted-renumbered   with numbers for places the sort pass says the same, but for the places of faults
 --   tree-sorted                the tree of an expression is sorted as the expression
 --   matched-sorted             and so is every tree that is the same up to places
 -- Assumes nothing.
-use Prim.Native.Nat.{ℕ, _+_, _-_, _<_, _≤_}
+use Prim.Native.Nat.{ℕ, _+_, _-_, _<_}
 use native.Mathlib.Omega.{arith}
 use mathlib.Core.Path.{_≡_, refl, sym, ap, _∙_}
 use mathlib.Core.Bool.{Bool, true, false}
@@ -16,14 +16,14 @@ use Rattle.alf.specs.Expressions.{Binary, and, or, xor, xnor, equals, differs, 
 use Rattle.alf.specs.Expressions.{Join, followed-by, either-order, with-or-then, any-order, with, or-else}
 use Rattle.alf.specs.Expressions.{Edge, EdgeKnown, Over, VectorOver, ExpressionOver}
 use Rattle.alf.specs.Expressions.{on-right, on-left, Expression, boolean, vector}
-use Rattle.alf.specs.Bytes.{binaryByte, binaryAt, joinAt, edgeNumber, edgeAt, Operation, oneAt, operationAt}
-use Rattle.alf.specs.Bytes.{Stack, empty, push, run, ifSo, isBoolean, topBoolean, topVector, under}
+use Rattle.alf.specs.Bytes.{binaryByte, binaryAt, joinAt, edgeNumber, edgeAt, Operation, oneAt}
+use Rattle.alf.specs.Bytes.{empty, push, run, ifSo, isBoolean, topBoolean, topVector, under}
 use Rattle.alf.proofs.Codes.{one-class, edge-operation}
 use Rattle.grammar.specs.declared.Token.{Token}
 use Rattle.grammar.specs.Grammar.{Tree, leaf, one, two, three}
 use Rattle.grammar.specs.Written.{made}
 use Rattle.reader.specs.Sorts.{Sorted, is, faulty, atom, ofOne, ofTwo, ofThree, given, sorted}
-use Rattle.writer.specs.Trees.{named, joinCode, booleanTree, vectorTree, treeOf}
+use Rattle.writer.specs.Trees.{joinCode, booleanTree, vectorTree, treeOf}
 use Rattle.writer.proofs.Known.{edge-small}
 use Rattle.round_trip.proofs.Renumbering.{renumbered, renumberedTree, Matched}
 
@@ -101,7 +101,8 @@ sorted-renumbered number (three t c a b) =
     (λ x. agree-given _ _ (sorted-renumbered number b) (three-renumbered number t z x)))
 
 -- the operators of an expression take its operands
-of-binary : (o : Binary) (a b : Boolean) → ofTwo (made (binaryByte o)) (boolean a) (boolean b) ≡ is (boolean (binary o a b))
+of-binary : (o : Binary) (a b : Boolean)
+    → ofTwo (made (binaryByte o)) (boolean a) (boolean b) ≡ is (boolean (binary o a b))
 unfolding ofTwo binaryByte binaryAt
 of-binary and a b = refl
 of-binary or a b = refl
