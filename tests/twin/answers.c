@@ -54,7 +54,8 @@ static void do_read_trace(void)
         file.times = malloc(4 * 65535);
         file.states = malloc(MAX_CELLS);
     }
-    Bytes bytes = take_bytes(), names = lend(take_number()), times = lend(4 * take_number()), states = lend(take_number());
+    Bytes bytes = take_bytes(), names = lend(take_number());
+    Bytes times = lend(4 * take_number()), states = lend(take_number());
     Refusal r = read_file(bytes.at, bytes.length, &file);
     if (!r.number) r = hand_over(&file, names, times, states);
     if (r.number) say_refused(r.number, (unsigned long)r.place);
@@ -67,8 +68,8 @@ static void do_write_trace(void)
     Bytes names = take_bytes(), times = take_bytes(), states = take_bytes();
     long n = take_number(), size = 0;
     Bytes out = lend(take_number());
-    Refusal r = write_file(names.at, names.length, (const uint32_t *)times.at, times.length / 4, states.at, states.length, n,
-                           out.length, out.at, &size);
+    Refusal r = write_file(names.at, names.length, (const uint32_t *)times.at, times.length / 4, states.at,
+                           states.length, n, out.length, out.at, &size);
     if (r.number) say_refused(r.number, (unsigned long)r.place);
     else printf("wrote %ld", size);
     end_line(sum_of(0, out.at, out.length));

@@ -15,7 +15,7 @@ static const char SIGNS[] = "01?!-'bXxAB()&|<>=^~: ";
 static int any_size(void)
 {
     if (fixed_rows) return 2 + (int)below(30);
-    return once_in(12) ? 1 + (int)below(260) : once_in(3) ? 1 + (int)below(40) : 1 + (int)below(10);
+    return 1 + (int)below(once_in(12) ? 260 : once_in(3) ? 40 : 10);
 }
 
 static long any_rows(long most)
@@ -28,7 +28,7 @@ void make_states(Buffer *out, long n)
 {
     int wild = (int)below(3);
     clear(out);
-    for (long i = 0; i < n; i++) add(out, wild == 0 || once_in(8) ? (int)below(8) : wild == 1 ? (int)below(2) : (int)below(3));
+    for (long i = 0; i < n; i++) add(out, (int)below(wild == 0 || once_in(8) ? 8 : 1 + wild));
     if (once_in(30) && n > 0) out->at[below(n)] = (uint8_t)(8 + below(248));
 }
 
@@ -91,6 +91,7 @@ static void case_read(void)
     say(&text);
 }
 
+/* Of a sort, now and then of the other one or damaged. */
 static void some_tree(long k, int sort, int size)
 {
     clear(&tree);
@@ -99,12 +100,23 @@ static void some_tree(long k, int sort, int size)
     if (once_in(20)) damage(&tree, "\x01\x20\x28\x32\x38\x39\x3a\x3c\x40");
 }
 
-/* One text in ten has long names, so that some are over 4,096 bytes. */
+/* A text of about 4,096 bytes: 32 of a name, 3 of a sign and its blanks, and a few digits. */
+static void some_long_text(void)
+{
+    long k = make_long_names(&names);
+    clear(&tree);
+    add(&tree, (int)below(k));
+    for (long i = 115 + below(4); i > 0; i--) {
+        add(&tree, once_in(60) ? 32 : (int)below(k));
+        add(&tree, 40);
+    }
+}
+
 static void case_write(void)
 {
-    int many = once_in(10), sort = (int)below(2);
-    long k = many ? make_long_names(&names) : make_names(&names);
-    some_tree(k, sort, many ? 100 + (int)below(157) : any_size());
+    int sort = (int)below(2);
+    if (sort == 0 && once_in(10)) some_long_text();
+    else some_tree(make_names(&names), sort, any_size());
     printf("w");
     say(&names);
     printf(" %d", sort);

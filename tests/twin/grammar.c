@@ -80,8 +80,8 @@ static Refusal check_grammar(const Token *t, int count, long length)
     return (Refusal){0, 0};
 }
 
-/* The place of the weakest operator outside all brackets, where the tokens split: the last of its level, for binary ones
-   group from the left, but the first `?`, for the ternary groups from the right. A prefix counts where it stands first. */
+/* The place of the weakest operator outside all brackets, where the tokens split: the last of its level, since binary
+   ones group from the left, but the first `?`, since the ternary groups from the right. -1: a prefix or an operand. */
 static int split_at(const Token *t, int count)
 {
     int open = 0, best = -1, level = 1;

@@ -30,7 +30,8 @@ static void do_write(void)
 
 static void do_read_trace(void)
 {
-    Bytes file = take_bytes(), names = lend(take_number()), times = lend(4 * take_number()), states = lend(take_number());
+    Bytes file = take_bytes(), names = lend(take_number());
+    Bytes times = lend(4 * take_number()), states = lend(take_number());
     dachsmond_trace r = dachsmond_read_trace(file.at, file.length, names.at, names.length, (uint32_t *)times.at,
                                              times.length / 4, states.at, states.length);
     if (r.number) say_refused(r.number, r.place);

@@ -1,4 +1,4 @@
-/* A case on a line: a letter for the call, then fields between blanks: numbers, and bytes in hexadecimal (`-` for none).
+/* A case on a line: a letter for the call, then fields between blanks: numbers, and bytes in hexadecimal (`-`: none).
      e NAMES SORT TEXT               read an expression (SORT 0 boolean, 1 vector)
      w NAMES SORT TREE ROOM          write one into ROOM bytes
      f FILE ROOM ROOM ROOM           read a trace into so many bytes of names, times and states

@@ -80,9 +80,12 @@ static void do_row(int sort)
     long row = take_number();
     Refusal r = check(&a, 1, sort);
     if (!r.number && row >= a.n) r = (Refusal){19, 0};
-    if (refused(r)) ;
+    if (refused(r)) r.place = 0;
     else if (sort == BOOLEAN) printf("row %d %d", state_at(a.node, &a.trace, row), value_at(a.node, &a.trace, row));
-    else printf("row %d %d %ld", number_at(&a, row), number_at(&a, row), tries_at(alternatives_of(a.node), &a.trace, row));
+    else {
+        int answer = number_at(&a, row);
+        printf("row %d %d %ld", answer, answer, tries_at(alternatives_of(a.node), &a.trace, row));
+    }
     end_line(0);
 }
 

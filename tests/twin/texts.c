@@ -51,7 +51,8 @@ static void put(Buffer *out, const char *token)
 
 static void put_leaf(Buffer *out, long names)
 {
-    static const char *const literals[] = {"0", "1", "'b0", "'b1", "'bX", "'bx", "'bH", "'bh", "'bL", "'bW", "'bz", "'bU"};
+    static const char *const literals[] = {"0",   "1",   "'b0", "'b1", "'bX", "'bx",
+                                           "'bH", "'bh", "'bL", "'bW", "'bz", "'bU"};
     char name[40];
     name_text(once_in(200) ? below(32) : below(names), name);
     put(out, once_in(4) ? literals[below(12)] : name);
@@ -107,7 +108,7 @@ static void put_vector(Buffer *out, long names, int size, int level)
     put_part(out, names, mixed == 2 ? BOOLEAN : VECTOR, size - 1 - a, own - 1);
 }
 
-/* About `size` nodes of a sort, at a level that needs no brackets, or in brackets; now and then brackets are left out. */
+/* About `size` nodes of a sort, at a level that needs no brackets, or in brackets; a few brackets are left out. */
 static void put_part(Buffer *out, long names, int sort, int size, int level)
 {
     int bracket = (size > 2 && level < 2 + (int)below(6)) || once_in(12), inner = bracket ? 6 : level;
@@ -123,9 +124,11 @@ void make_text(Buffer *out, long names, int sort, int size) { put_part(out, name
 /* Tokens and bytes in any order. */
 void make_soup(Buffer *out, long names)
 {
-    static const char *const tokens[] = {"A", "B", "0", "1", "?", "(", ")", ":", "!", "~", "&", "&&", "|", "->", "<->", "&>",
-        "<&>", "==", "!=", "<", ">", "<=", ">=", "^", "~^", "01", "?0", "??", "?!", "?-", "'b0", "'b?", "'bX'b1", "'bX'b?",
-        "-", "=", "'", "'b", "A1", "0A", "_", "*", "10", "1?"};
+    static const char *const tokens[] = {
+        "A", "B", "0", "1", "?", "(", ")", ":", "!", "~", "&", "&&", "|", "->", "<->", "&>", "<&>", "==", "!=", "<", ">",
+        "<=", ">=", "^", "~^", "01", "?0", "??", "?!", "?-", "'b0", "'b?", "'bX'b1", "'bX'b?", "-", "=", "'", "'b", "A1",
+        "0A", "_", "*", "10", "1?",
+    };
     for (long n = below(12); n >= 0; n--) {
         if (once_in(3)) put_leaf(out, names);
         add_text(out, tokens[below(44)]);

@@ -55,9 +55,11 @@ Refusal read_file(const byte *f, long length, File *out)
     for (long at = 0;;) {
         Refusal r;
         if (at + 2 > length) return (Refusal){14, length};
-        if (is_mark(f, at, "NM") && out->rows == 0 && out->names < MAX_NAMES) r = take_name_record(f, length, at, out, &at);
-        else if (is_mark(f, at, "RW") && out->names > 0 && out->rows < MAX_ROWS) r = take_row_record(f, length, at, out, &at);
-        else if (is_mark(f, at, "EN") && out->rows > 0) return take_end_record(f, length, at, out);
+        if (is_mark(f, at, "EN") && out->rows > 0) return take_end_record(f, length, at, out);
+        if (is_mark(f, at, "NM") && out->rows == 0 && out->names < MAX_NAMES)
+            r = take_name_record(f, length, at, out, &at);
+        else if (is_mark(f, at, "RW") && out->names > 0 && out->rows < MAX_ROWS)
+            r = take_row_record(f, length, at, out, &at);
         else return (Refusal){11, at};
         if (r.number) return r;
     }
@@ -97,7 +99,8 @@ Refusal write_file(const byte *names, long names_length, const uint32_t *times, 
 {
     Refusal r = check_names(names, names_length);
     long count = names_length / 32;
-    if (r.number == 18 || n < 1 || n > MAX_ROWS || times_length != n || states_length != n * count) return (Refusal){18, 0};
+    if (r.number == 18 || n < 1 || n > MAX_ROWS || times_length != n || states_length != n * count)
+        return (Refusal){18, 0};
     if (r.number) return r;
     for (long i = 0; i < n; i++) {
         if (i > 0 && times[i] <= times[i - 1]) return (Refusal){13, i};

@@ -1,5 +1,5 @@
-/* A tree as bytes and as text, and refusal 10. A bracket is needed where the text without it reads as another tree: that
-   is tried, bracket by bracket, and no rule of levels is used. */
+/* A tree as bytes and as text, and refusal 10. A bracket is needed where the text without it reads as another tree:
+   that is tried, bracket by bracket, and no rule of levels is used. */
 #include "twin.h"
 #include <stdio.h>
 #include <string.h>
@@ -177,7 +177,8 @@ Refusal check_tree(const byte *bytes, long length, int names, int sort, Node **t
     return (Refusal){0, 0};
 }
 
-Refusal write_text(const byte *names, long names_length, const byte *bytes, long length, int sort, long room, char *out, long *size)
+Refusal write_text(const byte *names, long names_length, const byte *bytes, long length, int sort, long room, char *out,
+                   long *size)
 {
     static char text[40000];
     Node *tree;

@@ -1,5 +1,5 @@
-/* Chapters "States and values" and "What a pattern says", as they stand: values by recursion, answers on windows. What a
-   part answers on a window is kept while the rows near it are asked, so that long traces end. */
+/* Chapters "States and values" and "What a pattern says", as they stand: values by recursion, answers on windows. What
+   a part answers on a window is kept while the rows near it are asked, so that long traces end. */
 #include "twin.h"
 
 /* states: 0 1 X H L W Z U */
