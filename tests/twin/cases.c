@@ -1,5 +1,5 @@
-/* cases SEED COUNT LETTERS [ROWS]: random cases for the calls named by the letters of lines.h, on standard output. With
-   ROWS every trace has so many rows, or one more. */
+/* cases SEED COUNT LETTERS [ROWS]: random cases for the calls named by the letters of lines.h, on standard output.
+   With ROWS every trace has so many rows, or one more. */
 #include "cases.h"
 #include <stdio.h>
 #include <stdlib.h>

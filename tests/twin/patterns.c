@@ -8,7 +8,10 @@ typedef struct { long names, n; Bytes tree, states; Node *node; Trace trace; } A
 
 /* document 01's number of an answer */
 static int number_of(int answer) { return answer == YES ? 1 : answer == UNKNOWN ? 2 : 0; }
-static int number_at(const Asked *a, long row) { return row == 0 ? 3 : number_of(row_answer(a->node, &a->trace, row)); }
+static int number_at(const Asked *a, long row)
+{
+    return row == 0 ? 3 : number_of(row_answer(a->node, &a->trace, row));
+}
 
 static Asked take_asked(void)
 {

@@ -5,7 +5,10 @@
 
 enum { MAX_ROWS = 65535, MAX_NAMES = 32 };
 
-static uint32_t word(const byte *p) { return p[0] | (uint32_t)p[1] << 8 | (uint32_t)p[2] << 16 | (uint32_t)p[3] << 24; }
+static uint32_t word(const byte *p)
+{
+    return p[0] | (uint32_t)p[1] << 8 | (uint32_t)p[2] << 16 | (uint32_t)p[3] << 24;
+}
 
 static Refusal take_name_record(const byte *f, long length, long at, File *out, long *next)
 {

@@ -177,8 +177,8 @@ Refusal check_tree(const byte *bytes, long length, int names, int sort, Node **t
     return (Refusal){0, 0};
 }
 
-Refusal write_text(const byte *names, long names_length, const byte *bytes, long length, int sort, long room, char *out,
-                   long *size)
+Refusal write_text(const byte *names, long names_length, const byte *bytes, long length, int sort, long room,
+                   char *out, long *size)
 {
     static char text[40000];
     Node *tree;

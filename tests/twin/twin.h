@@ -1,6 +1,6 @@
 /* An independent twin: document 01 in plain C, written from the document and docs/DECISIONS.md and not from the
-   library. Expressions are trees of pointers, matching goes by windows. It shares nothing with the library but the bytes
-   in which a tree is handed over (crates/alf/specs/Bytes.antt). */
+   library. Expressions are trees of pointers, matching goes by windows. It shares nothing with the library but the
+   bytes in which a tree is handed over (crates/alf/specs/Bytes.antt). */
 #ifndef TWIN_H
 #define TWIN_H
 #include <stddef.h>
@@ -58,8 +58,8 @@ int tree_bytes(const Node *node, byte *out, int at);
 Node *tree_from(const byte *bytes, long length, int names);
 Refusal check_tree(const byte *bytes, long length, int names, int sort, Node **tree);
 long text_of(const Node *node, const byte *names, char *out, int *deepest);
-Refusal write_text(const byte *names, long names_length, const byte *tree, long length, int sort, long room, char *out,
-                   long *size);
+Refusal write_text(const byte *names, long names_length, const byte *tree, long length, int sort, long room,
+                   char *out, long *size);
 
 /* alternatives.c: NULL where over limit 8 */
 Alternatives *alternatives_of(const Node *node);

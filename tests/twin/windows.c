@@ -152,6 +152,7 @@ int answer_on(const Node *n, const Trace *t, long a, long b)
 int row_answer(const Node *n, const Trace *t, long row)
 {
     int best = NO;
-    for (long a = row; a >= 0 && a >= row - MAX_STEPS && best < YES; a--) best = greater(best, answer_on(n, t, a, row));
+    for (long a = row; a >= 0 && a >= row - MAX_STEPS && best < YES; a--)
+        best = greater(best, answer_on(n, t, a, row));
     return best;
 }
