@@ -1,6 +1,8 @@
 -- From the tokens of a text to what the parser asks of them.
 --   reads-inside    each token begins inside the text
 --   reads-rises     each begins before the next, the last before the text's end
+--   counts          a token is counted by its code as by its kind
+--   first-over      a number that is over a limit somewhere is so first at some place
 --   few-counted     where refusal 4 is not given, at most 256 are counted
 --   nodes-inside    what holds of each token of a text holds of each node of its tree
 -- Assumes nothing.
@@ -93,7 +95,7 @@ weigh c = go (below? c 148)
     go (inl l) = eqb-true _ _ (every-at 148 (λ c. eqb (weight (kind c)) (if light c then 0 else 1)) weigh-near c l)
     go (inr l) = weigh-far c l
 
-counts : (c n : ℕ) → text.counted c n ≡ n + weight (kind c)
+pub counts : (c n : ℕ) → text.counted c n ≡ n + weight (kind c)
 unfolding text.counted
 counts c n = rw (weigh c) (go (light c))
   where
@@ -112,8 +114,8 @@ counted-all (t ∷ ts) n p (more h a) =
     (counted-all ts (text.counted (t .code) n) p a
     ∙ omega (arith, counts (t .code) n))
 
--- where refusal 4 is not given, at most 256 are counted
-first-over : (f : ℕ → ℕ) (limit p : ℕ) → limit < f p → (q : ℕ) × First (λ r. limit < f r) q
+-- a number that is over a limit somewhere is so first at some place
+pub first-over : (f : ℕ → ℕ) (limit p : ℕ) → limit < f p → (q : ℕ) × First (λ r. limit < f r) q
 first-over f limit p h = (n, record { given = given; before = before })
   where
     test : ℕ → Bool
@@ -134,6 +136,7 @@ first-over f limit p h = (n, record { given = given; before = before })
     before : (i : ℕ) → i < n → limit < f i → ⊥
     before i l k = let z = ltb-false limit (f i) (first-before (suc p) test i l) in omega arith
 
+-- where refusal 4 is not given, at most 256 are counted
 pub few-counted :
     (bytes : List ℕ) {ts : List text.Token} →
     Reads 0 bytes ts →

@@ -2,7 +2,8 @@
 --   read-unique     any two answers that the contract allows coincide
 --   gives-unique    a text gives one expression
 --   read-sound      what is read is what the text gives; the list of names is good and the text has at most 4,096 bytes
---   read-complete   and a text that gives an expression, with such names and such a length, is read as it
+--   gives-read      and a text that gives an expression, with such names and such a length, is read as it
+--   read-complete   and as nothing else
 -- Assumes nothing.
 use mathlib.Core.Path.{_≡_, refl, sym, ap, _∙_}
 use mathlib.Core.Bool.{false}
@@ -134,6 +135,16 @@ text-clear text l r d m = (
   ),
 )
 
+pub gives-read :
+    {names text : List ℕ} {sort : Sort} {x : Expression} →
+    Passed (namesOrder names) →
+    length text ≤ 4096 →
+    Gives names text sort x →
+    Reading names text sort (made x)
+gives-read {names} {text} {sort} n l g =
+    read-clear names text sort n (text-clear text l (g .read) (g .shallow) (g .few)) (g .read) (g .whole) (g .known)
+    (g .sorts) (g .small)
+
 pub read-complete :
     {names text : List ℕ} {sort : Sort} {r : Read} {x : Expression} →
     Passed (namesOrder names) →
@@ -141,7 +152,4 @@ pub read-complete :
     Gives names text sort x →
     Reading names text sort r →
     r ≡ made x
-read-complete {names} {text} {sort} n l g h =
-    read-unique h
-    (read-clear names text sort n (text-clear text l (g .read) (g .shallow) (g .few)) (g .read) (g .whole) (g .known)
-    (g .sorts) (g .small))
+read-complete n l g h = read-unique h (gives-read n l g)

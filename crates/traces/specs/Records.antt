@@ -10,7 +10,8 @@ use mathlib.Core.Bool.{_&&_}
 use lib.ListN.{length, getD, take, drop}
 use Rattle.alf.specs.Words.{if_then_else_}
 use Rattle.alf.specs.Names.{isName, slotOf}
-use Rattle.alf.specs.Refusals.{Order, check, At, First, cut-short, at-end, Passed}
+use Rattle.alf.specs.Refusals.{Order, check, First, wrong-mark, bad-name, early-time, cut-short, wrong-count}
+use Rattle.alf.specs.Refusals.{bytes-after, Passed}
 use Rattle.traces.specs.declared.Mark.{Mark}
 use Rattle.traces.specs.declared.Mark.the-variants.{Name, Row, End, Other}
 
@@ -73,14 +74,14 @@ pub record BadCode (file : List ℕ) (k r p : ℕ) : Type 0 where
 
 -- contents in file order: 12; 13 and 15; 16 and 17
 unfoldable pub contents : List ℕ → ℕ → ℕ → Mark → Order
-contents file k r Name = check 12 (At (place file k r + 2) (GoodName file k → ⊥)) ∷ []
+contents file k r Name = check 12 (bad-name (place file k r + 2) (GoodName file k)) ∷ []
 contents file k r Row =
-    check 13 (At (place file k r + 2) ((1 ≤ r) × (timeIn file k r ≤ timeIn file k (r - 1))))
+    check 13 (early-time (place file k r + 2) ((1 ≤ r) × (timeIn file k r ≤ timeIn file k (r - 1))))
     ∷ check 15 (First (BadCode file k r))
     ∷ []
 contents file k r End =
-    check 16 (at-end (place file k r + 2) (wordAt file (place file k r + 2) ≡ r → ⊥))
-    ∷ check 17 (at-end (place file k r + 6) (place file k r + 6 < length file))
+    check 16 (wrong-count (place file k r + 2) (wordAt file (place file k r + 2)) r)
+    ∷ check 17 (bytes-after (place file k r + 6) (length file))
     ∷ []
 contents file k r Other = []
 
@@ -88,7 +89,7 @@ contents file k r Other = []
 abbrev pub markedOrder : List ℕ → ℕ → ℕ → Mark → Order
 markedOrder file k r m =
     check 14 (cut-short (length file) (length file < place file k r + 2))
-    ∷ check 11 (At (place file k r) (Due k r m → ⊥))
+    ∷ check 11 (wrong-mark (place file k r) (Due k r m))
     ∷ check 14 (cut-short (length file) (length file < place file k r + sizeOf file k r m))
     ∷ contents file k r m
 

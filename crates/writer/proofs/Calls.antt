@@ -1,5 +1,6 @@
 -- What the call and its parts are proved by.
--- Main names: held, delivered-long, delivered-short, delivered, refused-names, refused-tree, laid, lined, wrote.
+-- Main names: held, delivered-long, delivered-short, delivered, refused-names, refused-tree, laid, lined, wrote,
+-- names-named, names-new, decoded.
 -- Assumes nothing.
 use Prim.Native.Nat.{ℕ, zero, suc, _+_, _*_, _/_, _<_, _≤_}
 use native.Mathlib.Omega.{arith}
@@ -79,7 +80,7 @@ delivered {w} {out} h k p =
           p .bytes ∙ ap (sets out 0) (take-length w) ∙ sets-eq w out 0 z ∙ ap (λ (n : ℕ). w ++ drop n out) e;
     }
 
--- what checked names are: at most 32, and names
+-- what checked names are: at most 32, names, and all different
 never-first : (so : ℕ → Type 0) → ((p : ℕ) → First so p → ⊥) → (n k : ℕ) → k < n → so k → ⊥
 never-first so f zero k h s = omega arith
 never-first so f (suc n) k h s =
@@ -103,6 +104,10 @@ module _ {names : List ℕ} (h : Named names) where
       go : (b : Bool) → isName (nameAt names i) ≡ b → isName (nameAt names i) ≡ true
       go true e = e
       go false e = absurd (never-first _ (h .passed .1 .0) (suc i) i (omega arith) (l, λ g. never (sym e ∙ g .named)))
+
+  pub names-new : (i : ℕ) → i < length names / 32 → (j : ℕ) → j < i → nameAt names j ≡ nameAt names i → ⊥
+  unfolding Passed
+  names-new i l j k e = never-first _ (h .passed .1 .0) (suc i) i (omega arith) (l, λ g. g .new j k e)
 
 -- the call's order: the names, 10, and the end
 abbrev done : List ℕ → List ℕ → ℕ → Type 0
@@ -163,7 +168,7 @@ decided-yes true d e = d
 decided-yes false d e = never (sym e)
 
 -- the expression that an accepted tree is
-decoded : (n : ℕ) (tree : List ℕ) (e : Expression) → Decodes n tree e → expressionAt tree n (length tree) ≡ e
+pub decoded : (n : ℕ) (tree : List ℕ) (e : Expression) → Decodes n tree e → expressionAt tree n (length tree) ≡ e
 unfolding Decodes top
 decoded n tree e h = ap top h
 

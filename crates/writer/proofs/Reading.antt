@@ -31,7 +31,7 @@ pub data AllKnown (names : List ℕ) : List Token → Type 0 where
   none : AllKnown names []
   more : {t : Token} {ts : List Token} → Known names t → AllKnown names ts → AllKnown names (t ∷ ts)
 
-following-behind : (names : List ℕ) (ts : List Token) → Behind (following names ts)
+pub following-behind : (names : List ℕ) (ts : List Token) → Behind (following names ts)
 unfolding following
 following-behind names [] = end
 following-behind names (t ∷ ts) = blank

@@ -35,7 +35,7 @@ starts-on : (b : ℕ) → startsName b ≡ true → goesOnName b ≡ true
 unfolding goesOnName
 starts-on b h = rw h
 
-name-bytes : (b : ℕ) (w : List ℕ) {rest : List ℕ} → Behind rest → isName (b ∷ w) ≡ true
+pub name-bytes : (b : ℕ) (w : List ℕ) {rest : List ℕ} → Behind rest → isName (b ∷ w) ≡ true
     → nameBytes (b ∷ (w ++ rest)) ≡ suc (length w)
 unfolding isName all
 name-bytes b w k h =

@@ -1,0 +1,1 @@
+// The theorems of refusal 10 for trees: nothing but proofs.

@@ -1,0 +1,1 @@
+// The theorems of reading what was written: nothing but proofs.
