@@ -4,3 +4,11 @@ pub mod Operands
 pub mod Placing
 pub mod Puts
 pub mod Reaching
+pub mod Joining
+pub mod Places
+pub mod Asking
+pub mod Meaning
+pub mod Bounds
+pub mod Filling
+pub mod Turns
+pub mod Holding

@@ -1,24 +1,24 @@
--- Rewriting looks at no operand: with each boolean operand exchanged by f, an expression has the same alternatives with
--- each test's operand exchanged by f. So places instead of operands change neither how many alternatives there are nor
--- how many steps each has.
--- Main names: operandsOn, testOn, alternatives-on; placed-number, placed-length. Assumes nothing.
+-- Rewriting looks at no edge and no operand: with each edge exchanged by g and each boolean operand by f, an expression
+-- has the same alternatives with each test's edge and operand exchanged so, where g keeps `11`, which rewriting adds.
+-- So places instead of operands change neither how many alternatives there are nor how many steps each has.
+-- Main names: testsOn, testOn, alternatives-on; placed-number, placed-length. Assumes nothing.
 use Prim.Native.Nat.{ℕ, zero, suc, _+_, _-_}
 use mathlib.Core.Path.{_≡_, refl, ap, sym, _∙_}
 use mathlib.Core.List.{List, [], _∷_, _++_, map, map-append}
 use lib.ListN.{length, getD, length-map}
-use Rattle.alf.specs.Expressions.{Boolean, literal, the, pair, Vector, edge, join, while, on-right, on-left}
+use Rattle.alf.specs.Expressions.{Boolean, literal, the, Edge, pair, Vector, edge, join, while, on-right, on-left}
 use Rattle.alf.specs.Expressions.{Join, followed-by, either-order, with-or-then, any-order, with, or-else}
 use Rattle.alf.specs.Alternatives.{Test, test, Step, Alternative, each, padded, zipped, overlaid, conditioned}
 use Rattle.alf.specs.Alternatives.{rewritten, alternatives}
 use Rattle.rewriting.specs.Codes.{placed}
 
-unfoldable pub operandsOn : (Boolean → Boolean) → Vector → Vector
-operandsOn f (edge e c) = edge e (f c)
-operandsOn f (join j p q) = join j (operandsOn f p) (operandsOn f q)
-operandsOn f (while s p c) = while s (operandsOn f p) (f c)
+unfoldable pub testsOn : (Edge → Edge) → (Boolean → Boolean) → Vector → Vector
+testsOn g f (edge e c) = edge (g e) (f c)
+testsOn g f (join j p q) = join j (testsOn g f p) (testsOn g f q)
+testsOn g f (while s p c) = while s (testsOn g f p) (f c)
 
-unfoldable pub testOn : (Boolean → Boolean) → Test → Test
-testOn f (test e c) = test e (f c)
+unfoldable pub testOn : (Edge → Edge) → (Boolean → Boolean) → Test → Test
+testOn g f (test e c) = test (g e) (f c)
 
 -- for each left one, each right one
 module _ (g : Alternative → Alternative → Alternative) (h : Alternative → Alternative)
@@ -32,9 +32,9 @@ module _ (g : Alternative → Alternative → Alternative) (h : Alternative → 
   each-on [] ys = refl
   each-on (x ∷ xs) ys = rw (each-one x ys, each-on xs ys) (sym (map-append h (map (g x) ys) (each g xs ys)))
 
-module _ (f : Boolean → Boolean) where
+module _ (g : Edge → Edge) (f : Boolean → Boolean) where
   abbrev pub stepOn : Step → Step
-  stepOn = map (testOn f)
+  stepOn = map (testOn g f)
 
   abbrev pub alternativeOn : Alternative → Alternative
   alternativeOn = map stepOn
@@ -48,7 +48,7 @@ module _ (f : Boolean → Boolean) where
   unfolding zipped
   zipped-on [] y = refl
   zipped-on (s ∷ x) [] = refl
-  zipped-on (s ∷ x) (t ∷ y) = rw (zipped-on x y, map-append (testOn f) s t) refl
+  zipped-on (s ∷ x) (t ∷ y) = rw (zipped-on x y, map-append (testOn g f) s t) refl
 
   overlaid-on : (x y : Alternative) → overlaid (alternativeOn x) (alternativeOn y) ≡ alternativeOn (overlaid x y)
   unfolding overlaid
@@ -61,16 +61,18 @@ module _ (f : Boolean → Boolean) where
       )
       (zipped-on (padded (length y - length x) x) (padded (length x - length y) y))
 
-  condition-on : (c : Boolean) (x : Alternative) → conditioned (f c) (alternativeOn x) ≡ alternativeOn (conditioned c x)
-  unfolding conditioned testOn
-  condition-on c [] = refl
-  condition-on c (s ∷ x) =
-      let e = map-append (testOn f) s (test (pair (the 1) (the 1)) c ∷ []) in rw (e, condition-on c x) refl
+  module _ (kept : g (pair (the 1) (the 1)) ≡ pair (the 1) (the 1)) where
+    condition-on : (c : Boolean) (x : Alternative)
+        → conditioned (f c) (alternativeOn x) ≡ alternativeOn (conditioned c x)
+    unfolding conditioned testOn
+    condition-on c [] = refl
+    condition-on c (s ∷ x) =
+        let e = map-append (testOn g f) s (test (pair (the 1) (the 1)) c ∷ []) in rw (e, condition-on c x, kept) refl
 
-  conditioned-on : (c : Boolean) (xs : List Alternative)
-      → map (conditioned (f c)) (map alternativeOn xs) ≡ map alternativeOn (map (conditioned c) xs)
-  conditioned-on c [] = refl
-  conditioned-on c (x ∷ xs) = rw (condition-on c x, conditioned-on c xs) refl
+    conditioned-on : (c : Boolean) (xs : List Alternative)
+        → map (conditioned (f c)) (map alternativeOn xs) ≡ map alternativeOn (map (conditioned c) xs)
+    conditioned-on c [] = refl
+    conditioned-on c (x ∷ xs) = rw (condition-on c x, conditioned-on c xs) refl
 
   chain-on : (xs ys : List Alternative)
       → each _++_ (map alternativeOn xs) (map alternativeOn ys) ≡ map alternativeOn (each _++_ xs ys)
@@ -97,33 +99,34 @@ module _ (f : Boolean → Boolean) where
   rewritten-on with xs ys = overlap-on xs ys
   rewritten-on or-else xs ys = both-on xs ys refl refl
 
-  pub alternatives-on : (p : Vector) → alternatives (operandsOn f p) ≡ map alternativeOn (alternatives p)
-  unfolding alternatives operandsOn testOn
-  alternatives-on (edge e c) = refl
-  alternatives-on (join j p q) =
-      rw (alternatives-on p, alternatives-on q) (rewritten-on j (alternatives p) (alternatives q))
-  alternatives-on (while s p c) = rw (alternatives-on p) (conditioned-on c (alternatives p))
+  pub alternatives-on : g (pair (the 1) (the 1)) ≡ pair (the 1) (the 1) → (p : Vector)
+      → alternatives (testsOn g f p) ≡ map alternativeOn (alternatives p)
+  unfolding alternatives testsOn testOn
+  alternatives-on k (edge e c) = refl
+  alternatives-on k (join j p q) =
+      rw (alternatives-on k p, alternatives-on k q) (rewritten-on j (alternatives p) (alternatives q))
+  alternatives-on k (while s p c) = rw (alternatives-on k p) (conditioned-on k c (alternatives p))
 
 -- every operand exchanged by one and the same
 abbrev bare : Vector → Vector
-bare = operandsOn (λ c. literal 0)
+bare = testsOn (λ e. e) (λ c. literal 0)
 
 placed-bare : (end : ℕ) (p : Vector) → bare (placed end p) ≡ bare p
-unfolding placed operandsOn
+unfolding placed testsOn
 placed-bare end (edge e c) = refl
 placed-bare end (join j p q) = rw (placed-bare _ p, placed-bare _ q) refl
 placed-bare end (while on-right p c) = rw (placed-bare _ p) refl
 placed-bare end (while on-left p c) = rw (placed-bare _ p) refl
 
 bare-number : (p : Vector) → length (alternatives (bare p)) ≡ length (alternatives p)
-bare-number p = ap length (alternatives-on _ p) ∙ length-map (alternatives p) _
+bare-number p = ap length (alternatives-on _ _ refl p) ∙ length-map (alternatives p) _
 
 bare-length : (p : Vector) (t : ℕ) → length (getD (alternatives (bare p)) t []) ≡ length (getD (alternatives p) t [])
 bare-length p t =
-    ap (λ (xs : List Alternative). length (getD xs t [])) (alternatives-on _ p) ∙ go (alternatives p) t
+    ap (λ (xs : List Alternative). length (getD xs t [])) (alternatives-on _ _ refl p) ∙ go (alternatives p) t
   where
     go : (xs : List Alternative) (t : ℕ)
-        → length (getD (map (alternativeOn (λ c. literal 0)) xs) t []) ≡ length (getD xs t [])
+        → length (getD (map (alternativeOn (λ e. e) (λ c. literal 0)) xs) t []) ≡ length (getD xs t [])
     go [] t = refl
     go (x ∷ xs) zero = length-map x _
     go (x ∷ xs) (suc t) = go xs t

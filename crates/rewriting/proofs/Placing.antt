@@ -1,5 +1,5 @@
 -- Step j of alternative a of the expression that ends at a place, its operands as places, from its operands' steps.
--- Main names: edge-step, before-step, condition-step, join-step. Assumes nothing.
+-- Main names: edge-step, before-step, condition-step, join-step; vector-start, boolean-start. Assumes nothing.
 use Prim.Native.Nat.{ℕ, zero, suc, _+_, _-_, _<_, _≤_}
 use native.Mathlib.Omega.{arith}
 use mathlib.Core.Path.{_≡_, refl, ap, _∙_}
@@ -72,11 +72,11 @@ join-steps o p q i k j l r h e d s u v =
     ∙ s .is (getD (alternatives p) i []) (getD (alternatives q) k []) u v
 
 module _ (t : List ℕ) (names end : ℕ) where
-  vector-start : {m : ℕ} → EndsVector t names end → Start t names end m
+  pub vector-start : {m : ℕ} → EndsVector t names end → Start t names end m
       → end - length (vectorBytes (vectorAt t names end)) ≡ m
   vector-start h s = let e = ap length (vector-bytes _ (h .whole)) in omega (arith, s .is)
 
-  boolean-start : {m : ℕ} → EndsBoolean t names end → Start t names end m
+  pub boolean-start : {m : ℕ} → EndsBoolean t names end → Start t names end m
       → end - length (booleanBytes (booleanAt t names end)) ≡ m
   boolean-start h s = let e = ap length (boolean-bytes _ (h .whole)) in omega (arith, s .is)
 

@@ -1,5 +1,5 @@
 -- The tests of a step in memory, one part after the other, and what is asked for each part.
--- Main names: put-none, put-one, put-then, put-lengths, one-lengths; beyond, there. Assumes nothing.
+-- Main names: sets-append, put-none, put-one, put-then, put-lengths, one-lengths; beyond, there. Assumes nothing.
 use Prim.Native.Nat.{ℕ, zero, suc, _+_, _-_, _<_, _≤_, min, max}
 use native.Mathlib.Omega.{arith}
 use native.Mathlib.Numerals.{add-one}
@@ -19,7 +19,7 @@ use Rattle.rewriting.specs.Steps.{stepAt, Placing, Put, Fits, OnePut}
 use Rattle.rewriting.proofs.Operands.{placed-length}
 
 -- stores one after the other
-sets-append : (l : List ℕ) (i : ℕ) (xs ys : List ℕ) → sets l i (xs ++ ys) ≡ sets (sets l i xs) (i + length xs) ys
+pub sets-append : (l : List ℕ) (i : ℕ) (xs ys : List ℕ) → sets l i (xs ++ ys) ≡ sets (sets l i xs) (i + length xs) ys
 sets-append l i [] ys = ap (λ (k : ℕ). sets l k ys) (sym (add-zero i))
 sets-append l i (x ∷ xs) ys =
     let e : suc i + length xs ≡ i + suc (length xs) = omega arith in

@@ -1,3 +1,4 @@
 // The alternatives of a tree, written into lent lists.
+pub mod lists;
 pub mod splitting;
 pub mod steps;

@@ -1,0 +1,134 @@
+-- `rewriting::lists::fill` meets its contract. The loop's invariant: the alternatives passed are written. Assumes
+-- nothing.
+use Prim.Native.Nat.{_-_}
+use native.Mathlib.Omega.{arith}
+use Rattle.limits.proofs.Acceptance.{accepted-vector}
+use Rattle.rewriting.specs.Lists.{alternativesAt}
+use Rattle.rewriting.proofs.Bounds.{count-exact, accepted-chosen}
+use Rattle.rewriting.proofs.Filling.{Filling, filling-first, filling-lengths}
+use Rattle.rewriting.proofs.Turns.{steps-small, steps-room, alternative-adding, passed-small, alternative-next}
+use Rattle.rewriting.proofs.Turns.{alternatives-filled}
+use Rattle.rewriting.proofs.lists.fill.Statement.{statement}
+use Rattle.rewriting.proofs.lists.fill.Tie as tie
+
+abbrev Inv-loop : tie.InvT-loop
+Inv-loop tree names steps₀ tests₀ edges₀ operands₀ end count s₀ from₀ t₀ steps tests edges operands s from t =
+    Filling (alternativesAt tree names) steps₀ tests₀ edges₀ operands₀ steps tests edges operands s from t
+
+abbrev μ-loop : tie.MeasureT-loop
+μ-loop tree names steps₀ tests₀ edges₀ operands₀ end count s₀ from₀ t₀ steps tests edges operands s from t =
+    count - t
+
+count-of-requires : tie.Need-count-of-requires Inv-loop μ-loop
+count-of-requires c κs =
+    accepted-vector _ _ (c .before .before .before .before .before .pre .accepted)
+
+loop-holds : tie.Need-loop-holds Inv-loop μ-loop
+loop-holds c =
+    filling-first
+
+shape-of-requires : tie.Need-shape-of-requires Inv-loop μ-loop
+shape-of-requires c κs =
+    let c8 = c .before .before .before .before .before .before .before .before in
+    let e = count-exact _ _ (c8 .pre .accepted) (c .before .before .count-of .ensures) in
+    accepted-chosen _ _ (c8 .pre .accepted) (omega (arith, e, c .loop-test .taken))
+
+cast-steps : tie.Need-cast-steps Inv-loop μ-loop
+cast-steps c =
+    let c1 = c .before in
+    let c3 = c1 .before .before in
+    let c9 = c3 .before .before .before .before .before .before in
+    let e = count-exact _ _ (c9 .pre .accepted) (c3 .count-of .ensures) in
+    let r =
+    steps-small (c9 .pre) (c1 .before .loop .inv) (omega (arith, e, c1 .loop-test .taken)) (c .shape-of .ensures)
+    in
+    omega arith
+
+slice-write-steps : tie.Need-slice-write-steps Inv-loop μ-loop
+slice-write-steps c =
+    let c1 = c .before in
+    let c3 = c1 .before .before in
+    let c9 = c3 .before .before .before .before .before .before in
+    let e = count-exact _ _ (c9 .pre .accepted) (c3 .count-of .ensures) in
+    steps-room (c9 .pre) (c1 .before .loop .inv) (omega (arith, e, c1 .loop-test .taken)) (c .shape-of .ensures)
+
+put-alternative-requires : tie.Need-put-alternative-requires Inv-loop μ-loop
+put-alternative-requires c κs =
+    let x = c .before .before .before in
+    let y = x .before in
+    let z = y .before .before .before .before .before .before .before .before in
+    let e = count-exact _ _ (z .pre .accepted) (y .before .before .count-of .ensures) in
+    alternative-adding (z .pre) (y .before .loop .inv) (omega (arith, e, y .loop-test .taken)) (x .shape-of .ensures)
+
+add-s : tie.Need-add-s Inv-loop μ-loop
+add-s c =
+    let x = c .before .before .before .before .before .before .before .before .before .before in
+    let y = x .before in
+    let z = y .before .before .before .before .before .before .before .before in
+    let e = count-exact _ _ (z .pre .accepted) (y .before .before .count-of .ensures) in
+    let r =
+    passed-small (z .pre) (y .before .loop .inv) (omega (arith, e, y .loop-test .taken)) (x .shape-of .ensures)
+    in
+    omega arith
+
+add-t : tie.Need-add-t Inv-loop μ-loop
+add-t c =
+    omega arith
+
+loop-less : tie.Need-loop-less Inv-loop μ-loop
+loop-less c =
+    omega arith
+
+loop-again : tie.Need-loop-again Inv-loop μ-loop
+loop-again c =
+    let w = c .before .before .before .before .before .before in
+    let x = w .before .before .before .before in
+    let y = x .before in
+    let z = y .before .before .before .before .before .before .before .before in
+    let e = count-exact _ _ (z .pre .accepted) (y .before .before .count-of .ensures) in
+    alternative-next (z .pre) (y .before .loop .inv) (omega (arith, e, y .loop-test .taken)) (x .shape-of .ensures)
+    (w .put-alternative .ensures)
+
+same-length : tie.Need-same-length Inv-loop μ-loop
+same-length c =
+    filling-lengths (c .before .loop .inv) .0
+
+same-length-2 : tie.Need-same-length-2 Inv-loop μ-loop
+same-length-2 c =
+    filling-lengths (c .before .loop .inv) .1
+
+same-length-3 : tie.Need-same-length-3 Inv-loop μ-loop
+same-length-3 c =
+    filling-lengths (c .before .loop .inv) .2
+
+same-length-4 : tie.Need-same-length-4 Inv-loop μ-loop
+same-length-4 c =
+    filling-lengths (c .before .loop .inv) .3
+
+returns : tie.Need-returns Inv-loop μ-loop
+returns c =
+    let c8 = c .before .before .before .before .before .before .before .before in
+    let e = count-exact _ _ (c8 .pre .accepted) (c .before .before .count-of .ensures) in
+    alternatives-filled (c8 .pre) (c .before .loop .inv) (omega (arith, e, c .loop-test .left))
+
+pub fill-spec : {M : Type 1} → statement M
+fill-spec =
+    tie.close
+    (tie.spec
+    Inv-loop
+    μ-loop
+    count-of-requires
+    loop-holds
+    shape-of-requires
+    cast-steps
+    slice-write-steps
+    put-alternative-requires
+    add-s
+    add-t
+    loop-less
+    loop-again
+    same-length
+    same-length-2
+    same-length-3
+    same-length-4
+    returns)

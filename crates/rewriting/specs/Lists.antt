@@ -1,0 +1,98 @@
+-- The alternatives of a tree as four lists; matcher/specs/Shapes says what the lists stand for.
+--   stepList       for each alternative its number of steps
+--   testList       for each step, all alternatives' steps one after the other, its number of tests
+--   edgeList       for each test, all steps' tests one after the other, the number of its edge
+--   operandList    for each test the place where its operand ends
+use Prim.Native.Nat.{ℕ, _+_, _<_, _≤_}
+use mathlib.Core.Path.{_≡_}
+use mathlib.Core.List.{List, [], _∷_, _++_, map}
+use lib.ListN.{length, getD, take, drop, replicate}
+use lib.Seq.{sets}
+use Rattle.alf.specs.Alternatives.{Alternative, alternatives}
+use Rattle.alf.specs.declared.Sort.the-variants.{Vector}
+use Rattle.trees.specs.Parts.{vectorAt}
+use Rattle.limits.specs.Accepted.{Accepted}
+use Rattle.matcher.specs.Shapes.{alternativesOf, Shape}
+use Rattle.rewriting.specs.declared.lists.Alternatives.{Alternatives}
+use Rattle.rewriting.specs.Codes.{placed, numbers, ends}
+use Rattle.rewriting.specs.Steps.{Put}
+
+-- some lists, one after the other
+unfoldable pub joined : {A : Type 0} → List (List A) → List A
+joined [] = []
+joined (x ∷ xs) = x ++ joined xs
+
+-- the alternatives of a whole tree, each operand named by the place where it ends
+abbrev pub alternativesAt : List ℕ → ℕ → List Alternative
+alternativesAt tree names = alternatives (placed (length tree) (vectorAt tree names (length tree)))
+
+unfoldable pub stepList : List Alternative → List ℕ
+stepList xs = map length xs
+
+unfoldable pub testList : List Alternative → List ℕ
+testList xs = map length (joined xs)
+
+unfoldable pub edgeList : List Alternative → List ℕ
+edgeList xs = numbers (joined (joined xs))
+
+unfoldable pub operandList : List Alternative → List ℕ
+operandList xs = ends (joined (joined xs))
+
+-- a list at the front of another; what stands behind it stays
+unfoldable pub laid : List ℕ → List ℕ → List ℕ
+laid w out = w ++ drop (length w) out
+
+-- how long the lists are: alternatives, steps, tests
+pub record Long (xs : List Alternative) (count steps tests : ℕ) : Type 0 where
+  pub alternatives-are : count ≡ length xs
+  pub steps-are : steps ≡ length (joined xs)
+  pub tests-are : tests ≡ length (joined (joined xs))
+
+-- the lists at the front of four others
+pub record Filled (xs : List Alternative) (steps tests edges operands steps′ tests′ edges′ operands′ : List ℕ)
+    : Type 0 where
+  pub steps-are : steps′ ≡ laid (stepList xs) steps
+  pub tests-are : tests′ ≡ laid (testList xs) tests
+  pub edges-are : edges′ ≡ laid (edgeList xs) edges
+  pub operands-are : operands′ ≡ laid (operandList xs) operands
+
+-- they have room
+pub record Fillable (tree : List ℕ) (names : ℕ) (steps tests edges operands : List ℕ) : Type 0 where
+  pub accepted : Accepted names Vector tree
+  pub steps-room : length (alternativesAt tree names) ≤ length steps
+  pub tests-room : length (joined (alternativesAt tree names)) ≤ length tests
+  pub edges-room : length (joined (joined (alternativesAt tree names))) ≤ length edges
+  pub operands-room : length (joined (joined (alternativesAt tree names))) ≤ length operands
+
+-- the n steps of alternative t, behind others: what is asked, and what is written
+abbrev pub alternativeOf : List ℕ → ℕ → ℕ → Alternative
+alternativeOf tree names t = getD (alternativesAt tree names) t []
+
+pub record Adding (tree : List ℕ) (names t n : ℕ) (tests : List ℕ) (s : ℕ) (edges operands : List ℕ) (from : ℕ)
+    : Type 0 where
+  pub accepted : Accepted names Vector tree
+  pub there : t < length (alternativesAt tree names)
+  pub steps : n ≡ length (alternativeOf tree names t)
+  pub tests-room : s + n ≤ length tests
+  pub edges-room : from + length (joined (alternativeOf tree names t)) ≤ length edges
+  pub operands-room : from + length (joined (alternativeOf tree names t)) ≤ length operands
+
+pub record Added (tree : List ℕ) (names t : ℕ) (tests : List ℕ) (s : ℕ) (edges operands : List ℕ) (from : ℕ)
+    (tests′ edges′ operands′ : List ℕ) (next : ℕ) : Type 0 where
+  pub counts : tests′ ≡ sets tests s (map length (alternativeOf tree names t))
+  pub put : Put (joined (alternativeOf tree names t)) from edges operands next edges′ operands′
+
+-- The lists of a tree by value. Their fronts, as long as the counts say, have the shape that matching asks for, and
+-- stand for the expression's alternatives; zeros stand behind.
+pub record Holds (tree : List ℕ) (names : ℕ) (a : Alternatives) : Type 0 where
+  pub long : Long (alternativesAt tree names) (a .count) (a .«step_count») (a .«test_count»)
+  pub filled : Filled (alternativesAt tree names) (replicate 64 0) (replicate 1024 0) (replicate 4096 0)
+      (replicate 4096 0) (a .steps) (a .tests) (a .edges) (a .operands)
+  pub few-alternatives : a .count ≤ 64
+  pub few-steps : a .«step_count» ≤ 1024
+  pub few-tests : a .«test_count» ≤ 4096
+  pub shape : Shape tree names (take (a .count) (a .steps)) (take (a .«step_count») (a .tests))
+      (take (a .«test_count») (a .edges)) (take (a .«test_count») (a .operands))
+  pub stands : alternativesOf tree names (take (a .count) (a .steps)) (take (a .«step_count») (a .tests))
+      (take (a .«test_count») (a .edges)) (take (a .«test_count») (a .operands))
+      ≡ alternatives (vectorAt tree names (length tree))

@@ -1,0 +1,159 @@
+// All alternatives of a tree, written into four lists: steps of each alternative, tests of each step, and for each test
+// its edge's number and its operand's end.
+use crate::steps::put_step;
+use limits::sizes;
+ghost use Rattle.alf.specs.declared.Sort.the-variants.{Vector};
+ghost use Rattle.limits.specs.Accepted.{Accepted};
+ghost use Rattle.rewriting.specs.Lists.{alternativesAt, Adding, Added, Fillable, Filled, Long, Holds};
+
+// How many entries the lists have: alternatives, steps of all of them, tests of all those.
+pub struct Lengths {
+    pub alternatives: usize,
+    pub steps: usize,
+    pub tests: usize,
+}
+
+// The lists of a tree, and how many of their entries are in use; zeros stand behind those.
+pub struct Alternatives {
+    pub count: usize,
+    pub step_count: usize,
+    pub test_count: usize,
+    pub steps: [u8; 64],
+    pub tests: [u8; 1024],
+    pub edges: [u8; 4096],
+    pub operands: [u16; 4096],
+}
+
+// How long the lists are.
+pub fn lengths_of(tree: &[u8], names: usize) -> Lengths
+    requires { ⌜ Accepted names Vector (now tree) ⌝ }
+    ensures { λ r. ⌜ Long (alternativesAt (now (tree .entry)) names) (r .alternatives) (r .steps) (r .tests) ⌝ }
+{
+    let end = tree.len();
+    let n = sizes::count_of(tree, end, names);
+    let mut steps: usize = 0;
+    let mut tests: usize = 0;
+    let mut t: usize = 0;
+    while t < n {
+        let x = sizes::shape_of(tree, end, names, t);
+        steps += x.steps;
+        tests += x.tests;
+        t += 1;
+    }
+    Lengths {
+        alternatives: n,
+        steps,
+        tests,
+    }
+}
+
+// The n steps of alternative t: how many tests each has, from place s on, and these tests, from place `from` on; the
+// place behind them.
+fn put_alternative(
+    tree: &[u8],
+    names: usize,
+    t: usize,
+    n: usize,
+    tests: &mut [u8],
+    s: usize,
+    edges: &mut [u8],
+    operands: &mut [u16],
+    from: usize,
+) -> usize
+    requires { ⌜ Adding (now tree) names t n (now tests) s (now edges) (now operands) from ⌝ }
+    ensures { λ r. ⌜ Added (now (tree .entry)) names t (now (tests .entry)) s (now (edges .entry))
+        (now (operands .entry)) from (now (tests .exit)) (now (edges .exit)) (now (operands .exit)) r ⌝ }
+{
+    let end = tree.len();
+    let mut at = from;
+    let mut j: usize = 0;
+    while j < n {
+        let next = put_step(tree, end, names, t, j, edges, operands, at);
+        tests[s + j] = (next - at) as u8;
+        at = next;
+        j += 1;
+    }
+    at
+}
+
+// All of its alternatives, one after the other, where there is room.
+pub fn fill(
+    tree: &[u8],
+    names: usize,
+    steps: &mut [u8],
+    tests: &mut [u8],
+    edges: &mut [u8],
+    operands: &mut [u16],
+)
+    requires { ⌜ Fillable (now tree) names (now steps) (now tests) (now edges) (now operands) ⌝ }
+    ensures { λ r. ⌜ Filled (alternativesAt (now (tree .entry)) names) (now (steps .entry)) (now (tests .entry))
+        (now (edges .entry)) (now (operands .entry)) (now (steps .exit)) (now (tests .exit)) (now (edges .exit))
+        (now (operands .exit)) ⌝ }
+{
+    let end = tree.len();
+    let count = sizes::count_of(tree, end, names);
+    let mut s: usize = 0;
+    let mut from: usize = 0;
+    let mut t: usize = 0;
+    while t < count {
+        let x = sizes::shape_of(tree, end, names, t);
+        let n = x.steps;
+        steps[t] = n as u8;
+        from = put_alternative(tree, names, t, n, tests, s, edges, operands, from);
+        s += n;
+        t += 1;
+    }
+}
+
+// The same into arrays, which have room for any tree that is accepted.
+fn fill_arrays(
+    tree: &[u8],
+    names: usize,
+    steps: &mut [u8; 64],
+    tests: &mut [u8; 1024],
+    edges: &mut [u8; 4096],
+    operands: &mut [u16; 4096],
+)
+    requires { ⌜ Accepted names Vector (now tree) ⌝ }
+    ensures { λ r. ⌜ Filled (alternativesAt (now (tree .entry)) names) (now (steps .entry)) (now (tests .entry))
+        (now (edges .entry)) (now (operands .entry)) (now (steps .exit)) (now (tests .exit)) (now (edges .exit))
+        (now (operands .exit)) ⌝ }
+{
+    fill(
+        tree,
+        names,
+        &mut steps[..],
+        &mut tests[..],
+        &mut edges[..],
+        &mut operands[..],
+    );
+}
+
+// The alternatives of an accepted tree.
+pub fn alternatives_of(tree: &[u8], names: usize) -> Alternatives
+    requires { ⌜ Accepted names Vector (now tree) ⌝ }
+    ensures { λ r. ⌜ Holds (now (tree .entry)) names r ⌝ }
+{
+    let lengths = lengths_of(tree, names);
+    let mut steps = [0u8; 64];
+    let mut tests = [0u8; 1024];
+    let mut edges = [0u8; 4096];
+    let mut operands = [0u16; 4096];
+    fill_arrays(
+        tree,
+        names,
+        &mut steps,
+        &mut tests,
+        &mut edges,
+        &mut operands,
+    );
+    Alternatives {
+        count: lengths.alternatives,
+        step_count: lengths.steps,
+        test_count: lengths.tests,
+        steps,
+        tests,
+        edges,
+        operands,
+    }
+}
