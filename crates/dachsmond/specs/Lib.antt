@@ -1,0 +1,2 @@
+-- What the library for C tells.
+pub mod Handing

@@ -1,0 +1,41 @@
+// The library for C: every public call under a plain name, `include/dachsmond.h` declares them. A call hands on to the
+// crate that has it and tells what came of it in numbers, since an enum cannot cross to C. Lent memory is a pointer and
+// a length. Number 0 is done; another is document 01's number of the refusal.
+pub mod files;
+pub mod rows;
+pub mod texts;
+
+// What came of a call: refused with a number at a place, or done, with a count of what it made.
+#[repr(C)]
+pub struct Told {
+    pub number: u8,
+    pub place: usize,
+    pub count: usize,
+}
+
+// What came of reading an expression: refused, or the first `len` entries of `tree`, with zeros behind them.
+#[repr(C)]
+pub struct Expression {
+    pub number: u8,
+    pub place: usize,
+    pub len: usize,
+    pub tree: [u8; 256],
+}
+
+// What came of reading a trace: refused, or how many names and rows.
+#[repr(C)]
+pub struct Trace {
+    pub number: u8,
+    pub place: usize,
+    pub names: usize,
+    pub rows: usize,
+}
+
+// The changes of a row: refused, or the set of changed variables and how many they are.
+#[repr(C)]
+pub struct Changed {
+    pub number: u8,
+    pub place: usize,
+    pub mask: u32,
+    pub many: u32,
+}

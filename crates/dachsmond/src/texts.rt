@@ -1,0 +1,70 @@
+// Expressions for C: reading and writing.
+ghost use mathlib.Core.Path.{_≡_};
+ghost use Rattle.reader.specs.Reading.{Reading};
+ghost use Rattle.writer.specs.Writing.{Writes};
+ghost use Rattle.dachsmond.specs.Handing.{Hands, told, toldExpression, sortOf};
+use crate::Expression;
+use crate::Told;
+use alf::Outcome;
+use alf::Sort;
+use reader::Read;
+use reader::read_expression;
+use writer::write_expression;
+
+// An outcome in numbers.
+pub fn tell(o: Outcome) -> Told
+    ensures { λ r. ⌜ r ≡ told o ⌝ }
+{
+    match o {
+        Outcome::Done(count) => Told {
+            number: 0,
+            place: 0,
+            count,
+        },
+        Outcome::Refused(r) => Told {
+            number: r.number,
+            place: r.place,
+            count: 0,
+        },
+    }
+}
+
+fn tell_expression(r: Read) -> Expression
+    ensures { λ t. ⌜ t ≡ toldExpression r ⌝ }
+{
+    let tree = r.tree;
+    Expression {
+        number: r.refusal.number,
+        place: r.refusal.place,
+        len: r.len,
+        tree,
+    }
+}
+
+fn sort_of(vector: bool) -> Sort
+    ensures { λ r. ⌜ r ≡ sortOf vector ⌝ }
+{
+    if vector { Sort::Vector } else { Sort::Boolean }
+}
+
+// The expression that a text is, as a tree over a list of names.
+#[no_mangle]
+pub extern "C" fn dachsmond_read_expression(names: &[u8], text: &[u8], vector: bool) -> Expression
+    ensures { λ r. ⌜ Hands (Reading (now (names .entry)) (now (text .entry)) (sortOf vector)) toldExpression r ⌝ }
+{
+    tell_expression(read_expression(names, text, sort_of(vector)))
+}
+
+// The text of a tree into a lent buffer.
+#[no_mangle]
+pub extern "C" fn dachsmond_write_expression(
+    names: &[u8],
+    tree: &[u8],
+    vector: bool,
+    out: &mut [u8],
+) -> Told
+    ensures { λ r. ⌜ Hands (Writes (now (names .entry)) (now (tree .entry)) (sortOf vector) (now (out .entry))
+        (now (out .exit))) told r ⌝ }
+{
+    tell(write_expression(names, tree, sort_of(vector), out))
+}

@@ -1,0 +1,73 @@
+/* Dachsmond for C. Each function's meaning is document 01's; `crates/dachsmond` has the contracts, which are proved.
+   Link with libdachsmond.a (`rt staticlib dachsmond`, x86-64).
+
+   Lent memory is a pointer and a length in entries; a pointer is not null, also where the length is 0, and lists that a
+   call writes to overlap no other. A number of 0 is done. Another is document 01's number of the refusal, with its place;
+   then all lent memory is as it was and the other fields are 0.
+
+   Names are slots of 32 bytes, filled with zeros behind the name. States are codes 0 to 7 for 0 1 X H L W Z U, row by row.
+   A tree is the bytes of an expression, one a node, operands before their operator. */
+#ifndef DACHSMOND_H
+#define DACHSMOND_H
+#include <stdbool.h>
+#include <stddef.h>
+#include <stdint.h>
+
+#ifdef __cplusplus
+extern "C" {
+#endif
+
+/* What came of a call: done, with a count of what it made, or refused. */
+typedef struct {
+    uint8_t number;
+    size_t place;
+    size_t count;
+} dachsmond_told;
+
+/* The first `len` entries of `tree`, with zeros behind them, or refused. */
+typedef struct {
+    uint8_t number;
+    size_t place;
+    size_t len;
+    uint8_t tree[256];
+} dachsmond_expression;
+
+/* How many names and rows were read, or refused. */
+typedef struct {
+    uint8_t number;
+    size_t place;
+    size_t names;
+    size_t rows;
+} dachsmond_trace;
+
+/* The changed variables of a row, bit i for name i, and how many they are, or refused. */
+typedef struct {
+    uint8_t number;
+    size_t place;
+    uint32_t mask;
+    uint32_t many;
+} dachsmond_changed;
+
+/* The expression that a text is, as a tree over a list of names, for the sort asked for: 18, 12, 1 to 8. */
+dachsmond_expression dachsmond_read_expression(const uint8_t *names, size_t names_len, const uint8_t *text,
+                                               size_t text_len, bool vector);
+
+/* The text of a tree, with only needed brackets, at the front of `out`; its length: 18, 12, 10, 1, 9. */
+dachsmond_told dachsmond_write_expression(const uint8_t *names, size_t names_len, const uint8_t *tree, size_t tree_len,
+                                          bool vector, uint8_t *out, size_t out_len);
+
+/* A trace file into three lists, names in slots, times, and states: 11 to 17, then 9 for the first short list. */
+dachsmond_trace dachsmond_read_trace(const uint8_t *file, size_t file_len, uint8_t *names, size_t names_len,
+                                     uint32_t *times, size_t times_len, uint8_t *states, size_t states_len);
+
+/* The file of a trace of n rows at the front of `out`; its length: 18, 12, 13 and 15 row by row, 9. */
+dachsmond_told dachsmond_write_trace(const uint8_t *names, size_t names_len, const uint32_t *times, size_t times_len,
+                                     const uint8_t *states, size_t states_len, size_t n, uint8_t *out, size_t out_len);
+
+/* The changes of a row of a trace of n rows and so many names; row 0 has none: 18, 15, 19. */
+dachsmond_changed dachsmond_changes_at(size_t names, size_t n, const uint8_t *states, size_t states_len, size_t row);
+
+#ifdef __cplusplus
+}
+#endif
+#endif

@@ -1,0 +1,51 @@
+/* The library from C: document 01's trace file of one name, and table T. */
+#include "../include/dachsmond.h"
+#include <stdio.h>
+#include <string.h>
+
+/* document 01: one name A, rows 0 and 1 at times 0 and 10 */
+static const uint8_t FILE_OF_TWO[] = {0x4E, 0x4D, 0x01, 0x41, 0x52, 0x57, 0, 0, 0, 0, 0, 0x52,
+                                      0x57, 0x0A, 0,    0,    0,    1,    0x45, 0x4E, 2, 0, 0, 0};
+
+/* table T: names A B C, codes of 0 1 X H L W Z U */
+static const uint8_t NAMES[3 * 32] = {[0] = 'A', [32] = 'B', [64] = 'C'};
+static const uint8_t STATES[6 * 3] = {0, 1, 1, 1, 1, 1, 1, 0, 2, 2, 0, 1, 1, 6, 1, 1, 0, 3};
+
+static void read_and_write(const char *text, bool vector)
+{
+    uint8_t out[100];
+    dachsmond_expression e =
+        dachsmond_read_expression(NAMES, sizeof NAMES, (const uint8_t *)text, strlen(text), vector);
+    if (e.number) {
+        printf("%s: refused with %u at %zu\n", text, e.number, e.place);
+        return;
+    }
+    dachsmond_told w = dachsmond_write_expression(NAMES, sizeof NAMES, e.tree, e.len, vector, out, sizeof out);
+    printf("%s: %zu nodes, written %.*s\n", text, e.len, (int)w.count, (const char *)out);
+}
+
+static void show_changes(void)
+{
+    for (size_t row = 0; row < 7; row++) {
+        dachsmond_changed c = dachsmond_changes_at(3, 6, STATES, sizeof STATES, row);
+        if (c.number) printf("row %zu: refused with %u at %zu\n", row, c.number, c.place);
+        else printf("row %zu: changed %u, set %u\n", row, c.many, c.mask);
+    }
+}
+
+int main(void)
+{
+    uint8_t names[32], states[2], file[24];
+    uint32_t times[2];
+    dachsmond_trace t = dachsmond_read_trace(FILE_OF_TWO, 24, names, 32, times, 2, states, 2);
+    printf("%zu name %s, %zu rows, times %u %u, states %u %u\n", t.names, (const char *)names, t.rows, times[0],
+           times[1], states[0], states[1]);
+    dachsmond_told w = dachsmond_write_trace(names, 32, times, 2, states, 2, 2, file, 24);
+    printf("written again: %zu bytes, %s\n", w.count, memcmp(file, FILE_OF_TWO, 24) ? "others" : "the same");
+    t = dachsmond_read_trace(FILE_OF_TWO, 23, names, 32, times, 2, states, 2);
+    printf("one byte less: refused with %u at %zu\n", t.number, t.place);
+    read_and_write("((01 A)->10 B)&&C", true);
+    read_and_write("A?C:'bz", false);
+    read_and_write("01 A -> B", true);
+    show_changes();
+}

@@ -1,0 +1,109 @@
+/* The twin's side: answers each case on standard input by document 01. */
+#include "lines.h"
+#include "twin.h"
+#include <stdlib.h>
+#include <string.h>
+
+enum { MAX_CELLS = 65535 * 32 };
+
+static void do_read(void)
+{
+    Bytes names = take_bytes();
+    int sort = (int)take_number();
+    Bytes text = take_bytes();
+    Node *tree;
+    byte bytes[MAX_NODES];
+    Refusal r = read_text(names.at, names.length, text.at, text.length, sort, &tree);
+    if (r.number) say_refused(r.number, (unsigned long)r.place);
+    else {
+        printf("tree");
+        say_bytes(bytes, tree_bytes(tree, bytes, 0));
+    }
+    end_line(0);
+}
+
+static void do_write(void)
+{
+    Bytes names = take_bytes();
+    int sort = (int)take_number();
+    Bytes tree = take_bytes(), out = lend(take_number());
+    long size = 0;
+    Refusal r = write_text(names.at, names.length, tree.at, tree.length, sort, out.length, (char *)out.at, &size);
+    if (r.number) say_refused(r.number, (unsigned long)r.place);
+    else printf("text %ld %.*s", size, (int)size, (char *)out.at);
+    end_line(sum_of(0, out.at, out.length));
+}
+
+/* 9 for the first short one of the three lists. */
+static Refusal hand_over(const File *file, Bytes names, Bytes times, Bytes states)
+{
+    long k = file->names, n = file->rows;
+    if (names.length < 32 * k) return (Refusal){9, 32 * k};
+    if (times.length / 4 < n) return (Refusal){9, n};
+    if (states.length < n * k) return (Refusal){9, n * k};
+    memcpy(names.at, file->slots, (size_t)(32 * k));
+    memcpy(times.at, file->times, (size_t)(4 * n));
+    memcpy(states.at, file->states, (size_t)(n * k));
+    return (Refusal){0, 0};
+}
+
+static void do_read_trace(void)
+{
+    static File file;
+    if (!file.times) {
+        file.times = malloc(4 * 65535);
+        file.states = malloc(MAX_CELLS);
+    }
+    Bytes bytes = take_bytes(), names = lend(take_number());
+    Bytes times = lend(4 * take_number()), states = lend(take_number());
+    Refusal r = read_file(bytes.at, bytes.length, &file);
+    if (!r.number) r = hand_over(&file, names, times, states);
+    if (r.number) say_refused(r.number, (unsigned long)r.place);
+    else printf("read %d %ld", file.names, file.rows);
+    end_line(sum_of(sum_of(sum_of(0, names.at, names.length), times.at, times.length), states.at, states.length));
+}
+
+static void do_write_trace(void)
+{
+    Bytes names = take_bytes(), times = take_bytes(), states = take_bytes();
+    long n = take_number(), size = 0;
+    Bytes out = lend(take_number());
+    Refusal r = write_file(names.at, names.length, (const uint32_t *)times.at, times.length / 4, states.at,
+                           states.length, n, out.length, out.at, &size);
+    if (r.number) say_refused(r.number, (unsigned long)r.place);
+    else printf("wrote %ld", size);
+    end_line(sum_of(0, out.at, out.length));
+}
+
+static void do_changes(void)
+{
+    long names = take_number(), n = take_number();
+    Bytes states = take_bytes();
+    long row = take_number();
+    Refusal r = check_rows(names, n, states.length);
+    if (!r.number) r = first_code(states.at, states.length);
+    if (!r.number && row >= n) r = (Refusal){19, 0};
+    if (r.number) say_refused(r.number, (unsigned long)r.place);
+    else {
+        uint32_t mask = 0;
+        int many = 0;
+        for (long i = 0; i < names && row > 0; i++)
+            if (states.at[row * names + i] != states.at[(row - 1) * names + i]) { mask |= (uint32_t)1 << i; many++; }
+        printf("changed %u %d", mask, many);
+    }
+    end_line(0);
+}
+
+int main(void)
+{
+    for (int c; (c = next_line()) != EOF;) {
+        free_nodes();
+        forget_windows();
+        if (c == 'e') do_read();
+        else if (c == 'w') do_write();
+        else if (c == 'f') do_read_trace();
+        else if (c == 'g') do_write_trace();
+        else if (c == 'c') do_changes();
+        else do_pattern(c);
+    }
+}

@@ -1,0 +1,207 @@
+/* cases SEED COUNT LETTERS [ROWS]: random cases for the calls named by the letters of lines.h, on standard output.
+   With ROWS every trace has so many rows, or one more. */
+#include "cases.h"
+#include <stdio.h>
+#include <stdlib.h>
+#include <string.h>
+
+static Buffer names, text, tree, states, times, file, old, fresh;
+
+static long fixed_rows;
+
+static const char SIGNS[] = "01?!-'bXxAB()&|<>=^~: ";
+
+/* Mostly small, now and then as large as may be. */
+static int any_size(void)
+{
+    if (fixed_rows) return 2 + (int)below(30);
+    return 1 + (int)below(once_in(12) ? 260 : once_in(3) ? 40 : 10);
+}
+
+static long any_rows(long most)
+{
+    if (fixed_rows) return fixed_rows + once_in(4);
+    return once_in(40) ? below(2) : once_in(20) ? 1 + below(16 * most) : 1 + below(most);
+}
+
+void make_states(Buffer *out, long n)
+{
+    int wild = (int)below(3);
+    clear(out);
+    for (long i = 0; i < n; i++) add(out, (int)below(wild == 0 || once_in(8) ? 8 : 1 + wild));
+    if (once_in(30) && n > 0) out->at[below(n)] = (uint8_t)(8 + below(248));
+}
+
+static void add_word(Buffer *out, uint32_t x)
+{
+    for (int i = 0; i < 4; i++) add(out, (int)(x >> 8 * i & 255));
+}
+
+/* Rising times from a small or a large first one on; now and then one that does not rise. */
+long make_times(Buffer *out, long n)
+{
+    uint32_t t = once_in(4) ? (uint32_t)below(4290000000) : (uint32_t)below(3);
+    clear(out);
+    for (long i = 0; i < n; i++) {
+        add_word(out, t);
+        t += once_in(20 + 2 * n) ? 0 : 1 + (uint32_t)below(once_in(20) ? 100000 : 12);
+    }
+    return n;
+}
+
+void make_file(Buffer *out)
+{
+    long k = make_names(&names), n = any_rows(6), extra = once_in(60) ? 33 - k : 0;
+    make_states(&states, n * k);
+    make_times(&times, n);
+    clear(out);
+    for (long i = 0; i < k + extra; i++) {
+        const uint8_t *slot = names.at + 32 * (i < names.length / 32 ? i : 0);
+        long size = (long)strnlen((const char *)slot, 32);
+        add_text(out, "NM");
+        add(out, (int)size);
+        for (long j = 0; j < size; j++) add(out, slot[j]);
+    }
+    for (long i = 0; i < n; i++) {
+        add_text(out, "RW");
+        for (int j = 0; j < 4; j++) add(out, times.at[4 * i + j]);
+        for (long j = 0; j < k; j++) add(out, states.at[i * k + j]);
+    }
+    add_text(out, "EN");
+    add_word(out, (uint32_t)(n + once_in(40)));
+    while (once_in(30)) add(out, (int)below(256));
+    if (once_in(3)) damage(out, "NMRWEN\x01\x02\x08" "A");
+}
+
+/* A length: mostly enough, else about the length needed. */
+static long room_for(long needed) { return once_in(3) ? needed + below(3) - (needed > 0) : needed + 8; }
+
+static void case_read(void)
+{
+    long k = make_names(&names);
+    int sort = (int)below(2);
+    clear(&text);
+    if (once_in(6)) make_edge_text(&text);
+    else if (once_in(4)) make_soup(&text, k);
+    else make_text(&text, k, once_in(20) ? 1 - sort : sort, any_size());
+    if (once_in(4)) damage(&text, SIGNS);
+    printf("e");
+    say(&names);
+    printf(" %d", sort);
+    say(&text);
+}
+
+/* Of a sort, now and then of the other one or damaged. */
+static void some_tree(long k, int sort, int size)
+{
+    clear(&tree);
+    make_tree(&tree, k, once_in(40) ? 1 - sort : sort, size);
+    if (once_in(20)) for (int i = 0; i < 8; i++) tree.at[below(tree.length)] = (uint8_t)below(256);
+    if (once_in(20)) damage(&tree, "\x01\x20\x28\x32\x38\x39\x3a\x3c\x40");
+}
+
+/* A text of about 4,096 bytes: 32 of a name, 3 of a sign and its blanks, and a few digits. */
+static void some_long_text(void)
+{
+    long k = make_long_names(&names);
+    clear(&tree);
+    add(&tree, (int)below(k));
+    for (long i = 115 + below(4); i > 0; i--) {
+        add(&tree, once_in(60) ? 32 : (int)below(k));
+        add(&tree, 40);
+    }
+}
+
+static void case_write(void)
+{
+    int sort = (int)below(2);
+    if (sort == 0 && once_in(10)) some_long_text();
+    else some_tree(make_names(&names), sort, any_size());
+    printf("w");
+    say(&names);
+    printf(" %d", sort);
+    say(&tree);
+    printf(" %ld", once_in(3) ? below(40) : 5000L);
+}
+
+static void case_read_trace(void)
+{
+    make_file(&file);
+    long k = names.length / 32, n = times.length / 4;
+    printf("f");
+    say(&file);
+    printf(" %ld", room_for(32 * k));
+    printf(" %ld", room_for(n));
+    printf(" %ld", room_for(n * k));
+}
+
+static void case_write_trace(void)
+{
+    long k = make_names(&names), n = make_times(&times, any_rows(6)), needed = 6;
+    make_states(&states, n * k + (once_in(40) ? 1 : 0));
+    for (long i = 0; i + 32 <= names.length; i += 32) needed += 3 + (long)strnlen((const char *)names.at + i, 32);
+    needed += n * (6 + k);
+    printf("g");
+    say(&names);
+    say(&times);
+    say(&states);
+    printf(" %ld", once_in(40) ? n + 1 : n);
+    printf(" %ld", room_for(needed));
+}
+
+/* Names and rows of a call over rows; the states fit unless it says otherwise. */
+static void some_rows(long *k, long *n)
+{
+    *k = once_in(40) ? below(35) : once_in(4) ? 1 + below(32) : 1 + below(4);
+    *n = any_rows(24);
+    make_states(&states, *k * *n + once_in(60));
+}
+
+static long some_row(long n) { return once_in(30) ? n + below(3) : below(n); }
+
+static void case_changes(void)
+{
+    long k, n;
+    some_rows(&k, &n);
+    printf("c %ld %ld", k, n);
+    say(&states);
+    printf(" %ld", some_row(n));
+}
+
+static void case_pattern(int letter)
+{
+    long k, n;
+    some_rows(&k, &n);
+    some_tree(k, letter == 'v' || letter == 's' ? 0 : 1, any_size());
+    printf("%c %ld", letter, k);
+    if (letter != 'q') printf(" %ld", n);
+    say(&tree);
+    say(&states);
+    if (letter == 'v') printf(" %ld", n + once_in(40));
+    if (letter == 'm') printf(" %ld %ld", n + once_in(40), n + once_in(40));
+    if (letter == 'r' || letter == 's') printf(" %ld", some_row(n));
+    if (letter != 'k') return;
+    make_states(&old, n + once_in(40));
+    make_states(&fresh, k + once_in(40));
+    say(&old);
+    printf(" %ld", some_row(n));
+    say(&fresh);
+}
+
+int main(int argc, char **argv)
+{
+    if (argc < 4) return fprintf(stderr, "usage: cases SEED COUNT LETTERS [ROWS]\n"), 2;
+    const char *letters = argv[3];
+    fixed_rows = argc > 4 ? atol(argv[4]) : 0;
+    seed(strtoull(argv[1], NULL, 10));
+    for (long i = atol(argv[2]); i > 0; i--) {
+        int letter = letters[below((long)strlen(letters))];
+        if (letter == 'e') case_read();
+        else if (letter == 'w') case_write();
+        else if (letter == 'f') case_read_trace();
+        else if (letter == 'g') case_write_trace();
+        else if (letter == 'c') case_changes();
+        else case_pattern(letter);
+        putchar('\n');
+    }
+}

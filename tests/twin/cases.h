@@ -1,0 +1,26 @@
+/* Random cases, the same ones for the same seed. What is made is mostly good; `damage` makes the rest. */
+#ifndef CASES_H
+#define CASES_H
+#include <stdint.h>
+
+typedef struct { uint8_t *at; long length, room; } Buffer;
+
+void seed(uint64_t s);
+long below(long n);                    /* 0 to n - 1 */
+int once_in(long n);                   /* yes once in n times */
+void add(Buffer *out, int byte);
+void add_text(Buffer *out, const char *text);
+void clear(Buffer *out);
+void say(const Buffer *bytes);         /* a field of the line */
+void damage(Buffer *bytes, const char *alphabet);
+
+long make_names(Buffer *out);          /* slots; how many */
+long make_long_names(Buffer *out);     /* slots that are full */
+void make_text(Buffer *out, long names, int sort, int size);
+void make_soup(Buffer *out, long names);
+void make_edge_text(Buffer *out);      /* near a limit */
+void make_tree(Buffer *out, long names, int sort, int size);
+void make_states(Buffer *out, long n);
+long make_times(Buffer *out, long n);
+void make_file(Buffer *out);
+#endif

@@ -1,0 +1,30 @@
+/* A case on a line: a letter for the call, then fields between blanks: numbers, and bytes in hexadecimal (`-`: none).
+     e NAMES SORT TEXT               read an expression (SORT 0 boolean, 1 vector)
+     w NAMES SORT TREE ROOM          write one into ROOM bytes
+     f FILE ROOM ROOM ROOM           read a trace into so many bytes of names, times and states
+     g NAMES TIMES STATES N ROOM     write a trace (TIMES four bytes each, low first)
+     c NAMES N STATES ROW            changes of a row (from here on NAMES is a number)
+     v NAMES N TREE STATES ROOM      values of all rows
+     m NAMES N TREE STATES ROOM ROOM answers and tries of all rows
+     t NAMES N TREE STATES           totals
+     r NAMES N TREE STATES ROW       a row's answer: as written, and by alternatives with its tries
+     s NAMES N TREE STATES ROW       a row's state and value
+     k NAMES N TREE STATES ANSWERS ROW NEW   correction of a row
+     q NAMES TREE STATES             a queue that takes the rows of STATES one after the other
+   An answer is a line too: `refused NUMBER PLACE` or what the call gave, then a sum over all lent memory. */
+#ifndef LINES_H
+#define LINES_H
+#include <stdint.h>
+#include <stdio.h>
+
+typedef struct { uint8_t *at; long length; } Bytes;
+
+int next_line(void);              /* its letter, or EOF */
+long take_number(void);
+Bytes take_bytes(void);           /* valid until the next line */
+Bytes lend(long length);          /* memory with a pattern in it, valid until the next line */
+uint64_t sum_of(uint64_t sum, const void *at, long length);
+void say_refused(int number, unsigned long place);
+void say_bytes(const uint8_t *at, long length);
+void end_line(uint64_t sum);
+#endif

@@ -1,0 +1,89 @@
+/* An independent twin: document 01 in plain C, written from the document and docs/DECISIONS.md and not from the
+   library. Expressions are trees of pointers, matching goes by windows. It shares nothing with the library but the
+   bytes in which a tree is handed over (crates/alf/specs/Bytes.antt). */
+#ifndef TWIN_H
+#define TWIN_H
+#include <stddef.h>
+#include <stdint.h>
+
+typedef unsigned char byte;
+
+/* number 0: not refused */
+typedef struct { int number; long place; } Refusal;
+
+enum { MAX_TEXT = 4096, MAX_OPEN = 32, MAX_NODES = 256, MAX_ALTS = 64, MAX_STEPS = 16, MAX_TESTS = 64 };
+enum { BOOLEAN, VECTOR };
+enum { NO, UNKNOWN, YES };
+
+/* What a token or a node is. An operator's level is in `level_of`. */
+typedef enum {
+    NAME, LITERAL, EDGE, NOT,
+    XOR, XNOR, EQ, NE, GT, LT, GE, LE,
+    AND,
+    THEN, EITHER, WITH_THEN, ANY_ORDER,
+    OR,
+    ASK, COLON, OPEN, CLOSE
+} Kind;
+
+/* code: a literal's state, an edge's number (9 f + t with halves ? 0 1 X H L W Z U; 81 is ?! and 82 is ?-) */
+typedef struct { Kind kind; int place, length, code; } Token;
+
+typedef struct Node Node;
+struct Node { Kind kind; int place, code, sort, id; Node *a, *b, *c; };
+
+typedef struct { int edge; Node *operand; } Test;
+/* tests[j] of the tests belong to step j, one step after the other */
+typedef struct { int steps, total, tests[MAX_STEPS]; Test test[MAX_TESTS]; } Alternative;
+typedef struct { int count; Alternative *list[MAX_ALTS]; } Alternatives;
+
+typedef struct { int names; long rows; const byte *states; } Trace;
+
+/* tokens.c */
+int is_name_byte(int b);
+int starts_name(int b);
+int level_of(Kind kind);
+Refusal take_tokens(const byte *text, long length, Token *tokens, int *count);
+
+/* grammar.c: refusals 18 and 12, then 1 to 8; `names` are slots of 32 bytes */
+Refusal check_names(const byte *names, long length);
+Node *tree_of(const Token *tokens, int count);
+int sort_fault(Node *node, int *place);
+Refusal read_text(const byte *names, long names_length, const byte *text, long length, int sort, Node **tree);
+
+/* trees.c: a tree as bytes and back, its text, refusal 10 */
+Node *new_node(Kind kind, int place, int code, Node *a, Node *b, Node *c);
+void free_nodes(void);
+int nodes_in(const Node *node);
+int tree_bytes(const Node *node, byte *out, int at);
+Node *tree_from(const byte *bytes, long length, int names);
+Refusal check_tree(const byte *bytes, long length, int names, int sort, Node **tree);
+long text_of(const Node *node, const byte *names, char *out, int *deepest);
+Refusal write_text(const byte *names, long names_length, const byte *tree, long length, int sort, long room,
+                   char *out, long *size);
+
+/* alternatives.c: NULL where over limit 8 */
+Alternatives *alternatives_of(const Node *node);
+void free_alternatives(void);
+int contradictory(const Alternative *alternative);
+long tries_at(const Alternatives *all, const Trace *trace, long row);
+
+/* windows.c */
+int reduce(int state);
+int value_at(const Node *node, const Trace *trace, long row);
+int state_at(const Node *node, const Trace *trace, long row);
+int edge_answer(int edge, int from, int to);
+int answer_on(const Node *node, const Trace *trace, long a, long b);
+int row_answer(const Node *node, const Trace *trace, long row);
+void forget_windows(void);
+
+/* traces.c */
+typedef struct { int names; long rows; byte slots[32 * 32]; uint32_t *times; byte *states; } File;
+Refusal read_file(const byte *file, long length, File *out);
+Refusal write_file(const byte *names, long names_length, const uint32_t *times, long times_length,
+                   const byte *states, long states_length, long n, long room, byte *out, long *size);
+Refusal check_rows(long names, long n, long states_length);
+Refusal first_code(const byte *states, long length);
+
+/* patterns.c: a case of a call over rows */
+void do_pattern(int letter);
+#endif
