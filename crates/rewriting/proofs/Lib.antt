@@ -14,3 +14,8 @@ pub mod Turns
 pub mod Holding
 pub mod Calls
 pub mod Theorems
+pub mod Allowing
+pub mod Quantifiers
+pub mod RowsOf
+pub mod Flagging
+pub mod Reporting

@@ -2,4 +2,5 @@
 pub mod Codes
 pub mod Steps
 pub mod Lists
+pub mod Possible
 pub mod Calls
