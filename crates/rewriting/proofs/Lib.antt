@@ -1,4 +1,4 @@
--- The laws that the alternatives are written by.
+-- The laws that the alternatives are written by, the statements that the lists meet, and the laws of the report.
 pub mod Splits
 pub mod Operands
 pub mod Placing

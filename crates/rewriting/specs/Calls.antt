@@ -1,5 +1,5 @@
 -- Document 01, "Totals, matching, rewriting, ..: 18, 10, 15, 19; for rewriting 9 last, first short output": what the
--- two calls come to that rewrite a tree, and are handed no trace. Main names: Rewrites, Contradicts.
+-- two calls come to that rewrite a tree and are handed no trace. Main names: Rewrites, Contradicts.
 use Prim.Native.Nat.{ℕ, _≤_}
 use mathlib.Core.Path.{_≡_}
 use mathlib.Core.List.{List, [], _∷_}

@@ -1,4 +1,4 @@
-// The alternatives of a tree, written into lent lists.
+// The alternatives of a tree, written into lent lists, and the report of those that are contradictory.
 pub mod lists;
 pub mod possible;
 pub mod splitting;
@@ -9,9 +9,8 @@ ghost use Rattle.alf.specs.declared.Sort.the-variants.{Vector};
 ghost use Rattle.alf.specs.Refusals.{NameCount};
 ghost use Rattle.limits.specs.Accepted.{Accepted, Decides};
 ghost use Rattle.rewriting.specs.Lists.{alternativesAt};
-ghost use Rattle.rewriting.specs.Calls.{Delivers, Rewrites};
 ghost use Rattle.rewriting.specs.Possible.{Flagged};
-ghost use Rattle.rewriting.specs.Calls.{ownAt, Flaggable, Reports, Contradicts};
+ghost use Rattle.rewriting.specs.Calls.{Delivers, Rewrites, ownAt, Flaggable, Reports, Contradicts};
 use alf::Outcome;
 use alf::Refusal;
 use alf::Sort;

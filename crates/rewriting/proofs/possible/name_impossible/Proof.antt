@@ -74,7 +74,8 @@ row-possible-requires-2 : tie.Need-row-possible-requires-2 Inv-loop μ-loop
 row-possible-requires-2 c κs =
     let c1 = c .before in
     let h = c1 .before .before .before .before .before .pre in
-    row-last (h .0) (h .1) (c1 .loop .inv)
+    let r = row-last (h .0) (h .1) (c1 .loop .inv) in
+    record { known = r .known; there = omega (arith, r .there); a-name = r .a-name }
 
 returns-2 : tie.Need-returns-2 Inv-loop μ-loop
 returns-2 c =

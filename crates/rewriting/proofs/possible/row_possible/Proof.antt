@@ -22,12 +22,13 @@ loop-holds c =
 
 row-allows-requires : tie.Need-row-allows-requires Inv-loop μ-loop
 row-allows-requires c κs =
-    (c .before .before .before .before .before .pre, c .loop-test .taken)
+    (c .before .before .before .before .before .pre, omega (arith, c .loop-test .taken))
 
 returns : tie.Need-returns Inv-loop μ-loop
 returns c =
     let c2 = c .before .before in
-    seeking-found (c2 .before .loop .inv) (c2 .loop-test .taken) (c .before .row-allows .ensures) (c .if1 .taken)
+    seeking-found (c2 .before .loop .inv) (omega (arith, c2 .loop-test .taken)) (c .before .row-allows .ensures)
+    (c .if1 .taken)
     ∙ possible-is _
 
 add-s : tie.Need-add-s Inv-loop μ-loop
@@ -41,7 +42,8 @@ loop-less c =
 loop-again : tie.Need-loop-again Inv-loop μ-loop
 loop-again c =
     let c2 = c .before .before in
-    seeking-next (c2 .before .loop .inv) (c2 .loop-test .taken) (c .before .row-allows .ensures) (c .if1 .left)
+    seeking-next (c2 .before .loop .inv) (omega (arith, c2 .loop-test .taken)) (c .before .row-allows .ensures)
+    (c .if1 .left)
 
 returns-2 : tie.Need-returns-2 Inv-loop μ-loop
 returns-2 c =

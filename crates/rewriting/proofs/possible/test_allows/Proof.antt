@@ -9,7 +9,7 @@ use Rattle.rewriting.proofs.possible.test_allows.Tie as tie
 
 returns : tie.Need-returns
 returns c =
-    test-apart _ _ _ _ _ _ _ (c .if1 .taken)
+    test-apart _ _ _ _ _ _ _ (omega (arith, c .if1 .taken))
 
 sub-at : tie.Need-sub-at
 sub-at c =
