@@ -3,8 +3,8 @@ use borrow.Author.Needs.{needs}
 use mathlib.Core.Path.{_≡_, refl}
 use Prim.Native.Nat.{_-_}
 use lib.ListN.{length}
-use Rattle.texts_runs.proofs.built.put.Statement.{statement}
-use Rattle.texts_runs.proofs.built.put.Tie as tie
+use Rattle.texts_runs.proofs.pieces.put.Statement.{statement}
+use Rattle.texts_runs.proofs.pieces.put.Tie as tie
 
 abbrev Inv-loop : tie.InvT-loop
 Inv-loop out₀ at piece to₀ i₀ out to i = length out ≡ length out₀
