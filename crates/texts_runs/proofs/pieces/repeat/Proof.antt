@@ -3,8 +3,8 @@ use borrow.Author.Needs.{needs}
 use mathlib.Core.Path.{_≡_, refl}
 use Prim.Native.Nat.{_-_}
 use lib.ListN.{length}
-use Rattle.texts_runs.proofs.built.repeat.Statement.{statement}
-use Rattle.texts_runs.proofs.built.repeat.Tie as tie
+use Rattle.texts_runs.proofs.pieces.repeat.Statement.{statement}
+use Rattle.texts_runs.proofs.pieces.repeat.Tie as tie
 
 abbrev Inv-loop : tie.InvT-loop
 Inv-loop out₀ at piece times to₀ k₀ out to k = length out ≡ length out₀

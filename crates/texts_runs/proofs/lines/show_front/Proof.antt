@@ -3,8 +3,8 @@ use native.Mathlib.Omega.{arith}
 use mathlib.Core.Path.{sym}
 use lib.Seq.{length-take-le}
 use borrow.Author.Needs.{needs}
-use Rattle.texts_runs.proofs.built.show_front.Statement.{statement}
-use Rattle.texts_runs.proofs.built.show_front.Tie as tie
+use Rattle.texts_runs.proofs.lines.show_front.Statement.{statement}
+use Rattle.texts_runs.proofs.lines.show_front.Tie as tie
 
 pub show-front-spec : {M : Type 1} → statement M
 show-front-spec =
