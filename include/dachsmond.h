@@ -1,12 +1,12 @@
 /* Dachsmond for C. Each function's meaning is document 01's; `crates/dachsmond` has the contracts, which are proved.
    Link with libdachsmond.a (`rt staticlib dachsmond`, x86-64).
 
-   Lent memory is a pointer and a length in entries; a pointer is not null, also where the length is 0, and lists that a
-   call writes to overlap no other. A number of 0 is done. Another is document 01's number of the refusal, with its place;
-   then all lent memory is as it was and the other fields are 0.
+   Lent memory is a pointer and a length in entries; a pointer is not null, also where the length is 0, and lists that
+   a call writes to overlap no other. A number of 0 is done. Another is document 01's number of the refusal, with its
+   place; then all lent memory is as it was and the other fields are 0.
 
-   Names are slots of 32 bytes, filled with zeros behind the name. States are codes 0 to 7 for 0 1 X H L W Z U, row by row.
-   A tree is the bytes of an expression, one a node, operands before their operator. */
+   Names are slots of 32 bytes, filled with zeros behind the name. States are codes 0 to 7 for 0 1 X H L W Z U, row by
+   row. A tree is the bytes of an expression, one a node, operands before their operator. */
 #ifndef DACHSMOND_H
 #define DACHSMOND_H
 #include <stdbool.h>
@@ -48,6 +48,13 @@ typedef struct {
     uint32_t many;
 } dachsmond_changed;
 
+/* The answer at a row, 0 no, 1 yes, 2 unknown, 3 no event, or refused. */
+typedef struct {
+    uint8_t number;
+    size_t place;
+    uint8_t answer;
+} dachsmond_answered;
+
 /* The expression that a text is, as a tree over a list of names, for the sort asked for: 18, 12, 1 to 8. */
 dachsmond_expression dachsmond_read_expression(const uint8_t *names, size_t names_len, const uint8_t *text,
                                                size_t text_len, bool vector);
@@ -66,6 +73,23 @@ dachsmond_told dachsmond_write_trace(const uint8_t *names, size_t names_len, con
 
 /* The changes of a row of a trace of n rows and so many names; row 0 has none: 18, 15, 19. */
 dachsmond_changed dachsmond_changes_at(size_t names, size_t n, const uint8_t *states, size_t states_len, size_t row);
+
+/* The state of a boolean tree at a row, as the count told: 18, 10, 15, 19. */
+dachsmond_told dachsmond_row_state(size_t names, size_t n, const uint8_t *tree, size_t tree_len, const uint8_t *states,
+                                   size_t states_len, size_t row);
+
+/* The value of a boolean tree at a row, as the count told: 18, 10, 15, 19. */
+dachsmond_told dachsmond_row_value(size_t names, size_t n, const uint8_t *tree, size_t tree_len, const uint8_t *states,
+                                   size_t states_len, size_t row);
+
+/* The values of a boolean tree at all n rows into a list of exactly n; how many: 18, 10, 15. */
+dachsmond_told dachsmond_values(size_t names, size_t n, const uint8_t *tree, size_t tree_len, const uint8_t *states,
+                                size_t states_len, uint8_t *out, size_t out_len);
+
+/* The answer of a vector tree at a row, the greatest over all windows that end there, which takes long far from row 0:
+   18, 10, 15, 19. */
+dachsmond_answered dachsmond_row_answer(size_t names, size_t n, const uint8_t *tree, size_t tree_len,
+                                        const uint8_t *states, size_t states_len, size_t row);
 
 #ifdef __cplusplus
 }

@@ -77,7 +77,7 @@ static void do_totals(void)
     end_line(0);
 }
 
-static void do_row(int sort)
+static void do_row(int sort, int tries)
 {
     Asked a = take_asked();
     long row = take_number();
@@ -85,10 +85,8 @@ static void do_row(int sort)
     if (!r.number && row >= a.n) r = (Refusal){19, 0};
     if (refused(r)) r.place = 0;
     else if (sort == BOOLEAN) printf("row %d %d", state_at(a.node, &a.trace, row), value_at(a.node, &a.trace, row));
-    else {
-        int answer = number_at(&a, row);
-        printf("row %d %d %ld", answer, answer, tries_at(alternatives_of(a.node), &a.trace, row));
-    }
+    else if (!tries) printf("row %d", number_at(&a, row));
+    else printf("row %d %ld", number_at(&a, row), tries_at(alternatives_of(a.node), &a.trace, row));
     end_line(0);
 }
 
@@ -147,8 +145,9 @@ void do_pattern(int c)
     if (c == 'v') do_values();
     else if (c == 'm') do_matching();
     else if (c == 't') do_totals();
-    else if (c == 'r') do_row(VECTOR);
-    else if (c == 's') do_row(BOOLEAN);
+    else if (c == 'r') do_row(VECTOR, 1);
+    else if (c == 'a') do_row(VECTOR, 0);
+    else if (c == 's') do_row(BOOLEAN, 0);
     else if (c == 'k') do_correction();
     else if (c == 'q') do_queue();
 }

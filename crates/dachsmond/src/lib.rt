@@ -4,6 +4,7 @@
 pub mod files;
 pub mod rows;
 pub mod texts;
+pub mod written;
 
 // What came of a call: refused with a number at a place, or done, with a count of what it made.
 #[repr(C)]
@@ -38,4 +39,12 @@ pub struct Changed {
     pub place: usize,
     pub mask: u32,
     pub many: u32,
+}
+
+// The answer at a row: refused, or document 01's number of it, 0 no, 1 yes, 2 unknown, 3 no event.
+#[repr(C)]
+pub struct Answered {
+    pub number: u8,
+    pub place: usize,
+    pub answer: u8,
 }
