@@ -12,3 +12,5 @@ pub mod Bounds
 pub mod Filling
 pub mod Turns
 pub mod Holding
+pub mod Calls
+pub mod Theorems

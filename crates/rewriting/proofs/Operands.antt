@@ -1,7 +1,7 @@
 -- Rewriting looks at no edge and no operand: with each edge exchanged by g and each boolean operand by f, an expression
 -- has the same alternatives with each test's edge and operand exchanged so, where g keeps `11`, which rewriting adds.
 -- So places instead of operands change neither how many alternatives there are nor how many steps each has.
--- Main names: testsOn, testOn, alternatives-on; placed-number, placed-length. Assumes nothing.
+-- Main names: testsOn, testOn, alternatives-on; placed-same, placed-number, placed-length. Assumes nothing.
 use Prim.Native.Nat.{ℕ, zero, suc, _+_, _-_}
 use mathlib.Core.Path.{_≡_, refl, ap, sym, _∙_}
 use mathlib.Core.List.{List, [], _∷_, _++_, map, map-append}
@@ -117,6 +117,13 @@ placed-bare end (edge e c) = refl
 placed-bare end (join j p q) = rw (placed-bare _ p, placed-bare _ q) refl
 placed-bare end (while on-right p c) = rw (placed-bare _ p) refl
 placed-bare end (while on-left p c) = rw (placed-bare _ p) refl
+
+-- so alternatives with places and those of the expression differ in the operands alone
+pub placed-same : (end : ℕ) (p : Vector)
+    → map (alternativeOn (λ e. e) (λ c. literal 0)) (alternatives (placed end p))
+    ≡ map (alternativeOn (λ e. e) (λ c. literal 0)) (alternatives p)
+placed-same end p =
+    sym (alternatives-on _ _ refl (placed end p)) ∙ ap alternatives (placed-bare end p) ∙ alternatives-on _ _ refl p
 
 bare-number : (p : Vector) → length (alternatives (bare p)) ≡ length (alternatives p)
 bare-number p = ap length (alternatives-on _ _ refl p) ∙ length-map (alternatives p) _

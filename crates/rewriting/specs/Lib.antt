@@ -2,3 +2,4 @@
 pub mod Codes
 pub mod Steps
 pub mod Lists
+pub mod Calls

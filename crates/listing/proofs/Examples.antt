@@ -1,0 +1,69 @@
+-- Texts, computed: case 1's listing as document 01 prints it, byte for byte, from T's trace and the answers that are defined
+-- of it; shares; the table of cases 1 and 3.
+-- Assumes nothing.
+use mathlib.Core.Path.{_≡_, refl}
+use mathlib.Core.List.{List, [], _∷_}
+use Rattle.alf.specs.Words.{count, listed}
+use Rattle.alf.specs.TableT as T
+use Rattle.alf.specs.Expressions.{edge}
+use Rattle.listing.specs.Text.{bytes, joined}
+use Rattle.listing.specs.Numbers.{digits, widthUpTo, width, decimal}
+use Rattle.listing.specs.Share.{millionths, withPoint, share}
+use Rattle.listing.specs.Listing.{word, line, lines, howMany, lastLine, listing}
+use Rattle.listing.specs.Table.{plain, ended, heading, headingLine, columns, patternLine, refusedColumns}
+use Rattle.listing.specs.Table.{refusedLine, totalColumns, totalLine}
+
+pub case-1-listing :
+    listing T.times (3 ∷ 1 ∷ 0 ∷ 0 ∷ 2 ∷ 0 ∷ [])
+    ≡ bytes "time answer\n0 none\n10 yes\n20 no\n35 no\n40 unknown\n55 no\nyes 1 no 3 unknown 1\n"
+unfolding listing lines line word howMany lastLine bytes joined decimal width widthUpTo digits count T.times
+case-1-listing = refl
+
+pub third : share 1 4 ≡ bytes "0.333333"
+unfolding share withPoint millionths bytes decimal width widthUpTo digits
+third = refl
+
+pub two-thirds : share 2 4 ≡ bytes "0.666667"
+unfolding share withPoint millionths bytes decimal width widthUpTo digits
+two-thirds = refl
+
+pub half : share 1 3 ≡ bytes "0.500000"
+unfolding share withPoint millionths bytes decimal width widthUpTo digits
+half = refl
+
+pub nothing : share 0 6 ≡ bytes "0.000000"
+unfolding share withPoint millionths bytes decimal width widthUpTo digits
+nothing = refl
+
+pub all : share 65534 65535 ≡ bytes "1.000000"
+unfolding share withPoint millionths bytes decimal width widthUpTo digits
+all = refl
+
+-- exactly half a millionth goes up, and what is less goes down
+pub half-up : share 1 2000001 ≡ bytes "0.000001"
+unfolding share withPoint millionths bytes decimal width widthUpTo digits
+half-up = refl
+
+pub less-down : share 1 2000002 ≡ bytes "0.000000"
+unfolding share withPoint millionths bytes decimal width widthUpTo digits
+less-down = refl
+
+pub no-event : share 0 1 ≡ bytes "-"
+unfolding share bytes
+no-event = refl
+
+pub table-heading : headingLine ≡ bytes "seen\tshare\tunknown\tno\tpattern\n"
+unfolding headingLine heading ended plain bytes joined
+table-heading = refl
+
+pub case-1-line : patternLine (bytes "01 A") 1 1 3 6 ≡ bytes "1\t0.200000\t1\t3\t01 A\n"
+unfolding patternLine columns ended plain share withPoint millionths bytes joined decimal width widthUpTo digits
+case-1-line = refl
+
+pub refused-line : refusedLine (bytes "01\tA ->") 5 7 ≡ bytes "refused 5 at 7\t-\t-\t-\t01 A ->\n"
+unfolding refusedLine refusedColumns ended plain bytes joined decimal width widthUpTo digits
+refused-line = refl
+
+pub total-line : totalLine 9 7 24 8 5 ≡ bytes "9\t-\t7\t24\ttotal patterns 8 events 5\n"
+unfolding totalLine totalColumns ended plain bytes joined decimal width widthUpTo digits
+total-line = refl

@@ -1,0 +1,60 @@
+-- The statements that the texts stand for, besides Digits, Rounding and Examples.
+--   delivers-unique    of a line: outcome and buffer afterwards follow from the input
+--   lists-unique       of a listing: the same
+--   listed-totals      where the answers are those defined of a pattern, the last line's numbers are its totals
+-- Assumes nothing.
+use Prim.Native.Nat.{ℕ, zero, suc, _+_, _<_}
+use native.Mathlib.Omega.{arith}
+use mathlib.Core.Path.{_≡_, refl, sym, ap, _∙_}
+use mathlib.Core.Bool.{Bool}
+use mathlib.Core.List.{List, []}
+use lib.Dec.{eqb}
+use lib.ListN.{length, getD}
+use Rattle.alf.specs.declared.Answer.{Answer}
+use Rattle.alf.specs.declared.Outcome.{Outcome}
+use Rattle.alf.specs.Words.{if_then_else_, count, listed}
+use Rattle.alf.specs.Expressions.{Boolean, Vector}
+use Rattle.alf.specs.Windows.{rowAnswer, numberOf}
+use Rattle.alf.specs.Traces.{total}
+use Rattle.alf.proofs.Outcomes.{AllFixed, at-fixed, first-fixed, comes-unique}
+use Rattle.alf.proofs.Tables.{listed-at}
+use Rattle.evaluator.proofs.Lists.{listed-length}
+use Rattle.writer.specs.Writing.{after}
+use Rattle.listing.specs.Listing.{howMany, listing}
+use Rattle.listing.specs.Calls.{lineOrder, Delivers, listOrder, ListsText}
+
+abbrev Same : Outcome → Outcome → List ℕ → List ℕ → Type 0
+Same r s x y = (r ≡ s) × (x ≡ y)
+
+pub delivers-unique :
+    (w out : List ℕ) {x y : List ℕ} {r s : Outcome} →
+    Delivers w out x r →
+    Delivers w out y s →
+    Same r s x y
+delivers-unique w out {r = r} {s = s} a b =
+    let e = comes-unique (lineOrder w (length out)) _ (at-fixed _ _, tt) (λ j k p q. p ∙ sym q) r s (a .outcome) (b .outcome) in
+    (e, a .memory ∙ ap (after w out) e ∙ sym (b .memory))
+
+pub lists-unique :
+    (times answers out : List ℕ) {x y : List ℕ} {r s : Outcome} →
+    ListsText times answers out x r →
+    ListsText times answers out y s →
+    Same r s x y
+lists-unique times answers out {r = r} {s = s} a b =
+    let f : AllFixed (listOrder times answers (length out)) = (at-fixed _ _, (first-fixed _, (at-fixed _ _, tt))) in
+    let e = comes-unique (listOrder times answers (length out)) _ f (λ j k p q. p ∙ sym q) r s (a .outcome) (b .outcome) in
+    (e, a .memory ∙ ap (after (listing times answers) out) e ∙ sym (b .memory))
+
+count-same : (n : ℕ) (p q : ℕ → Bool) → ((i : ℕ) → i < n → p i ≡ q i) → count n p ≡ count n q
+unfolding count
+count-same zero p q h = refl
+count-same (suc n) p q h =
+    rw (h n (omega arith), count-same n p q (λ i k. h i (omega arith))) refl
+
+pub listed-totals : (st : Boolean → ℕ → ℕ) (p : Vector) (n : ℕ) (a : Answer)
+    → howMany (listed 0 n (λ i. numberOf (rowAnswer st p i))) (numberOf a) ≡ total st p n a
+unfolding howMany total
+listed-totals st p n a =
+    let f : ℕ → ℕ = λ i. numberOf (rowAnswer st p i) in
+    ap (λ (k : ℕ). count k (λ i. eqb (getD (listed 0 n f) i 0) (numberOf a))) (listed-length 0 n f)
+    ∙ count-same n _ _ (λ i k. ap (λ (x : ℕ). eqb x (numberOf a)) (listed-at n i f 0 k))

@@ -1,0 +1,36 @@
+-- `line_size` meets its contract. Assumes nothing.
+use borrow.Author.Needs.{needs}
+use Rattle.listing.proofs.Sizes.{line-size}
+use Rattle.listing.proofs.lines.line_size.Statement.{statement}
+use Rattle.listing.proofs.lines.line_size.Tie as tie
+
+cast-width-of : tie.Need-cast-width-of
+cast-width-of c = search needs
+
+width-of-requires : tie.Need-width-of-requires
+width-of-requires c κs = search needs
+
+word-size-requires : tie.Need-word-size-requires
+word-size-requires c κs = search needs
+
+add-result : tie.Need-add-result
+add-result c = search needs
+
+add-result-2 : tie.Need-add-result-2
+add-result-2 c = search needs
+
+returns : tie.Need-returns
+returns c =
+    let c1 = c .before in
+    line-size _ _ (c1 .width-of .ensures) (c .word-size .ensures)
+
+pub line-size-spec : {M : Type 1} → statement M
+line-size-spec =
+    tie.close
+    (tie.spec
+    cast-width-of
+    width-of-requires
+    word-size-requires
+    add-result
+    add-result-2
+    returns)

@@ -1,0 +1,21 @@
+-- `lists_fit` meets its contract. Assumes nothing.
+use native.Mathlib.Omega.{arith}
+use borrow.Author.Needs.{needs}
+use Rattle.names.specs.Check.{holds, fails}
+use Rattle.listing.proofs.listings.lists_fit.Statement.{statement}
+use Rattle.listing.proofs.listings.lists_fit.Tie as tie
+
+returns : tie.Need-returns
+returns c = fails (λ s. omega (arith, s .rows .0, c .if1 .taken))
+
+returns-2 : tie.Need-returns-2
+returns-2 c = fails (λ s. omega (arith, s .rows .1, c .if2 .taken))
+
+returns-3 : tie.Need-returns-3
+returns-3 c = fails (λ s. c .if3 .taken (s .same))
+
+returns-4 : tie.Need-returns-4
+returns-4 c = holds (record { rows = (search needs, c .before .if2 .left); same = c .if3 .left })
+
+pub lists-fit-spec : {M : Type 1} → statement M
+lists-fit-spec = tie.close (tie.spec returns returns-2 returns-3 returns-4)

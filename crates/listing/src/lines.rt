@@ -1,0 +1,148 @@
+// The lines of a listing.
+ghost use mathlib.Core.Path.{_≡_};
+ghost use Prim.Native.Nat.{_≤_, _<_};
+ghost use lib.Dec.{eqb};
+ghost use lib.ListN.{length, getD};
+ghost use Rattle.alf.specs.Words.{if_then_else_};
+ghost use Rattle.writer.specs.Inner.{Put, Room};
+ghost use Rattle.listing.specs.Listing.{word, line, lines, howMany, lastLine};
+ghost use Rattle.listing.specs.Inner.{Sized, Listable, Wording, Lining};
+use crate::numbers::put_decimal;
+use crate::numbers::width_of;
+use crate::puts::push;
+use crate::puts::put;
+use alf::RowNo;
+use alf::Stamp;
+
+// The length of an answer's word.
+fn word_size(a: u8) -> usize
+    requires { ⌜ a ≤ 3 ⌝ }
+    ensures { λ r. ⌜ Sized (word a) 7 r ⌝ }
+{
+    if a == 0 {
+        return 2;
+    }
+    if a == 1 {
+        return 3;
+    }
+    if a == 2 {
+        return 7;
+    }
+    4
+}
+
+fn put_word(a: u8, out: &mut [u8], at: usize) -> usize
+    requires { ⌜ Wording a (now out) at (word a) ⌝ }
+    ensures { λ r. ⌜ Put (now (out .entry)) at (word a) (now (out .exit)) r ⌝ }
+{
+    if a == 0 {
+        return put(b"no", out, at);
+    }
+    if a == 1 {
+        return put(b"yes", out, at);
+    }
+    if a == 2 {
+        return put(b"unknown", out, at);
+    }
+    put(b"none", out, at)
+}
+
+// The time of a row.
+fn stamp_of(times: &[u32], row: RowNo) -> Stamp
+    requires { ⌜ row .0 < length (now times) ⌝ }
+    ensures { λ r. ⌜ r .0 ≡ getD (now (times .entry)) (row .0) 0 ⌝ }
+{
+    let r = row.0;
+    Stamp(times[r as usize])
+}
+
+// The length of a row's line.
+fn line_size(time: Stamp, a: u8) -> usize
+    requires { ⌜ a ≤ 3 ⌝ }
+    ensures { λ r. ⌜ Sized (line (time .0) a) 29 r ⌝ }
+{
+    let t = time.0;
+    width_of(t as u64) + word_size(a) + 2
+}
+
+// A row's line: its time, its answer.
+fn put_line(time: Stamp, a: u8, out: &mut [u8], at: usize) -> usize
+    requires { ⌜ Wording a (now out) at (line (time .0) a) ⌝ }
+    ensures { λ r. ⌜ Put (now (out .entry)) at (line (time .0) a) (now (out .exit)) r ⌝ }
+{
+    let t = time.0;
+    let p = put_decimal(t as u64, out, at);
+    let q = push(out, p, b' ');
+    let r = put_word(a, out, q);
+    push(out, r, b'\n')
+}
+
+// The length of all rows' lines.
+pub fn lines_size(times: &[u32], answers: &[u8]) -> usize
+    requires { ⌜ Listable (now times) (now answers) ⌝ }
+    ensures { λ r. ⌜ Sized (lines (now (times .entry)) (now (answers .entry))) 1900515 r ⌝ }
+{
+    let mut size: usize = 0;
+    let mut i: usize = 0;
+    while i < answers.len() {
+        size += line_size(stamp_of(times, RowNo(i as u32)), answers[i]);
+        i += 1;
+    }
+    size
+}
+
+// All rows' lines.
+pub fn put_lines(times: &[u32], answers: &[u8], out: &mut [u8], at: usize) -> usize
+    requires { ⌜ Lining (now times) (now answers) (now out) at ⌝ }
+    ensures { λ r. ⌜ Put (now (out .entry)) at (lines (now (times .entry)) (now (answers .entry))) (now (out .exit)) r ⌝ }
+{
+    let mut p = at;
+    let mut i: usize = 0;
+    while i < answers.len() {
+        p = put_line(stamp_of(times, RowNo(i as u32)), answers[i], out, p);
+        i += 1;
+    }
+    p
+}
+
+// 1 where two numbers are the same.
+fn same(x: u8, y: u8) -> u64
+    ensures { λ r. ⌜ r ≡ (if eqb x y then 1 else 0) ⌝ }
+{
+    if x == y { 1 } else { 0 }
+}
+
+// How many answers have a number.
+pub fn count_of(answers: &[u8], a: u8) -> u64
+    requires { ⌜ length (now answers) ≤ 65535 ⌝ }
+    ensures { λ r. ⌜ r ≡ howMany (now (answers .entry)) a ⌝ }
+{
+    let mut k: u64 = 0;
+    let mut i: usize = 0;
+    while i < answers.len() {
+        k += same(answers[i], a);
+        i += 1;
+    }
+    k
+}
+
+// The length of the last line.
+pub fn last_size(yes: u64, no: u64, unknown: u64) -> usize
+    ensures { λ r. ⌜ Sized (lastLine yes no unknown) 78 r ⌝ }
+{
+    width_of(yes) + width_of(no) + width_of(unknown) + 18
+}
+
+// The last line: how many answers are yes, no, unknown.
+pub fn put_last(yes: u64, no: u64, unknown: u64, out: &mut [u8], at: usize) -> usize
+    requires { ⌜ Room (now out) at (lastLine yes no unknown) ⌝ }
+    ensures { λ r. ⌜ Put (now (out .entry)) at (lastLine yes no unknown) (now (out .exit)) r ⌝ }
+{
+    let p = put(b"yes ", out, at);
+    let q = put_decimal(yes, out, p);
+    let r = put(b" no ", out, q);
+    let s = put_decimal(no, out, r);
+    let t = put(b" unknown ", out, s);
+    let u = put_decimal(unknown, out, t);
+    push(out, u, b'\n')
+}

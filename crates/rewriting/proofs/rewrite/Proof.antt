@@ -1,0 +1,70 @@
+-- `rewrite` meets its contract. Assumes nothing.
+use Rattle.rewriting.proofs.Calls.{decided-no, decided-yes, refused-18, refused-10, passed-on}
+use borrow.Author.Needs.{needs}
+use Rattle.rewriting.proofs.rewrite.Statement.{statement}
+use Rattle.rewriting.proofs.rewrite.Tie as tie
+
+names-fit-requires : tie.Need-names-fit-requires
+names-fit-requires c κs = search needs
+
+refuse-requires : tie.Need-refuse-requires
+refuse-requires c κs = search needs
+
+returns : tie.Need-returns
+returns c =
+    refused-18 _ _ _ _ _ _ (decided-no _ (c .before .before .names-fit .ensures) (c .before .if1 .taken))
+    (c .refuse .ensures)
+
+accepts-requires : tie.Need-accepts-requires
+accepts-requires c κs = search needs
+
+refuse-requires-2 : tie.Need-refuse-requires-2
+refuse-requires-2 c κs = search needs
+
+returns-2 : tie.Need-returns-2
+returns-2 c =
+    let c3 = c .before .before .before in
+    refused-10 _ _ _ _ _ _ (decided-yes _ (c3 .before .names-fit .ensures) (c3 .if1 .left))
+    (decided-no _ (c .before .before .accepts .ensures) (c .before .if2 .taken)) (c .refuse2 .ensures)
+
+deliver-requires : tie.Need-deliver-requires
+deliver-requires c κs =
+    let c4 = c .before .before .before .before in
+    decided-yes _ (c4 .before .accepts .ensures) (c4 .if2 .left)
+
+same-length : tie.Need-same-length
+same-length c = search needs
+
+same-length-2 : tie.Need-same-length-2
+same-length-2 c = search needs
+
+same-length-3 : tie.Need-same-length-3
+same-length-3 c = search needs
+
+same-length-4 : tie.Need-same-length-4
+same-length-4 c = search needs
+
+returns-3 : tie.Need-returns-3
+returns-3 c =
+    let c8 = c .before .before .before .before .before .before .before .before in
+    let c13 = c8 .before .before .before .before .before in
+    let c15 = c13 .before .before in
+    passed-on _ _ _ _ _ _ (decided-yes _ (c15 .before .names-fit .ensures) (c15 .if1 .left))
+    (decided-yes _ (c13 .before .accepts .ensures) (c13 .if2 .left)) (c8 .deliver .ensures)
+
+pub rewrite-spec : {M : Type 1} → statement M
+rewrite-spec =
+    tie.close
+    (tie.spec
+    names-fit-requires
+    refuse-requires
+    returns
+    accepts-requires
+    refuse-requires-2
+    returns-2
+    deliver-requires
+    same-length
+    same-length-2
+    same-length-3
+    same-length-4
+    returns-3)

@@ -1,0 +1,17 @@
+-- `show_list_front` lends a beginning. Assumes nothing.
+use native.Mathlib.Omega.{arith}
+use mathlib.Core.Path.{sym}
+use lib.Seq.{length-take-le}
+use borrow.Author.Needs.{needs}
+use Rattle.texts_runs.proofs.built.show_list_front.Statement.{statement}
+use Rattle.texts_runs.proofs.built.show_list_front.Tie as tie
+
+pub show-list-front-spec : {M : Type 1} → statement M
+show-list-front-spec =
+    tie.close
+    (tie.spec
+    (λ c. sym (length-take-le _ _ (omega arith)))  -- slice-aggregate-show
+    (λ c. search needs)  -- slice-aggregate-show-2
+    (λ c κs. search needs)  -- show-requires
+    (λ c. search needs)  -- returns
+    (λ c. search needs))  -- returns-2
