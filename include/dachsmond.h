@@ -55,6 +55,38 @@ typedef struct {
     uint8_t answer;
 } dachsmond_answered;
 
+/* The same, and the number of alternatives tried. */
+typedef struct {
+    uint8_t number;
+    size_t place;
+    uint8_t answer;
+    uint32_t tries;
+} dachsmond_matched;
+
+/* How many rows answer yes, no and unknown, or refused. */
+typedef struct {
+    uint8_t number;
+    size_t place;
+    uint32_t yes;
+    uint32_t no;
+    uint32_t unknown;
+} dachsmond_counted;
+
+/* How many rows a queue keeps, and their states, oldest first, with zeros behind them. */
+typedef struct {
+    uint32_t kept;
+    uint8_t states[512];
+} dachsmond_queue;
+
+/* The answer of the row pushed and the number tried, or refused; and the queue then, refused the one handed in. */
+typedef struct {
+    uint8_t number;
+    size_t place;
+    uint8_t answer;
+    uint32_t tries;
+    dachsmond_queue queue;
+} dachsmond_pushed;
+
 /* The expression that a text is, as a tree over a list of names, for the sort asked for: 18, 12, 1 to 8. */
 dachsmond_expression dachsmond_read_expression(const uint8_t *names, size_t names_len, const uint8_t *text,
                                                size_t text_len, bool vector);
@@ -90,6 +122,37 @@ dachsmond_told dachsmond_values(size_t names, size_t n, const uint8_t *tree, siz
    18, 10, 15, 19. */
 dachsmond_answered dachsmond_row_answer(size_t names, size_t n, const uint8_t *tree, size_t tree_len,
                                         const uint8_t *states, size_t states_len, size_t row);
+
+/* The same answer by the tree's alternatives, and how many of them were tried: 18, 10, 15, 19. */
+dachsmond_matched dachsmond_match_row(size_t names, size_t n, const uint8_t *tree, size_t tree_len,
+                                      const uint8_t *states, size_t states_len, size_t row);
+
+/* The answers of all n rows and the numbers tried into two lists of exactly n; how many: 18, 10, 15. */
+dachsmond_told dachsmond_match_all(size_t names, size_t n, const uint8_t *tree, size_t tree_len, const uint8_t *states,
+                                   size_t states_len, uint8_t *answers, size_t answers_len, uint32_t *tried,
+                                   size_t tried_len);
+
+/* How many of the n rows answer yes, no and unknown, together n - 1: 18, 10, 15. */
+dachsmond_counted dachsmond_totals(size_t names, size_t n, const uint8_t *tree, size_t tree_len, const uint8_t *states,
+                                   size_t states_len);
+
+/* The alternatives of a vector tree into four lists: steps of each alternative, tests of each step, and for each test
+   its edge's number and where its operand ends in the tree; how many alternatives: 18, 10, 9. */
+dachsmond_told dachsmond_rewrite(size_t names, const uint8_t *tree, size_t tree_len, uint8_t *steps, size_t steps_len,
+                                 uint8_t *tests, size_t tests_len, uint8_t *edges, size_t edges_len,
+                                 uint16_t *operands, size_t operands_len);
+
+/* The new states become the row, and the answers from it on that can depend on it are written anew: 18, 10, 15, 19. */
+dachsmond_told dachsmond_correct(size_t names, size_t n, const uint8_t *tree, size_t tree_len, uint8_t *states,
+                                 size_t states_len, uint8_t *answers, size_t answers_len, uint32_t row,
+                                 const uint8_t *new_states, size_t new_len);
+
+/* A queue before the first push. */
+dachsmond_queue dachsmond_empty_queue(void);
+
+/* One row more: its answer, how many alternatives were tried, and the queue with the row in it: 18, 10, 15. */
+dachsmond_pushed dachsmond_push(size_t names, const uint8_t *tree, size_t tree_len, dachsmond_queue queue,
+                                const uint8_t *row, size_t row_len);
 
 #ifdef __cplusplus
 }

@@ -2,6 +2,9 @@
 #include "../../include/dachsmond.h"
 #include "lines.h"
 
+/* rows.c: a case of a call over rows */
+void do_pattern(int letter);
+
 static void do_read(void)
 {
     Bytes names = take_bytes();
@@ -61,54 +64,6 @@ static void do_changes(void)
     end_line(0);
 }
 
-typedef struct { size_t names, n; Bytes tree, states; } Asked;
-
-static Asked take_asked(void)
-{
-    Asked a;
-    a.names = take_number();
-    a.n = take_number();
-    a.tree = take_bytes();
-    a.states = take_bytes();
-    return a;
-}
-
-static void do_values(void)
-{
-    Asked a = take_asked();
-    Bytes out = lend(take_number());
-    dachsmond_told r =
-        dachsmond_values(a.names, a.n, a.tree.at, a.tree.length, a.states.at, a.states.length, out.at, out.length);
-    if (r.number) say_refused(r.number, r.place);
-    else printf("done %zu", r.count);
-    end_line(sum_of(0, out.at, out.length));
-}
-
-static void do_state(void)
-{
-    Asked a = take_asked();
-    size_t row = take_number();
-    dachsmond_told s =
-        dachsmond_row_state(a.names, a.n, a.tree.at, a.tree.length, a.states.at, a.states.length, row);
-    dachsmond_told v =
-        dachsmond_row_value(a.names, a.n, a.tree.at, a.tree.length, a.states.at, a.states.length, row);
-    if (s.number != v.number || s.place != v.place) printf("two refusals");
-    else if (s.number) say_refused(s.number, s.place);
-    else printf("row %zu %zu", s.count, v.count);
-    end_line(0);
-}
-
-static void do_answer(void)
-{
-    Asked a = take_asked();
-    size_t row = take_number();
-    dachsmond_answered r =
-        dachsmond_row_answer(a.names, a.n, a.tree.at, a.tree.length, a.states.at, a.states.length, row);
-    if (r.number) say_refused(r.number, r.place);
-    else printf("row %u", r.answer);
-    end_line(0);
-}
-
 int main(void)
 {
     for (int c; (c = next_line()) != EOF;) {
@@ -117,9 +72,6 @@ int main(void)
         else if (c == 'f') do_read_trace();
         else if (c == 'g') do_write_trace();
         else if (c == 'c') do_changes();
-        else if (c == 'v') do_values();
-        else if (c == 's') do_state();
-        else if (c == 'a') do_answer();
-        else puts("no such call");
+        else do_pattern(c);
     }
 }

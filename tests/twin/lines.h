@@ -11,6 +11,7 @@
      a NAMES N TREE STATES ROW       a row's answer as written
      s NAMES N TREE STATES ROW       a row's state and value
      k NAMES N TREE STATES ANSWERS ROW NEW   correction of a row
+     l NAMES TREE ROOM ROOM ROOM ROOM   the lists of alternatives: steps, tests, edges, ends of operands
      q NAMES TREE STATES             a queue that takes the rows of STATES one after the other
    An answer is a line too: `refused NUMBER PLACE` or what the call gave, then a sum over all lent memory. */
 #ifndef LINES_H
