@@ -7,3 +7,5 @@ pub mod ByAlternatives
 pub mod Matches
 pub mod Corrects
 pub mod Pushes
+pub mod Unique
+pub mod Theorems
