@@ -1,5 +1,5 @@
-# What is done today: the rows as text, and a few lines of awk for the one pattern. Input: a row to a line, each byte of
-# its record a number (2 of the mark, 4 of the time, then the states of A, B, C, ..). Checks nothing.
+# What is done today: the rows as text, and a few lines of awk for the one pattern. Input: a row to a line, each byte
+# of its record a number (2 of the mark, 4 of the time, then the states of A, B, C, ..). Checks nothing.
 BEGIN {
     split("2 0 1 0 2 1 1 1", zero); split("0 2 1 2 0 1 1 1", one)
 }

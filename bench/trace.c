@@ -1,5 +1,5 @@
-/* The trace: 65,535 rows of 32 pins A B C P03 .. P31; a pin is set anew about every third row, one time in 50 to any of
-   the eight states. */
+/* The trace: 65,535 rows of 32 pins A B C P03 .. P31; a pin is set anew about every third row, one time in 50 to any
+   of the eight states. */
 #include <stdint.h>
 #include <stdio.h>
 

@@ -1,12 +1,12 @@
 /* Dachsmond for C. Each function's meaning is document 01's; `crates/dachsmond` has the contracts, which are proved.
    Link with libdachsmond.a (`rt staticlib dachsmond`, x86-64).
 
-   Lent memory is a pointer and a length in entries; a pointer is not null, also where the length is 0, and lists that a
-   call writes to overlap no other. A number of 0 is done. Another is document 01's number of the refusal, with its place;
-   then all lent memory is as it was and the other fields are 0.
+   Lent memory is a pointer and a length in entries; a pointer is not null, also where the length is 0, and lists that
+   a call writes to overlap no other. A number of 0 is done. Another is document 01's number of the refusal, with its
+   place; then all lent memory is as it was and the other fields are 0.
 
-   Names are slots of 32 bytes, filled with zeros behind the name. States are codes 0 to 7 for 0 1 X H L W Z U, row by row.
-   A tree is the bytes of an expression, one a node, operands before their operator. */
+   Names are slots of 32 bytes, filled with zeros behind the name. States are codes 0 to 7 for 0 1 X H L W Z U, row by
+   row. A tree is the bytes of an expression, one a node, operands before their operator. */
 #ifndef DACHSMOND_H
 #define DACHSMOND_H
 #include <stdbool.h>
@@ -48,6 +48,45 @@ typedef struct {
     uint32_t many;
 } dachsmond_changed;
 
+/* The answer at a row, 0 no, 1 yes, 2 unknown, 3 no event, or refused. */
+typedef struct {
+    uint8_t number;
+    size_t place;
+    uint8_t answer;
+} dachsmond_answered;
+
+/* The same, and the number of alternatives tried. */
+typedef struct {
+    uint8_t number;
+    size_t place;
+    uint8_t answer;
+    uint32_t tries;
+} dachsmond_matched;
+
+/* How many rows answer yes, no and unknown, or refused. */
+typedef struct {
+    uint8_t number;
+    size_t place;
+    uint32_t yes;
+    uint32_t no;
+    uint32_t unknown;
+} dachsmond_counted;
+
+/* How many rows a queue keeps, and their states, oldest first, with zeros behind them. */
+typedef struct {
+    uint32_t kept;
+    uint8_t states[512];
+} dachsmond_queue;
+
+/* The answer of the row pushed and the number tried, or refused; and the queue then, refused the one handed in. */
+typedef struct {
+    uint8_t number;
+    size_t place;
+    uint8_t answer;
+    uint32_t tries;
+    dachsmond_queue queue;
+} dachsmond_pushed;
+
 /* The expression that a text is, as a tree over a list of names, for the sort asked for: 18, 12, 1 to 8. */
 dachsmond_expression dachsmond_read_expression(const uint8_t *names, size_t names_len, const uint8_t *text,
                                                size_t text_len, bool vector);
@@ -66,6 +105,54 @@ dachsmond_told dachsmond_write_trace(const uint8_t *names, size_t names_len, con
 
 /* The changes of a row of a trace of n rows and so many names; row 0 has none: 18, 15, 19. */
 dachsmond_changed dachsmond_changes_at(size_t names, size_t n, const uint8_t *states, size_t states_len, size_t row);
+
+/* The state of a boolean tree at a row, as the count told: 18, 10, 15, 19. */
+dachsmond_told dachsmond_row_state(size_t names, size_t n, const uint8_t *tree, size_t tree_len, const uint8_t *states,
+                                   size_t states_len, size_t row);
+
+/* The value of a boolean tree at a row, as the count told: 18, 10, 15, 19. */
+dachsmond_told dachsmond_row_value(size_t names, size_t n, const uint8_t *tree, size_t tree_len, const uint8_t *states,
+                                   size_t states_len, size_t row);
+
+/* The values of a boolean tree at all n rows into a list of exactly n; how many: 18, 10, 15. */
+dachsmond_told dachsmond_values(size_t names, size_t n, const uint8_t *tree, size_t tree_len, const uint8_t *states,
+                                size_t states_len, uint8_t *out, size_t out_len);
+
+/* The answer of a vector tree at a row, the greatest over all windows that end there, which takes long far from row 0:
+   18, 10, 15, 19. */
+dachsmond_answered dachsmond_row_answer(size_t names, size_t n, const uint8_t *tree, size_t tree_len,
+                                        const uint8_t *states, size_t states_len, size_t row);
+
+/* The same answer by the tree's alternatives, and how many of them were tried: 18, 10, 15, 19. */
+dachsmond_matched dachsmond_match_row(size_t names, size_t n, const uint8_t *tree, size_t tree_len,
+                                      const uint8_t *states, size_t states_len, size_t row);
+
+/* The answers of all n rows and the numbers tried into two lists of exactly n; how many: 18, 10, 15. */
+dachsmond_told dachsmond_match_all(size_t names, size_t n, const uint8_t *tree, size_t tree_len, const uint8_t *states,
+                                   size_t states_len, uint8_t *answers, size_t answers_len, uint32_t *tried,
+                                   size_t tried_len);
+
+/* How many of the n rows answer yes, no and unknown, together n - 1: 18, 10, 15. */
+dachsmond_counted dachsmond_totals(size_t names, size_t n, const uint8_t *tree, size_t tree_len, const uint8_t *states,
+                                   size_t states_len);
+
+/* The alternatives of a vector tree into four lists: steps of each alternative, tests of each step, and for each test
+   its edge's number and where its operand ends in the tree; how many alternatives: 18, 10, 9. */
+dachsmond_told dachsmond_rewrite(size_t names, const uint8_t *tree, size_t tree_len, uint8_t *steps, size_t steps_len,
+                                 uint8_t *tests, size_t tests_len, uint8_t *edges, size_t edges_len,
+                                 uint16_t *operands, size_t operands_len);
+
+/* The new states become the row, and the answers from it on that can depend on it are written anew: 18, 10, 15, 19. */
+dachsmond_told dachsmond_correct(size_t names, size_t n, const uint8_t *tree, size_t tree_len, uint8_t *states,
+                                 size_t states_len, uint8_t *answers, size_t answers_len, uint32_t row,
+                                 const uint8_t *new_states, size_t new_len);
+
+/* A queue before the first push. */
+dachsmond_queue dachsmond_empty_queue(void);
+
+/* One row more: its answer, how many alternatives were tried, and the queue with the row in it: 18, 10, 15. */
+dachsmond_pushed dachsmond_push(size_t names, const uint8_t *tree, size_t tree_len, dachsmond_queue queue,
+                                const uint8_t *row, size_t row_len);
 
 #ifdef __cplusplus
 }

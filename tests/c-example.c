@@ -33,6 +33,36 @@ static void show_changes(void)
     }
 }
 
+static void show_answers(const char *what, const uint8_t *answers)
+{
+    printf("%s:", what);
+    for (int i = 0; i < 6; i++) printf(" %u", answers[i]);
+    printf("\n");
+}
+
+/* case 1 of table T by matching, its totals and the queue, and case 12, the same with row 3 corrected to 001 */
+static void show_matching(void)
+{
+    static const uint8_t TEXT[] = "01 A", NEW[] = {0, 0, 1};
+    uint8_t states[sizeof STATES], answers[6], pushed[6];
+    uint32_t tried[6];
+    dachsmond_expression e = dachsmond_read_expression(NAMES, sizeof NAMES, TEXT, 4, true);
+    dachsmond_match_all(3, 6, e.tree, e.len, STATES, sizeof STATES, answers, 6, tried, 6);
+    show_answers("01 A", answers);
+    dachsmond_counted c = dachsmond_totals(3, 6, e.tree, e.len, STATES, sizeof STATES);
+    printf("yes %u no %u unknown %u\n", c.yes, c.no, c.unknown);
+    dachsmond_queue queue = dachsmond_empty_queue();
+    for (int i = 0; i < 6; i++) {
+        dachsmond_pushed p = dachsmond_push(3, e.tree, e.len, queue, STATES + 3 * i, 3);
+        pushed[i] = p.answer;
+        queue = p.queue;
+    }
+    show_answers("row by row", pushed);
+    memcpy(states, STATES, sizeof STATES);
+    dachsmond_correct(3, 6, e.tree, e.len, states, sizeof states, answers, 6, 3, NEW, 3);
+    show_answers("row 3 corrected", answers);
+}
+
 int main(void)
 {
     uint8_t names[32], states[2], file[24];
@@ -48,4 +78,5 @@ int main(void)
     read_and_write("A?C:'bz", false);
     read_and_write("01 A -> B", true);
     show_changes();
+    show_matching();
 }

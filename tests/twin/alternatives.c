@@ -124,8 +124,6 @@ Alternatives *alternatives_of(const Node *n)
     return last;
 }
 
-void free_alternatives(void) { release(last); last = NULL; }
-
 static int answer_of(const Alternative *a, const Trace *trace, long row)
 {
     const Test *t = a->test;

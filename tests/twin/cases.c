@@ -168,18 +168,30 @@ static void case_changes(void)
     printf(" %ld", some_row(n));
 }
 
+static void case_rewrite(void)
+{
+    long k = once_in(40) ? below(35) : 1 + below(4);
+    some_tree(k, 1, any_size());
+    printf("l %ld", k);
+    say(&tree);
+    if (once_in(3)) printf(" %ld %ld %ld %ld", 1 + below(8), 1 + below(16), 1 + below(30), 1 + below(40));
+    else printf(" 64 1024 4096 4096");
+}
+
+/* An answer as written goes through all windows: its cases are small. */
 static void case_pattern(int letter)
 {
-    long k, n;
+    long k, n, small = letter == 'a' && !fixed_rows;
     some_rows(&k, &n);
-    some_tree(k, letter == 'v' || letter == 's' ? 0 : 1, any_size());
+    if (small) make_states(&states, k * (n = 1 + below(8)) + once_in(60));
+    some_tree(k, letter == 'v' || letter == 's' ? 0 : 1, small ? 2 + (int)below(14) : any_size());
     printf("%c %ld", letter, k);
     if (letter != 'q') printf(" %ld", n);
     say(&tree);
     say(&states);
     if (letter == 'v') printf(" %ld", n + once_in(40));
     if (letter == 'm') printf(" %ld %ld", n + once_in(40), n + once_in(40));
-    if (letter == 'r' || letter == 's') printf(" %ld", some_row(n));
+    if (strchr("ras", letter)) printf(" %ld", some_row(n));
     if (letter != 'k') return;
     make_states(&old, n + once_in(40));
     make_states(&fresh, k + once_in(40));
@@ -201,6 +213,7 @@ int main(int argc, char **argv)
         else if (letter == 'f') case_read_trace();
         else if (letter == 'g') case_write_trace();
         else if (letter == 'c') case_changes();
+        else if (letter == 'l') case_rewrite();
         else case_pattern(letter);
         putchar('\n');
     }

@@ -2,6 +2,9 @@
 #include "../../include/dachsmond.h"
 #include "lines.h"
 
+/* rows.c: a case of a call over rows */
+void do_pattern(int letter);
+
 static void do_read(void)
 {
     Bytes names = take_bytes();
@@ -69,6 +72,6 @@ int main(void)
         else if (c == 'f') do_read_trace();
         else if (c == 'g') do_write_trace();
         else if (c == 'c') do_changes();
-        else puts("no such call");
+        else do_pattern(c);
     }
 }

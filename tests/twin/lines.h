@@ -7,9 +7,11 @@
      v NAMES N TREE STATES ROOM      values of all rows
      m NAMES N TREE STATES ROOM ROOM answers and tries of all rows
      t NAMES N TREE STATES           totals
-     r NAMES N TREE STATES ROW       a row's answer: as written, and by alternatives with its tries
+     r NAMES N TREE STATES ROW       a row's answer by alternatives, and its tries
+     a NAMES N TREE STATES ROW       a row's answer as written
      s NAMES N TREE STATES ROW       a row's state and value
      k NAMES N TREE STATES ANSWERS ROW NEW   correction of a row
+     l NAMES TREE ROOM ROOM ROOM ROOM   the lists of alternatives: steps, tests, edges, ends of operands
      q NAMES TREE STATES             a queue that takes the rows of STATES one after the other
    An answer is a line too: `refused NUMBER PLACE` or what the call gave, then a sum over all lent memory. */
 #ifndef LINES_H

@@ -77,7 +77,7 @@ static void do_totals(void)
     end_line(0);
 }
 
-static void do_row(int sort)
+static void do_row(int sort, int tries)
 {
     Asked a = take_asked();
     long row = take_number();
@@ -85,10 +85,8 @@ static void do_row(int sort)
     if (!r.number && row >= a.n) r = (Refusal){19, 0};
     if (refused(r)) r.place = 0;
     else if (sort == BOOLEAN) printf("row %d %d", state_at(a.node, &a.trace, row), value_at(a.node, &a.trace, row));
-    else {
-        int answer = number_at(&a, row);
-        printf("row %d %d %ld", answer, answer, tries_at(alternatives_of(a.node), &a.trace, row));
-    }
+    else if (!tries) printf("row %d", number_at(&a, row));
+    else printf("row %d %ld", number_at(&a, row), tries_at(alternatives_of(a.node), &a.trace, row));
     end_line(0);
 }
 
@@ -142,13 +140,74 @@ static void do_queue(void)
     end_line(0);
 }
 
+/* Where each part of the tree ends in its bytes. */
+static int end_of(const Node *node, const Node *part, int at, int *end)
+{
+    if (node->a) at = end_of(node->a, part, at, end);
+    if (node->b) at = end_of(node->b, part, at, end);
+    if (node->c) at = end_of(node->c, part, at, end);
+    if (node == part) *end = at + 1;
+    return at + 1;
+}
+
+static void list_alternatives(const Alternatives *all, const Node *node, Bytes *lists)
+{
+    long step = 0, test = 0;
+    for (int i = 0; i < all->count; i++) {
+        const Alternative *a = all->list[i];
+        lists[0].at[i] = (byte)a->steps;
+        for (int j = 0; j < a->steps; j++) lists[1].at[step++] = (byte)a->tests[j];
+        for (int j = 0; j < a->total; j++, test++) {
+            int end = 0;
+            end_of(node, a->test[j].operand, 0, &end);
+            lists[2].at[test] = (byte)a->test[j].edge;
+            ((uint16_t *)lists[3].at)[test] = (uint16_t)end;
+        }
+    }
+}
+
+/* 9 for the first short one of the four lists. */
+static Refusal check_lists(const Alternatives *all, const Bytes *lists)
+{
+    long needed[4] = {all->count, 0, 0, 0};
+    for (int i = 0; i < all->count; i++) {
+        needed[1] += all->list[i]->steps;
+        needed[2] += all->list[i]->total;
+    }
+    needed[3] = needed[2];
+    for (int k = 0; k < 4; k++)
+        if (lists[k].length / (k == 3 ? 2 : 1) < needed[k]) return (Refusal){9, needed[k]};
+    return (Refusal){0, 0};
+}
+
+static void do_rewrite(void)
+{
+    long names = take_number();
+    Bytes tree = take_bytes(), lists[4];
+    for (int k = 0; k < 4; k++) lists[k] = lend((k == 3 ? 2 : 1) * take_number());
+    Node *node;
+    Refusal r = check_rows(names, 1, names);
+    if (!r.number) r = check_tree(tree.at, tree.length, (int)names, VECTOR, &node);
+    Alternatives *all = r.number ? NULL : alternatives_of(node);
+    if (all) r = check_lists(all, lists);
+    if (!refused(r)) {
+        list_alternatives(all, node, lists);
+        printf("alternatives %d", all->count);
+    }
+    uint64_t sum = 0;
+    for (int k = 0; k < 4; k++) sum = sum_of(sum, lists[k].at, lists[k].length);
+    end_line(sum);
+}
+
 void do_pattern(int c)
 {
     if (c == 'v') do_values();
+    else if (c == 'l') do_rewrite();
     else if (c == 'm') do_matching();
     else if (c == 't') do_totals();
-    else if (c == 'r') do_row(VECTOR);
-    else if (c == 's') do_row(BOOLEAN);
+    else if (c == 'r') do_row(VECTOR, 1);
+    else if (c == 'a') do_row(VECTOR, 0);
+    else if (c == 's') do_row(BOOLEAN, 0);
     else if (c == 'k') do_correction();
     else if (c == 'q') do_queue();
 }

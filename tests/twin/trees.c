@@ -15,8 +15,6 @@ Node *new_node(Kind kind, int place, int code, Node *a, Node *b, Node *c)
 
 void free_nodes(void) { used = 0; }
 
-int nodes_in(const Node *n) { return n ? 1 + nodes_in(n->a) + nodes_in(n->b) + nodes_in(n->c) : 0; }
-
 static int byte_of(const Node *n)
 {
     int vectors = n->b ? (n->a->sort == VECTOR) + 2 * (n->b->sort == VECTOR) : 0;

@@ -53,7 +53,6 @@ Refusal read_text(const byte *names, long names_length, const byte *text, long l
 /* trees.c: a tree as bytes and back, its text, refusal 10 */
 Node *new_node(Kind kind, int place, int code, Node *a, Node *b, Node *c);
 void free_nodes(void);
-int nodes_in(const Node *node);
 int tree_bytes(const Node *node, byte *out, int at);
 Node *tree_from(const byte *bytes, long length, int names);
 Refusal check_tree(const byte *bytes, long length, int names, int sort, Node **tree);
@@ -63,7 +62,6 @@ Refusal write_text(const byte *names, long names_length, const byte *tree, long 
 
 /* alternatives.c: NULL where over limit 8 */
 Alternatives *alternatives_of(const Node *node);
-void free_alternatives(void);
 int contradictory(const Alternative *alternative);
 long tries_at(const Alternatives *all, const Trace *trace, long row);
 

@@ -1,3 +1,4 @@
 -- The laws of handing on.
 pub mod Handed
 pub mod Unique
+pub mod Theorems

@@ -12,10 +12,14 @@ use Rattle.traces.specs.declared.Reading.{Reading}
 use Rattle.traces.specs.declared.Reading.the-variants as the-reading
 use Rattle.changes.specs.declared.RowChanges.{RowChanges}
 use Rattle.changes.specs.declared.RowChanges.the-variants as the-changes
+use Rattle.alf.specs.Windows.{numberOf}
+use Rattle.calls.specs.declared.written.Told as written
+use Rattle.calls.specs.declared.written.Told.the-variants as the-answer
 use Rattle.dachsmond.specs.declared.Told.{Told}
 use Rattle.dachsmond.specs.declared.Expression.{Expression}
 use Rattle.dachsmond.specs.declared.Trace.{Trace}
 use Rattle.dachsmond.specs.declared.Changed.{Changed}
+use Rattle.dachsmond.specs.declared.Answered.{Answered}
 
 -- a result that is allowed, as it is told
 pub record Hands {A B : Type 0} (allowed : A → Type 0) (tell : A → B) (r : B) : Type 0 where
@@ -42,3 +46,7 @@ toldTrace (the-reading.Refused r) = record { number = r .number; place = r .plac
 unfoldable pub toldChanges : RowChanges → Changed
 toldChanges (the-changes.Changed c) = record { number = 0; place = 0; mask = c .mask; many = c .many }
 toldChanges (the-changes.Refused r) = record { number = r .number; place = r .place; mask = 0; many = 0 }
+
+unfoldable pub toldAnswer : written.Told → Answered
+toldAnswer (the-answer.Answered a) = record { number = 0; place = 0; answer = numberOf a }
+toldAnswer (the-answer.Refused r) = record { number = r .number; place = r .place; answer = 0 }

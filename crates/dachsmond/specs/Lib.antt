@@ -1,2 +1,3 @@
 -- What the library for C tells.
 pub mod Handing
+pub mod Matching

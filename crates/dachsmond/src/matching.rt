@@ -1,0 +1,117 @@
+// Matching by the alternatives of an expression, for C: a row, all rows, the totals, and the alternatives themselves.
+ghost use mathlib.Core.Path.{_≡_};
+ghost use Rattle.calls.specs.Matching.{RowMatch, AllMatched, RowTotals};
+ghost use Rattle.rewriting.specs.Calls.{Rewrites};
+ghost use Rattle.dachsmond.specs.Handing.{Hands, told};
+ghost use Rattle.dachsmond.specs.Matching.{toldMatch, toldCounts};
+use crate::Counted;
+use crate::Matched;
+use crate::Told;
+use crate::texts::tell;
+use calls::matching::Counting;
+use calls::matching::Matching;
+use calls::matching::match_all;
+use calls::matching::match_row;
+use calls::matching::totals;
+use matcher::tables::number_of;
+use rewriting::rewrite;
+
+pub fn tell_match(o: Matching) -> Matched
+    ensures { λ r. ⌜ r ≡ toldMatch o ⌝ }
+{
+    match o {
+        Matching::Found(m) => {
+            let a = m.answer;
+            let tries = m.tries;
+            let answer = number_of(a);
+            Matched {
+                number: 0,
+                place: 0,
+                answer,
+                tries,
+            }
+        }
+        Matching::Refused(r) => Matched {
+            number: r.number,
+            place: r.place,
+            answer: 0,
+            tries: 0,
+        },
+    }
+}
+
+fn tell_counts(o: Counting) -> Counted
+    ensures { λ r. ⌜ r ≡ toldCounts o ⌝ }
+{
+    match o {
+        Counting::Counted(t) => Counted {
+            number: 0,
+            place: 0,
+            yes: t.yes,
+            no: t.no,
+            unknown: t.unknown,
+        },
+        Counting::Refused(r) => Counted {
+            number: r.number,
+            place: r.place,
+            yes: 0,
+            no: 0,
+            unknown: 0,
+        },
+    }
+}
+
+// The answer of a vector expression at a row, and the number of its alternatives tried.
+#[no_mangle]
+pub extern "C" fn dachsmond_match_row(
+    names: usize,
+    n: usize,
+    tree: &[u8],
+    states: &[u8],
+    row: usize,
+) -> Matched
+    ensures { λ r. ⌜ Hands (RowMatch names n (now (tree .entry)) (now (states .entry)) row) toldMatch r ⌝ }
+{
+    tell_match(match_row(names, n, tree, states, row))
+}
+
+// The same for all rows, into lent lists.
+#[no_mangle]
+pub extern "C" fn dachsmond_match_all(
+    names: usize,
+    n: usize,
+    tree: &[u8],
+    states: &[u8],
+    answers: &mut [u8],
+    tried: &mut [u32],
+) -> Told
+    ensures { λ r. ⌜ Hands (AllMatched names n (now (tree .entry)) (now (states .entry)) (now (answers .entry))
+        (now (tried .entry)) (now (answers .exit)) (now (tried .exit))) told r ⌝ }
+{
+    tell(match_all(names, n, tree, states, answers, tried))
+}
+
+// How many of the rows answer yes, no and unknown.
+#[no_mangle]
+pub extern "C" fn dachsmond_totals(names: usize, n: usize, tree: &[u8], states: &[u8]) -> Counted
+    ensures { λ r. ⌜ Hands (RowTotals names n (now (tree .entry)) (now (states .entry))) toldCounts r ⌝ }
+{
+    tell_counts(totals(names, n, tree, states))
+}
+
+// The alternatives of a vector expression, into four lent lists.
+#[no_mangle]
+pub extern "C" fn dachsmond_rewrite(
+    names: usize,
+    tree: &[u8],
+    steps: &mut [u8],
+    tests: &mut [u8],
+    edges: &mut [u8],
+    operands: &mut [u16],
+) -> Told
+    ensures { λ r. ⌜ Hands (Rewrites names (now (tree .entry)) (now (steps .entry)) (now (tests .entry))
+        (now (edges .entry)) (now (operands .entry)) (now (steps .exit)) (now (tests .exit)) (now (edges .exit))
+        (now (operands .exit))) told r ⌝ }
+{
+    tell(rewrite(names, tree, steps, tests, edges, operands))
+}

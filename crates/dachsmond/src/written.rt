@@ -1,0 +1,89 @@
+// An expression at the rows of a trace, as it is written, for C.
+ghost use mathlib.Core.Path.{_≡_};
+ghost use Rattle.calls.specs.Written.{RowState, RowValue, AllValues, RowAnswer};
+ghost use Rattle.dachsmond.specs.Handing.{Hands, told, toldAnswer};
+use crate::Answered;
+use crate::Told;
+use crate::texts::tell;
+use calls::written::row_answer;
+use calls::written::row_state;
+use calls::written::row_value;
+use calls::written::values;
+use matcher::tables::number_of;
+
+fn tell_answer(o: calls::written::Told) -> Answered
+    ensures { λ r. ⌜ r ≡ toldAnswer o ⌝ }
+{
+    match o {
+        calls::written::Told::Answered(a) => {
+            let answer = number_of(a);
+            Answered {
+                number: 0,
+                place: 0,
+                answer,
+            }
+        }
+        calls::written::Told::Refused(r) => Answered {
+            number: r.number,
+            place: r.place,
+            answer: 0,
+        },
+    }
+}
+
+// The state of a boolean expression at a row, as the count told.
+#[no_mangle]
+pub extern "C" fn dachsmond_row_state(
+    names: usize,
+    n: usize,
+    tree: &[u8],
+    states: &[u8],
+    row: usize,
+) -> Told
+    ensures { λ r. ⌜ Hands (RowState names n (now (tree .entry)) (now (states .entry)) row) told r ⌝ }
+{
+    tell(row_state(names, n, tree, states, row))
+}
+
+// Its value.
+#[no_mangle]
+pub extern "C" fn dachsmond_row_value(
+    names: usize,
+    n: usize,
+    tree: &[u8],
+    states: &[u8],
+    row: usize,
+) -> Told
+    ensures { λ r. ⌜ Hands (RowValue names n (now (tree .entry)) (now (states .entry)) row) told r ⌝ }
+{
+    tell(row_value(names, n, tree, states, row))
+}
+
+// Its values at all rows, into a lent list.
+#[no_mangle]
+pub extern "C" fn dachsmond_values(
+    names: usize,
+    n: usize,
+    tree: &[u8],
+    states: &[u8],
+    out: &mut [u8],
+) -> Told
+    ensures { λ r. ⌜ Hands (AllValues names n (now (tree .entry)) (now (states .entry)) (now (out .entry))
+        (now (out .exit))) told r ⌝ }
+{
+    tell(values(names, n, tree, states, out))
+}
+
+// The answer of a vector expression at a row, the greatest over the windows that end there.
+#[no_mangle]
+pub extern "C" fn dachsmond_row_answer(
+    names: usize,
+    n: usize,
+    tree: &[u8],
+    states: &[u8],
+    row: usize,
+) -> Answered
+    ensures { λ r. ⌜ Hands (RowAnswer names n (now (tree .entry)) (now (states .entry)) row) toldAnswer r ⌝ }
+{
+    tell_answer(row_answer(names, n, tree, states, row))
+}
