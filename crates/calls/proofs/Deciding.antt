@@ -6,6 +6,7 @@
 --   both-decided     two tests
 --   eqb-decides      two numbers
 --   said, not-said   the test of an `if` that is turned round
+--   denied           what it then says no to is not so
 -- Assumes nothing.
 use mathlib.Core.Path.{_≡_, refl, sym}
 use mathlib.Core.Bool.{Bool, true, false, not, _&&_}
@@ -65,3 +66,6 @@ said false h = never (sym h)
 pub not-said : (b : Bool) → not b ≡ true → b ≡ true → ⊥
 not-said true h e = never h
 not-said false h e = never e
+
+pub denied : {P : Type 0} (b : Bool) → Decides b P → not b ≡ true → P → ⊥
+denied b d h p = not-said b h (tells b d p)

@@ -3,3 +3,7 @@ pub mod Deciding
 pub mod Verdicts
 pub mod Checked
 pub mod AsWritten
+pub mod ByAlternatives
+pub mod Matches
+pub mod Corrects
+pub mod Pushes

@@ -1,3 +1,6 @@
 -- The calls over rows for trees: what each is refused with, and what it comes to.
 pub mod Orders
 pub mod Written
+pub mod Matching
+pub mod Correcting
+pub mod Pushing

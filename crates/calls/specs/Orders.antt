@@ -32,6 +32,11 @@ codes states = check 15 (bad-code states) ∷ []
 abbrev pub codesRow : List ℕ → ℕ → ℕ → Order
 codesRow states n row = check 15 (bad-code states) ∷ check 19 (no-such-row row n) ∷ []
 
+-- 15 of a trace, then of a new row; and 19
+abbrev pub codesCorrection : List ℕ → List ℕ → ℕ → ℕ → Order
+codesCorrection states new n row =
+    check 15 (bad-code states) ∷ check 15 (bad-code new) ∷ check 19 (no-such-row row n) ∷ []
+
 -- a tree and a row of a trace: 18, 10, 15, 19
 abbrev pub rowOrder : ℕ → ℕ → List ℕ → Sort → List ℕ → ℕ → Order
 rowOrder names n tree sort states row =
@@ -41,6 +46,11 @@ rowOrder names n tree sort states row =
 abbrev pub rowsOrder : ℕ → ℕ → Type 0 → List ℕ → Sort → List ℕ → Order
 rowsOrder names n lent tree sort states =
     order (lent × Rows names n (length states)) (Accepted names sort tree) (codes states)
+
+-- a tree and all rows of a trace, where no list is lent beside them
+abbrev pub traceOrder : ℕ → ℕ → List ℕ → Sort → List ℕ → Order
+traceOrder names n tree sort states =
+    order (Rows names n (length states)) (Accepted names sort tree) (codes states)
 
 -- A verdict by an order: good, and some facts are so; or refused.
 pub data Judged (o : Order) (facts : Type 0) : Verdict → Type 0 where
@@ -57,6 +67,9 @@ pub record JudgesTrace (fits good : Bool) (states : List ℕ) (r : Verdict) : Ty
 
 pub record JudgesRow (fits good : Bool) (states : List ℕ) (n row : ℕ) (r : Verdict) : Type 0 where
   pub is : Judges fits good (codesRow states n row) (Codes states × (row < n)) r
+
+pub record JudgesCorrection (fits good : Bool) (states new : List ℕ) (n row : ℕ) (r : Verdict) : Type 0 where
+  pub is : Judges fits good (codesCorrection states new n row) (Codes states × Codes new × (row < n)) r
 
 -- of a tree and a trace
 pub record ChecksRow (names n : ℕ) (tree : List ℕ) (sort : Sort) (states : List ℕ) (row : ℕ) (r : Verdict) : Type 0 where

@@ -1,0 +1,32 @@
+-- `correcting::correction_fits` meets its contract. Assumes nothing.
+use Rattle.limits.specs.Accepted.{Decides}
+use Rattle.calls.proofs.Deciding.{same-decided}
+use borrow.Author.Needs.{needs}
+use Rattle.calls.proofs.correcting.correction_fits.Statement.{statement}
+use Rattle.calls.proofs.correcting.correction_fits.Tie as tie
+
+returns : tie.Need-returns
+unfolding Decides
+returns c = λ s. c .if1 .taken (s .room)
+
+returns-2 : tie.Need-returns-2
+unfolding Decides
+returns-2 c = λ s. c .if2 .taken (s .full)
+
+rows-fit-requires : tie.Need-rows-fit-requires
+rows-fit-requires c κs = search needs
+
+returns-3 : tie.Need-returns-3
+returns-3 c =
+    same-decided _ _ _
+    (λ l. record { room = c .before .before .if1 .left; full = c .before .if2 .left; rows = l })
+    (λ s. s .rows) (c .rows-fit .ensures)
+
+pub correction-fits-spec : {M : Type 1} → statement M
+correction-fits-spec =
+    tie.close
+    (tie.spec
+    returns
+    returns-2
+    rows-fit-requires
+    returns-3)
