@@ -17,6 +17,7 @@ use Rattle.alf.specs.Refusals.{Row, Passed, First}
 use Rattle.alf.proofs.Bools.{never}
 use Rattle.alf.proofs.Outcomes.{Fixed, AllFixed, at-fixed, first-fixed, first-of-fixed, refused-passed, refused-unique}
 use Rattle.names.specs.Check.{namesOrder}
+use Rattle.names.proofs.Orders.{fixed-both, passed-left, passed-right}
 use Rattle.tokens.specs.Texts.{Token, Reads, OfTokens, deep, many, order}
 use Rattle.tokens.proofs.TextLaws.{reads-unique, reads-not-stuck}
 use Rattle.grammar.specs.Grammar.{Tree}
@@ -27,7 +28,6 @@ use Rattle.reader.specs.Texts.{tokensOf}
 use Rattle.reader.specs.Reads.{made, refusedWith}
 use Rattle.reader.specs.Reading.{tooLarge, OfTree, stuck, unknown, sortedIn, treeOrder, readOrder}
 use Rattle.reader.specs.Reading.{Gives, Reading, refused, read}
-use Rattle.reader.proofs.Orders.{fixed-both, passed-left, passed-right}
 use Rattle.reader.proofs.Readings.{read-clear}
 use Rattle.reader.proofs.Whole.{text-short}
 
