@@ -5,7 +5,8 @@ use native.Mathlib.Omega.{arith}
 use Rattle.trees.proofs.Starts.{ends-pos}
 use Rattle.writer.proofs.Going.{going-room, going-on, going-end, going-length}
 use Rattle.writer.proofs.Layouts.{three-right, three-middle, three-parts, three-start}
-use Rattle.writer.proofs.layout.+emit+emit_three+emit_two.Proof.Calls.{emit-three-at, calls-emit-three}
+use Rattle.writer.proofs.layout.+emit+emit_three+emit_two.Proof.Calls.{emit-three-at}
+use Rattle.writer.proofs.layout.+emit+emit_three+emit_two.Proof.Calls.{calls-emit-three}
 use Rattle.writer.proofs.layout.emit_three.Reads as emit-three
 use Rattle.writer.proofs.layout.+emit+emit_three+emit_two.Lts-emit_three as emit-three-lts
 
