@@ -1,8 +1,8 @@
 -- `put_literal` meets its contract. Assumes nothing.
 use borrow.Author.Needs.{needs}
 use Rattle.writer.proofs.Spelling.{literal-half, literal-base, literal-plain, literal-based}
-use Rattle.writer.proofs.spells.put_literal.Statement.{statement}
-use Rattle.writer.proofs.spells.put_literal.Tie as tie
+use Rattle.writer.proofs.halves.put_literal.Statement.{statement}
+use Rattle.writer.proofs.halves.put_literal.Tie as tie
 
 put-half-requires : tie.Need-put-half-requires
 put-half-requires c κs = literal-half (c .before .before .before .pre) (c .before .if1 .taken)

@@ -3,8 +3,8 @@ use borrow.Author.Needs.{needs}
 use Rattle.writer.proofs.Spelling.{pairing-as, put-as, pair-start, pair-first, pair-second}
 use Rattle.writer.proofs.Going.{going-room, going-on, going-end}
 use mathlib.Core.Path.{sym}
-use Rattle.writer.proofs.spells.put_pair.Statement.{statement}
-use Rattle.writer.proofs.spells.put_pair.Tie as tie
+use Rattle.writer.proofs.halves.put_pair.Statement.{statement}
+use Rattle.writer.proofs.halves.put_pair.Tie as tie
 
 put-wide-requires : tie.Need-put-wide-requires
 put-wide-requires c κs = pairing-as (c .before .before .before .pre) (pair-first _ _ (c .before .if1 .taken))

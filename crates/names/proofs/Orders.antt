@@ -1,10 +1,11 @@
 -- Laws of a call's order that is put together of two: refused by the first, or by the second once the first is passed.
--- Main names: refused-first, refused-then, passed-both, passed-left, passed-right, fixed-both. Assumes nothing.
-use mathlib.Core.Path.{_≡_}
+-- Main names: refused-first, refused-then, passed-both, passed-left, passed-right, fixed-both; none-first: what is so
+-- nowhere first is so nowhere. Assumes nothing.
 use mathlib.Core.List.{List, [], _∷_, _++_}
 use mathlib.Core.Logic.{_⊎_, inl, inr}
-use Prim.Native.Nat.{ℕ}
-use Rattle.alf.specs.Refusals.{Order, RefusedWith, Passed}
+use Prim.Native.Nat.{ℕ, zero, suc, _<_}
+use native.Mathlib.Omega.{arith}
+use Rattle.alf.specs.Refusals.{Order, RefusedWith, Passed, First}
 use Rattle.alf.proofs.Outcomes.{AllFixed}
 
 pub refused-first : (o o′ : Order) (n p : ℕ) → RefusedWith o n p → RefusedWith (o ++ o′) n p
@@ -36,3 +37,10 @@ pub passed-right : (o o′ : Order) → Passed (o ++ o′) → Passed o′
 unfolding Passed
 passed-right [] o′ h = h
 passed-right (c ∷ o) o′ h = passed-right o o′ (h .1)
+
+none-below : (so : ℕ → Type 0) → ((p : ℕ) → First so p → ⊥) → (n k : ℕ) → k < n → so k → ⊥
+none-below so f zero k h s = omega arith
+none-below so f (suc n) k h s = f k (record { given = s; before = λ i l t. none-below so f n i (omega arith) t })
+
+pub none-first : (so : ℕ → Type 0) → ((p : ℕ) → First so p → ⊥) → (k : ℕ) → so k → ⊥
+none-first so f k s = none-below so f (suc k) k (omega arith) s

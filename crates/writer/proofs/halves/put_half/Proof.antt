@@ -1,8 +1,8 @@
 -- `put_half` meets its contract. Assumes nothing.
 use borrow.Author.Needs.{needs}
 use Rattle.writer.proofs.Spelling.{half-table}
-use Rattle.writer.proofs.spells.put_half.Statement.{statement}
-use Rattle.writer.proofs.spells.put_half.Tie as tie
+use Rattle.writer.proofs.halves.put_half.Statement.{statement}
+use Rattle.writer.proofs.halves.put_half.Tie as tie
 
 array-read-push : tie.Need-array-read-push
 array-read-push c = search needs

@@ -4,8 +4,8 @@ use Rattle.writer.proofs.Going.{going-start, going-on, going-end}
 use mathlib.Core.Path.{refl}
 use mathlib.Core.List.{[], _∷_}
 use Rattle.writer.specs.Spelled.{halfByte}
-use Rattle.writer.proofs.spells.put_based.Statement.{statement}
-use Rattle.writer.proofs.spells.put_based.Tie as tie
+use Rattle.writer.proofs.halves.put_based.Statement.{statement}
+use Rattle.writer.proofs.halves.put_based.Tie as tie
 
 push-requires : tie.Need-push-requires
 push-requires c κs = search needs

@@ -5,8 +5,8 @@ use mathlib.Core.Path.{refl}
 use mathlib.Core.List.{[], _∷_}
 use Rattle.tokens.specs.Spelling.{based}
 use Rattle.writer.specs.Spelled.{halfByte}
-use Rattle.writer.proofs.spells.put_wide.Statement.{statement}
-use Rattle.writer.proofs.spells.put_wide.Tie as tie
+use Rattle.writer.proofs.halves.put_wide.Statement.{statement}
+use Rattle.writer.proofs.halves.put_wide.Tie as tie
 
 put-based-requires : tie.Need-put-based-requires
 put-based-requires c κs = search needs
