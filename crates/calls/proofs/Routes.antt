@@ -64,7 +64,8 @@ found names tree states row =
 
 module _ {names n : ℕ} {tree states : List ℕ} {row : ℕ} (l : Rows names n (length states))
     (a : Accepted names Vector tree) (s : Codes states) (h : row < n) where
-  pub answered : (x : Told) → RowAnswer names n tree states row x → x ≡ told.Answered (rowAnswer (stateAt names states) (expression tree names) row)
+  pub answered : (x : Told) → RowAnswer names n tree states row x
+      → x ≡ told.Answered (rowAnswer (stateAt names states) (expression tree names) row)
   unfolding Tells
   answered (told.Answered b) w = ap told.Answered (w .comes .1)
   answered (told.Refused r) w = absurd (refused-passed _ _ _ (row-passed states n row l a s h) (w .comes))
@@ -136,7 +137,8 @@ told-by (Refused r) = record { answer = NoEvent; tries = 0 }
 fed-codes : (rows : ℕ → List ℕ) (n : ℕ) → ((i : ℕ) → i < n → Codes (rows i)) → Codes (fed rows n)
 unfolding fed
 fed-codes rows zero h = λ i l. absurd (omega arith)
-fed-codes rows (suc n) h = codes-append (fed rows n) (rows n) (fed-codes rows n (λ i l. h i (omega arith))) (h n (omega arith))
+fed-codes rows (suc n) h =
+    codes-append (fed rows n) (rows n) (fed-codes rows n (λ i l. h i (omega arith))) (h n (omega arith))
 
 -- A feed of good rows, one push after the other, the first into a queue that keeps nothing.
 module _ {names n : ℕ} {tree : List ℕ} {rows : ℕ → List ℕ} {queues : ℕ → Queue} {results : ℕ → Matching}

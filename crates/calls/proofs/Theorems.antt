@@ -90,7 +90,8 @@ isVectorSort : Sort → Bool
 isVectorSort sort.Boolean = false
 isVectorSort sort.Vector = true
 
-expression-over : (names : ℕ) (tree : List ℕ) → Accepted names sort.Vector tree → VectorOver names (expression tree names)
+expression-over : (names : ℕ) (tree : List ℕ) → Accepted names sort.Vector tree
+    → VectorOver names (expression tree names)
 unfolding Decodes topVector sortOf isVectorSort ExpressionOver
 expression-over names tree a = go (a .expression) (a .decodes) (a .sorted)
   where
@@ -98,8 +99,8 @@ expression-over names tree a = go (a .expression) (a .decodes) (a .sorted)
     go (boolean c) d k = never (ap isVectorSort k)
     go (vector p) d k = rw d (decode-over names tree (vector p) d)
 
--- Three routes: where every push of the rows of a trace is taken, the answer as written, the answer by alternatives and
--- the answer of push i are one, and the numbers tried are one.
+-- Three routes: where every push of the rows of a trace is taken, the answer as written, the answer by alternatives
+-- and the answer of push i are one, and the numbers tried are one.
 module _ {names n : ℕ} {tree : List ℕ} {rows : ℕ → List ℕ} {queues : ℕ → Queue} {told : ℕ → Matched}
     (accepted : Accepted names sort.Vector tree) (first : queues 0 .kept .0 ≡ 0)
     (full : (i : ℕ) → i < n → length (rows i) ≡ names)
