@@ -42,7 +42,8 @@ correction-fixed P Q states new n row =
     (at-fixed _ _, (at-fixed _ _, (first-fixed _, (first-fixed _, (at-fixed _ _, tt)))))
 
 -- one outcome, with a count that is fixed
-pub outcome-unique : (o : Order) (k : ℕ) → AllFixed o → (a b : Outcome) → Comes o (λ j. j ≡ k) a → Comes o (λ j. j ≡ k) b
+pub outcome-unique : (o : Order) (k : ℕ) → AllFixed o → (a b : Outcome) → Comes o (λ j. j ≡ k) a
+    → Comes o (λ j. j ≡ k) b
     → a ≡ b
 outcome-unique o k f a b x y = comes-unique o (λ j. j ≡ k) f (λ i j p q. p ∙ sym q) a b x y
 
@@ -52,12 +53,14 @@ pub after-unique : (made out : List ℕ) {out′ out″ : List ℕ} {a b : Outco
 after-unique made out e x y = x ∙ ap (after made out) e ∙ sym y
 
 module _ {names n : ℕ} {tree states : List ℕ} where
-  pub state-unique : {row : ℕ} {a b : Outcome} → RowState names n tree states row a → RowState names n tree states row b
+  pub state-unique : {row : ℕ} {a b : Outcome} → RowState names n tree states row a
+      → RowState names n tree states row b
       → a ≡ b
   state-unique {row} x y =
       outcome-unique _ _ (row-fixed _ _ states n row) _ _ (x .comes) (y .comes)
 
-  pub value-unique : {row : ℕ} {a b : Outcome} → RowValue names n tree states row a → RowValue names n tree states row b
+  pub value-unique : {row : ℕ} {a b : Outcome} → RowValue names n tree states row a
+      → RowValue names n tree states row b
       → a ≡ b
   value-unique {row} x y =
       outcome-unique _ _ (row-fixed _ _ states n row) _ _ (x .comes) (y .comes)
@@ -100,12 +103,14 @@ counts-unique o right f one (counting.Refused r) (counting.Refused s) x y =
     let e = refused-unique o f x y in λ i. counting.Refused (record { number = e .0 i; place = e .1 i })
 
 module _ {names n : ℕ} {tree states : List ℕ} where
-  pub answer-unique : {row : ℕ} {a b : Told} → RowAnswer names n tree states row a → RowAnswer names n tree states row b
+  pub answer-unique : {row : ℕ} {a b : Told} → RowAnswer names n tree states row a
+      → RowAnswer names n tree states row b
       → a ≡ b
   answer-unique {row} x y =
       tells-unique _ _ (row-fixed _ _ states n row) _ _ (x .comes) (y .comes)
 
-  pub match-unique : {row : ℕ} {a b : Matching} → RowMatch names n tree states row a → RowMatch names n tree states row b
+  pub match-unique : {row : ℕ} {a b : Matching} → RowMatch names n tree states row a
+      → RowMatch names n tree states row b
       → a ≡ b
   match-unique {row} x y =
       finds-unique _ _ (row-fixed _ _ states n row)

@@ -39,7 +39,8 @@ use Rattle.calls.proofs.ByAlternatives.{written-whole}
 use Rattle.calls.proofs.Matches.{rows-asked}
 use Rattle.listed_calls.specs.Lists.{AcceptedAlternatives}
 use Rattle.listed_calls.specs.Listed as listed
-use Rattle.listed_calls.specs.Listed.{ListedMatch, ListedAll, ListedTotals, ListedPush, Handed, Takes, DecidesQueue}
+use Rattle.listed_calls.specs.Listed.{ListedMatch, ListedAll, ListedTotals, ListedPush}
+use Rattle.listed_calls.specs.Listed.{Handed, Takes, DecidesQueue}
 use Rattle.listed_calls.proofs.Acceptance.{accepted-shape, accepted-short}
 
 -- the trace, and two lists of n entries

@@ -42,7 +42,8 @@ lengths-cut (n ∷ ns) xs h =
     ap₂ (λ (k : ℕ) (l : List ℕ). k ∷ l) (length-take-le n xs (omega arith))
     (lengths-cut ns (drop n xs) (omega (arith, length-drop n xs)))
 
-tests-pieces : (ns : List ℕ) (ys : Alternative) → greatestOf tests (cut ns ys) ≡ greatestOf sum (cut ns (map length ys))
+tests-pieces : (ns : List ℕ) (ys : Alternative)
+    → greatestOf tests (cut ns ys) ≡ greatestOf sum (cut ns (map length ys))
 unfolding greatestOf cut tests
 tests-pieces [] ys = refl
 tests-pieces (n ∷ ns) ys =

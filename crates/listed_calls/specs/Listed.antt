@@ -1,5 +1,5 @@
--- What the calls come to that match by alternatives handed in: document 01's answer of the alternatives, and the number
--- tried; or refused with 18, 10, 15, 19.
+-- What the calls come to that match by alternatives handed in: document 01's answer of the alternatives, and the
+-- number tried; or refused with 18, 10, 15, 19.
 -- Main names: ListedMatch, ListedAll, ListedTotals, ListedPush.
 use Prim.Native.Nat.{ℕ, _≤_}
 use mathlib.Core.Path.{_≡_}

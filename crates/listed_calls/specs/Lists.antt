@@ -1,6 +1,6 @@
--- Document 01, 10: "alternatives over a limit of 8, none at all, one without a step, or a test with an unknown code or an
--- operand that is no such tree". The lists are those of matcher/specs/Shapes; lists that do not fit each other are no
--- alternatives.
+-- Document 01, 10: "alternatives over a limit of 8, none at all, one without a step, or a test with an unknown code or
+-- an operand that is no such tree". The lists are those of matcher/specs/Shapes; lists that do not fit each other are
+-- no alternatives.
 -- Main name: AcceptedAlternatives. The rest says what the functions that decide it count.
 use Prim.Native.Nat.{ℕ, _-_, _<_, _≤_}
 use mathlib.Core.Path.{_≡_}

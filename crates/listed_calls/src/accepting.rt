@@ -43,8 +43,8 @@ pub fn fits(
     edges: &[u8],
     operands: &[u16],
 ) -> bool
-    ensures { λ r. ⌜ Decides r (AcceptedAlternatives names (now (tree .entry)) (now (steps .entry)) (now (tests .entry))
-        (now (edges .entry)) (now (operands .entry))) ⌝ }
+    ensures { λ r. ⌜ Decides r (AcceptedAlternatives names (now (tree .entry)) (now (steps .entry))
+        (now (tests .entry)) (now (edges .entry)) (now (operands .entry))) ⌝ }
 {
     if !are_shaped(steps, tests, edges.len(), operands.len()) {
         return false;

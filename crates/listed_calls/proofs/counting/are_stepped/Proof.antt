@@ -47,7 +47,9 @@ loop-again c =
 
 returns-3 : tie.Need-returns-3 Inv-loop μ-loop
 unfolding Decides
-returns-3 c = upto-all Stepped (c .before .before .args .steps .now) (c .before .loop .i) (c .loop-test .left) (c .before .loop .inv .1)
+returns-3 c =
+    upto-all Stepped (c .before .before .args .steps .now) (c .before .loop .i) (c .loop-test .left)
+    (c .before .loop .inv .1)
 
 pub are-stepped-spec : {M : Type 1} → statement M
 are-stepped-spec =

@@ -29,7 +29,8 @@ cast-x c = omega (arith, c .shared-slice-known .given (c .before .before .loop .
 returns : tie.Need-returns Inv-loop μ-loop
 unfolding Decides
 returns c = λ w.
-    let e = sum-next (c .before .before .before .before .args .list .now) (c .before .before .before .loop .i) (omega arith) in
+    let c3 = c .before .before .before in
+    let e = sum-next (c3 .before .args .list .now) (c3 .loop .i) (omega arith) in
     omega (arith, w)
 
 add-i : tie.Need-add-i Inv-loop μ-loop
@@ -40,7 +41,8 @@ loop-less c = omega arith
 
 loop-again : tie.Need-loop-again Inv-loop μ-loop
 loop-again c =
-    let e = sum-next (c .before .before .before .before .args .list .now) (c .before .before .before .loop .i) (omega arith) in
+    let c3 = c .before .before .before in
+    let e = sum-next (c3 .before .args .list .now) (c3 .loop .i) (omega arith) in
     omega arith
 
 returns-2 : tie.Need-returns-2 Inv-loop μ-loop

@@ -50,7 +50,8 @@ returns-2 c =
     let c11 = c9 .before .before in
     let args = c11 .before .before .before .before .before .before .before .before .before .before .args in
     all-told (c9 .before .fits2 .ensures) (args .answers .now) (args .tried .now) _ (c11 .before .both-are .ensures)
-    (c11 .lists-fit .ensures) (c9 .judge .ensures) (c .before .before .before .before .before .before .before .enum-told .given .1)
+    (c11 .lists-fit .ensures) (c9 .judge .ensures)
+    (c .before .before .before .before .before .before .before .enum-told .given .1)
     (c .before .before .before .before .match-all .ensures)
 
 pub match-all-spec : {M : Type 1} → statement M

@@ -29,13 +29,15 @@ returns : tie.Need-returns
 returns c =
     let c3 = c .before .before .before in
     let c4 = c3 .before in
-    match-refused (c4 .fits2 .ensures) (c4 .before .rows-fit .ensures) (c3 .judge-row .ensures) (c .before .v .given .1)
+    match-refused (c4 .fits2 .ensures) (c4 .before .rows-fit .ensures) (c3 .judge-row .ensures)
+    (c .before .v .given .1)
 
 returns-2 : tie.Need-returns-2
 returns-2 c =
     let c3 = c .before .before .before in
     let c4 = c3 .before in
-    match-told (c4 .fits2 .ensures) (c4 .before .rows-fit .ensures) (c3 .judge-row .ensures) (c .before .enum-told .given .1)
+    match-told (c4 .fits2 .ensures) (c4 .before .rows-fit .ensures) (c3 .judge-row .ensures)
+    (c .before .enum-told .given .1)
     (c .match-row .ensures)
 
 pub match-row-spec : {M : Type 1} → statement M

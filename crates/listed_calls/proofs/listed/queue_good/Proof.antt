@@ -26,12 +26,9 @@ keeps-requires : tie.Need-keeps-requires
 keeps-requires c κs =
     let c2 = c .before .before in
     let a = told _ (c2 .fits2 .ensures) (said _ (c .before .if2 .left)) in
-    record {
-      most = c2 .before .if1 .left;
-      few =
-          omega
-          (arith, longest-here _ _ _ _ _ _ (c2 .before .before .before .before .before .before .before .args .queue) a (c .longest .ensures), accepted-short _ _ _ _ _ _ a);
-    }
+    let q = c2 .before .before .before .before .before .before .before .args .queue in
+    let k = longest-here _ _ _ _ _ _ q a (c .longest .ensures) in
+    record { most = c2 .before .if1 .left; few = omega (arith, k, accepted-short _ _ _ _ _ _ a) }
 
 returns-3 : tie.Need-returns-3
 returns-3 c =

@@ -35,7 +35,8 @@ returns-2 : tie.Need-returns-2
 returns-2 c =
     let c3 = c .before .before .before in
     let c4 = c3 .before in
-    totals-told (c4 .fits2 .ensures) (c4 .before .rows-fit .ensures) (c3 .judge .ensures) (c .before .enum-told .given .1)
+    totals-told (c4 .fits2 .ensures) (c4 .before .rows-fit .ensures) (c3 .judge .ensures)
+    (c .before .enum-told .given .1)
     (c .totals .ensures)
 
 pub totals-spec : {M : Type 1} → statement M

@@ -39,7 +39,9 @@ loop-again c =
 
 returns-2 : tie.Need-returns-2 Inv-loop μ-loop
 unfolding Decides
-returns-2 c = upto-all Known (c .before .before .args .edges .now) (c .before .loop .i) (c .loop-test .left) (c .before .loop .inv .1)
+returns-2 c =
+    upto-all Known (c .before .before .args .edges .now) (c .before .loop .i) (c .loop-test .left)
+    (c .before .loop .inv .1)
 
 pub are-known-spec : {M : Type 1} → statement M
 are-known-spec =

@@ -35,7 +35,8 @@ is-operand-requires c κs = search needs
 returns : tie.Need-returns Inv-loop μ-loop
 unfolding Decides
 returns c = λ h.
-    denied (c .before .is-operand .result) (c .before .is-operand .ensures) (c .if1 .taken) (h (c .before .before .before .before .loop .i) (omega arith))
+    denied (c .before .is-operand .result) (c .before .is-operand .ensures) (c .if1 .taken)
+    (h (c .before .before .before .before .loop .i) (omega arith))
 
 add-i : tie.Need-add-i Inv-loop μ-loop
 add-i c = omega arith

@@ -31,7 +31,8 @@ accepts-requires c κs = search needs
 returns-3 : tie.Need-returns-3
 returns-3 c =
     let c4 = c .before .before .before .before in
-    operand-is _ _ _ (c4 .part-of .ensures) (c .before .before .if2 .left) (c4 .before .if1 .left) _ (c .accepts .ensures)
+    operand-is _ _ _ (c4 .part-of .ensures) (c .before .before .if2 .left) (c4 .before .if1 .left) _
+    (c .accepts .ensures)
 
 pub is-operand-spec : {M : Type 1} → statement M
 is-operand-spec =
