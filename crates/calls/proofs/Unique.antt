@@ -2,6 +2,7 @@
 --   state-unique, value-unique, values-unique, answer-unique      as written
 --   match-unique, all-unique, totals-unique                       by alternatives
 --   correction-unique, push-unique
+--   verdict-unique                                                what the functions that check tell
 --   codes-fixed, row-fixed, correction-fixed                      each row of an order fixes its place
 --   outcome-unique, after-unique, finds-unique, counts-unique     the laws behind them
 -- Assumes nothing.
@@ -17,13 +18,15 @@ use Rattle.matcher.specs.declared.answers.Matched.{Matched}
 use Rattle.matcher.specs.declared.tables.Total.{Total}
 use Rattle.updates.specs.declared.queues.Queue.{Queue}
 use Rattle.updates.proofs.Unique.{pushes-unique}
+use Rattle.calls.specs.declared.checks.Verdict.{Verdict}
+use Rattle.calls.specs.declared.checks.Verdict.the-variants as verdict
 use Rattle.calls.specs.declared.written.Told.{Told}
 use Rattle.calls.specs.declared.written.Told.the-variants as told
 use Rattle.calls.specs.declared.matching.Matching.{Matching}
 use Rattle.calls.specs.declared.matching.Matching.the-variants.{Found, Refused}
 use Rattle.calls.specs.declared.matching.Counting.{Counting}
 use Rattle.calls.specs.declared.matching.Counting.the-variants as counting
-use Rattle.calls.specs.Orders.{order, codes, codesRow, codesCorrection}
+use Rattle.calls.specs.Orders.{order, codes, codesRow, codesCorrection, Judged, passes, refuses}
 use Rattle.calls.specs.Written.{RowState, RowValue, AllValues, Tells, RowAnswer, after}
 use Rattle.calls.specs.Matching.{Finds, RowMatch, AllMatched, Counts, RowTotals}
 use Rattle.calls.specs.Correcting.{Correction}
@@ -46,6 +49,15 @@ pub outcome-unique : (o : Order) (k : ℕ) → AllFixed o → (a b : Outcome) �
     → Comes o (λ j. j ≡ k) b
     → a ≡ b
 outcome-unique o k f a b x y = comes-unique o (λ j. j ≡ k) f (λ i j p q. p ∙ sym q) a b x y
+
+-- one verdict
+pub verdict-unique : (o : Order) {facts : Type 0} → AllFixed o → {a b : Verdict} → Judged o facts a → Judged o facts b
+    → a ≡ b
+verdict-unique o f (passes p x) (passes q y) = refl
+verdict-unique o f (passes p x) (refuses s) = absurd (refused-passed o _ _ p s)
+verdict-unique o f (refuses r) (passes q y) = absurd (refused-passed o _ _ q r)
+verdict-unique o f (refuses r) (refuses s) =
+    let e = refused-unique o f r s in λ i. verdict.Refused (record { number = e .0 i; place = e .1 i })
 
 -- one list afterwards
 pub after-unique : (made out : List ℕ) {out′ out″ : List ℕ} {a b : Outcome} → a ≡ b → out′ ≡ after made out a
