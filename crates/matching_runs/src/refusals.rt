@@ -176,6 +176,13 @@ pub fn row_counts() {
     run(1, 2, b"", &mut three, 3, b"\x08", &mut answers, &mut tried);
 }
 
+// One name, n = 2, row 1.
+fn on_lists(word: &[u8], states: &mut [u8], new: &[u8], answers: &mut [u8], tried: &mut [u32]) {
+    write(word);
+    write(b"\n");
+    run(1, 2, b"\x00K", states, 1, new, answers, tried);
+}
+
 // Lists of n-1 entries; a new row of too many states, and of none.
 pub fn lists() {
     let mut states = [0u8, 1];
@@ -183,46 +190,30 @@ pub fn lists() {
     let mut tried = [7u32, 7];
     let mut short = [9u8];
     let mut few = [7u32];
-    write(b"answers of n-1 entries\n");
-    run(
-        1,
-        2,
-        b"\x00K",
+    on_lists(
+        b"answers of n-1 entries",
         &mut states,
-        1,
         b"\x01",
         &mut short,
         &mut tried,
     );
-    write(b"tried of n-1 entries\n");
-    run(
-        1,
-        2,
-        b"\x00K",
+    on_lists(
+        b"tried of n-1 entries",
         &mut states,
-        1,
         b"\x01",
         &mut answers,
         &mut few,
     );
-    write(b"new row of 2 states\n");
-    run(
-        1,
-        2,
-        b"\x00K",
+    on_lists(
+        b"new row of 2 states",
         &mut states,
-        1,
         b"\x00\x00",
         &mut answers,
         &mut tried,
     );
-    write(b"new row of no state\n");
-    run(
-        1,
-        2,
-        b"\x00K",
+    on_lists(
+        b"new row of no state",
         &mut states,
-        1,
         b"",
         &mut answers,
         &mut tried,
