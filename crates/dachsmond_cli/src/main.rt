@@ -4,6 +4,7 @@ mod correct;
 mod files;
 mod output;
 mod parts;
+mod patterns;
 mod rows;
 mod show;
 mod table;
