@@ -105,9 +105,6 @@ wrong-count byte counted rows = At byte (counted ≡ rows → ⊥)
 abbrev pub bytes-after : ℕ → ℕ → Row
 bytes-after byte bytes = At byte (byte < bytes)
 
-abbrev pub at-end : ℕ → Type 0 → Row
-at-end byte bad = At byte bad
-
 -- 18: not 1 to 32 names, or, where rows or answers are lent, lists not of exactly n entries, n from 1 to 65,535; 0
 abbrev pub NameCount : ℕ → Type 0
 NameCount k = (1 ≤ k) × (k ≤ 32)
