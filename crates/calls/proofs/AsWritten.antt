@@ -37,7 +37,8 @@ append-empty (x ∷ l) = ap (λ (k : List ℕ). x ∷ k) (append-empty l)
 
 -- a list of n entries, all of them written
 filled-whole : (n : ℕ) (f : ℕ → ℕ) (out : List ℕ) → length out ≡ n → filled n f out ≡ listed 0 n f
-filled-whole n f out e = ap (λ (l : List ℕ). listed 0 n f ++ l) (drop-of-length-le out {i = n} (omega arith)) ∙ append-empty _
+filled-whole n f out e =
+    ap (λ (l : List ℕ). listed 0 n f ++ l) (drop-of-length-le out {i = n} (omega arith)) ∙ append-empty _
 
 module _ {names n : ℕ} {tree : List ℕ} {sort : Sort} {states : List ℕ} {row : ℕ} {v : Verdict}
     (c : ChecksRow names n tree sort states row v) (e : v ≡ Good) where

@@ -1,5 +1,5 @@
--- The lists of an accepted tree stand for its alternatives, so what is matched by the lists is what document 01 defines
--- for the tree's expression.
+-- The lists of an accepted tree stand for its alternatives, so what is matched by the lists is what document 01
+-- defines for the tree's expression.
 --   front-within, front-length    the front of an array that is in use
 --   written-whole                 a list of n entries, all of them written anew
 --   answers-on                    the answers by alternatives are those on windows

@@ -22,7 +22,8 @@ use Rattle.matcher.proofs.Coding.{bad-given, bad-never}
 use Rattle.updates.specs.Copies.{Codes}
 use Rattle.calls.specs.declared.checks.Verdict.{Verdict}
 use Rattle.calls.specs.declared.checks.Verdict.the-variants.{Good, Refused}
-use Rattle.calls.specs.Orders.{Rows, codes, codesRow, rowsOrder, Judged, JudgesTrace, JudgesRow, ChecksRow, ChecksRows}
+use Rattle.calls.specs.Orders.{Rows, codes, codesRow, rowsOrder, Judged, JudgesTrace, JudgesRow}
+use Rattle.calls.specs.Orders.{ChecksRow, ChecksRows}
 use Rattle.calls.proofs.Deciding.{told, tells}
 use Rattle.calls.proofs.Verdicts.{judged-as, lists-as}
 

@@ -44,7 +44,8 @@ module _ {states new : List ℕ} {bad worse : ℕ} (b : FirstBad states bad) (h 
     unfolding Passed
     correction-good l = (none-bad b h, (none-bad w k, (λ p a. omega (arith, a .given), tt)))
 
-module _ {names n : ℕ} {tree states : List ℕ} (answers : List ℕ) {row : ℕ} {new : List ℕ} {fits good : Bool} {v : Verdict}
+module _ {names n : ℕ} {tree states : List ℕ} (answers : List ℕ) {row : ℕ} {new : List ℕ} {fits good : Bool}
+    {v : Verdict}
     (f : Decides fits (Lists names n (length states) (length answers) (length new)))
     (g : Decides good (Accepted names Vector tree)) (j : JudgesCorrection fits good states new n row v) where
   as-correction : Judged (correctionOrder names n tree states answers row new)

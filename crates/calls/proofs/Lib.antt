@@ -9,3 +9,4 @@ pub mod Corrects
 pub mod Pushes
 pub mod Unique
 pub mod Theorems
+pub mod Routes

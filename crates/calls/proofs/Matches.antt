@@ -57,7 +57,8 @@ module _ {names n : ℕ} {tree states : List ℕ} {row : ℕ} {v : Verdict}
 
 -- all rows
 module _ {names n : ℕ} {tree states : List ℕ} (answers tried : List ℕ) {lent : Bool} {v : Verdict}
-    (d : Decides lent ((length answers ≡ n) × (length tried ≡ n))) (c : ChecksRows names n lent tree Vector states v) where
+    (d : Decides lent ((length answers ≡ n) × (length tried ≡ n)))
+    (c : ChecksRows names n lent tree Vector states v) where
   as-lists : Judged (rowsOrder names n ((length answers ≡ n) × (length tried ≡ n)) tree Vector states)
       ((((length answers ≡ n) × (length tried ≡ n)) × Rows names n (length states))
       × Accepted names Vector tree × Codes states) v

@@ -1,5 +1,5 @@
 -- What the calls promise together.
---   three-routes                 as written, by alternatives and by the queue: one answer at every row
+--   routes-taken                 as written, by alternatives and by the queue: one answer, where no call is refused
 --   correction-keeps-right       a list of answers that was right is right after a correction
 --   correction-reaches, correction-stays    what is rewritten is right, whatever stood there; the rest stays
 --   totals-together              yes, no and unknown together are n-1
@@ -90,7 +90,8 @@ isVectorSort : Sort → Bool
 isVectorSort sort.Boolean = false
 isVectorSort sort.Vector = true
 
-expression-over : (names : ℕ) (tree : List ℕ) → Accepted names sort.Vector tree → VectorOver names (expression tree names)
+expression-over : (names : ℕ) (tree : List ℕ) → Accepted names sort.Vector tree
+    → VectorOver names (expression tree names)
 unfolding Decodes topVector sortOf isVectorSort ExpressionOver
 expression-over names tree a = go (a .expression) (a .decodes) (a .sorted)
   where
@@ -98,8 +99,8 @@ expression-over names tree a = go (a .expression) (a .decodes) (a .sorted)
     go (boolean c) d k = never (ap isVectorSort k)
     go (vector p) d k = rw d (decode-over names tree (vector p) d)
 
--- Three routes: where every push of the rows of a trace is taken, the answer as written, the answer by alternatives and
--- the answer of push i are one, and the numbers tried are one.
+-- Three routes: where every push of the rows of a trace is taken, the answer as written, the answer by alternatives
+-- and the answer of push i are one, and the numbers tried are one.
 module _ {names n : ℕ} {tree : List ℕ} {rows : ℕ → List ℕ} {queues : ℕ → Queue} {told : ℕ → Matched}
     (accepted : Accepted names sort.Vector tree) (first : queues 0 .kept .0 ≡ 0)
     (full : (i : ℕ) → i < n → length (rows i) ≡ names)
@@ -115,11 +116,11 @@ module _ {names n : ℕ} {tree : List ℕ} {rows : ℕ → List ℕ} {queues : �
   unfolding stepsOf
   longest-pos = steps-pos (expression tree names)
 
-  pub three-routes : (i : ℕ) → i < n → {a : Answer} {m : Matched}
+  pub routes-taken : (i : ℕ) → i < n → {a : Answer} {m : Matched}
       → RowAnswer names n tree (fed rows n) i (Answered a) → RowMatch names n tree (fed rows n) i (Found m)
       → (m .answer ≡ a) × (told i .answer ≡ a) × (told i .tries ≡ m .tries)
   unfolding Tells Finds
-  three-routes i l w k =
+  routes-taken i l w k =
       let q = row-so-far feed asks longest-pos i l in
       let same = same-answer (stateAt names (fed rows n)) (expression tree names) i in (
         k .comes .1 .is ∙ sym (w .comes .1),

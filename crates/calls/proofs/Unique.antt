@@ -2,6 +2,8 @@
 --   state-unique, value-unique, values-unique, answer-unique      as written
 --   match-unique, all-unique, totals-unique                       by alternatives
 --   correction-unique, push-unique
+--   codes-fixed, row-fixed, correction-fixed                      each row of an order fixes its place
+--   outcome-unique, after-unique, finds-unique, counts-unique     the laws behind them
 -- Assumes nothing.
 use mathlib.Core.Path.{_≡_, refl, ap, sym, _∙_}
 use mathlib.Core.List.{List}
@@ -28,34 +30,37 @@ use Rattle.calls.specs.Correcting.{Correction}
 use Rattle.calls.specs.Pushing.{pushOrder, Takes, Push}
 
 -- each row of an order fixes its place
-codes-fixed : (P Q : Type 0) (states : List ℕ) → AllFixed (order P Q (codes states))
+pub codes-fixed : (P Q : Type 0) (states : List ℕ) → AllFixed (order P Q (codes states))
 codes-fixed P Q states = (at-fixed _ _, (at-fixed _ _, (first-fixed _, tt)))
 
-row-fixed : (P Q : Type 0) (states : List ℕ) (n row : ℕ) → AllFixed (order P Q (codesRow states n row))
+pub row-fixed : (P Q : Type 0) (states : List ℕ) (n row : ℕ) → AllFixed (order P Q (codesRow states n row))
 row-fixed P Q states n row = (at-fixed _ _, (at-fixed _ _, (first-fixed _, (at-fixed _ _, tt))))
 
-correction-fixed : (P Q : Type 0) (states new : List ℕ) (n row : ℕ)
+pub correction-fixed : (P Q : Type 0) (states new : List ℕ) (n row : ℕ)
     → AllFixed (order P Q (codesCorrection states new n row))
 correction-fixed P Q states new n row =
     (at-fixed _ _, (at-fixed _ _, (first-fixed _, (first-fixed _, (at-fixed _ _, tt)))))
 
 -- one outcome, with a count that is fixed
-outcome-unique : (o : Order) (k : ℕ) → AllFixed o → (a b : Outcome) → Comes o (λ j. j ≡ k) a → Comes o (λ j. j ≡ k) b
+pub outcome-unique : (o : Order) (k : ℕ) → AllFixed o → (a b : Outcome) → Comes o (λ j. j ≡ k) a
+    → Comes o (λ j. j ≡ k) b
     → a ≡ b
 outcome-unique o k f a b x y = comes-unique o (λ j. j ≡ k) f (λ i j p q. p ∙ sym q) a b x y
 
 -- one list afterwards
-after-unique : (made out : List ℕ) {out′ out″ : List ℕ} {a b : Outcome} → a ≡ b → out′ ≡ after made out a
+pub after-unique : (made out : List ℕ) {out′ out″ : List ℕ} {a b : Outcome} → a ≡ b → out′ ≡ after made out a
     → out″ ≡ after made out b → out′ ≡ out″
 after-unique made out e x y = x ∙ ap (after made out) e ∙ sym y
 
 module _ {names n : ℕ} {tree states : List ℕ} where
-  pub state-unique : {row : ℕ} {a b : Outcome} → RowState names n tree states row a → RowState names n tree states row b
+  pub state-unique : {row : ℕ} {a b : Outcome} → RowState names n tree states row a
+      → RowState names n tree states row b
       → a ≡ b
   state-unique {row} x y =
       outcome-unique _ _ (row-fixed _ _ states n row) _ _ (x .comes) (y .comes)
 
-  pub value-unique : {row : ℕ} {a b : Outcome} → RowValue names n tree states row a → RowValue names n tree states row b
+  pub value-unique : {row : ℕ} {a b : Outcome} → RowValue names n tree states row a
+      → RowValue names n tree states row b
       → a ≡ b
   value-unique {row} x y =
       outcome-unique _ _ (row-fixed _ _ states n row) _ _ (x .comes) (y .comes)
@@ -66,7 +71,7 @@ module _ {names n : ℕ} {tree states : List ℕ} where
       let e = outcome-unique _ _ (codes-fixed _ _ states) _ _ (x .comes) (y .comes) in
       (e, after-unique _ out e (x .memory) (y .memory))
 
-tells-unique : (o : Order) (a : Answer) → AllFixed o → (x y : Told) → Tells o a x → Tells o a y → x ≡ y
+pub tells-unique : (o : Order) (a : Answer) → AllFixed o → (x y : Told) → Tells o a x → Tells o a y → x ≡ y
 unfolding Tells
 tells-unique o a f (told.Answered b) (told.Answered c) x y = ap told.Answered (x .1 ∙ sym (y .1))
 tells-unique o a f (told.Answered b) (told.Refused s) x y = absurd (refused-passed o _ _ (x .0) y)
@@ -74,7 +79,7 @@ tells-unique o a f (told.Refused r) (told.Answered c) x y = absurd (refused-pass
 tells-unique o a f (told.Refused r) (told.Refused s) x y =
     let e = refused-unique o f x y in λ i. told.Refused (record { number = e .0 i; place = e .1 i })
 
-finds-unique : (o : Order) (right : Answer → ℕ → Type 0) → AllFixed o
+pub finds-unique : (o : Order) (right : Answer → ℕ → Type 0) → AllFixed o
     → ((a b : Answer) (t u : ℕ) → right a t → right b u → (a ≡ b) × (t ≡ u))
     → (x y : Matching) → Finds o right x → Finds o right y → x ≡ y
 unfolding Finds
@@ -85,7 +90,7 @@ finds-unique o right f one (Refused r) (Found k) x y = absurd (refused-passed o 
 finds-unique o right f one (Refused r) (Refused s) x y =
     let e = refused-unique o f x y in λ i. Refused (record { number = e .0 i; place = e .1 i })
 
-counts-unique : (o : Order) (right : ℕ → ℕ → ℕ → Type 0) → AllFixed o
+pub counts-unique : (o : Order) (right : ℕ → ℕ → ℕ → Type 0) → AllFixed o
     → ((a b c x y z : ℕ) → right a b c → right x y z → (a ≡ x) × (b ≡ y) × (c ≡ z))
     → (x y : Counting) → Counts o right x → Counts o right y → x ≡ y
 unfolding Counts
@@ -98,12 +103,14 @@ counts-unique o right f one (counting.Refused r) (counting.Refused s) x y =
     let e = refused-unique o f x y in λ i. counting.Refused (record { number = e .0 i; place = e .1 i })
 
 module _ {names n : ℕ} {tree states : List ℕ} where
-  pub answer-unique : {row : ℕ} {a b : Told} → RowAnswer names n tree states row a → RowAnswer names n tree states row b
+  pub answer-unique : {row : ℕ} {a b : Told} → RowAnswer names n tree states row a
+      → RowAnswer names n tree states row b
       → a ≡ b
   answer-unique {row} x y =
       tells-unique _ _ (row-fixed _ _ states n row) _ _ (x .comes) (y .comes)
 
-  pub match-unique : {row : ℕ} {a b : Matching} → RowMatch names n tree states row a → RowMatch names n tree states row b
+  pub match-unique : {row : ℕ} {a b : Matching} → RowMatch names n tree states row a
+      → RowMatch names n tree states row b
       → a ≡ b
   match-unique {row} x y =
       finds-unique _ _ (row-fixed _ _ states n row)

@@ -63,13 +63,15 @@ module _ (fits good : Bool) (P Q : Type 0) (p : Decides fits P) (q : P → Decid
 
 -- lists that are good in the same cases
 module _ {P P′ : Type 0} (f : P → P′) (g : P′ → P) where
-  lists-refused : (Q : Type 0) (rest : Order) (n k : ℕ) → RefusedWith (order P Q rest) n k → RefusedWith (order P′ Q rest) n k
+  lists-refused : (Q : Type 0) (rest : Order) (n k : ℕ) → RefusedWith (order P Q rest) n k
+      → RefusedWith (order P′ Q rest) n k
   unfolding RefusedWith
   lists-refused Q rest i j (inl (e, a)) = inl (e, record { given = λ x. a .given (g x); there = a .there })
   lists-refused Q rest i j (inr (n, h)) =
       inr (λ k c. n k (record { given = λ x. c .given (f x); there = c .there }), h)
 
-  pub lists-as : {Q F : Type 0} {rest : Order} {v : Verdict} → Judged (order P Q rest) (P × Q × F) v → Judged (order P′ Q rest) (P′ × Q × F) v
+  pub lists-as : {Q F : Type 0} {rest : Order} {v : Verdict} → Judged (order P Q rest) (P × Q × F) v
+      → Judged (order P′ Q rest) (P′ × Q × F) v
   unfolding Passed
   lists-as (passes (n, h) (x, y, z)) =
       passes (λ k c. n k (record { given = λ x. c .given (f x); there = c .there }), h) (f x, y, z)

@@ -1,5 +1,5 @@
--- Document 01, "Totals, matching, rewriting, queue, correction, changes of a row: 18, 10, 15 (trace, then new row), 19":
--- the orders of the calls over rows.
+-- Document 01, "Totals, matching, rewriting, queue, correction, changes of a row: 18, 10, 15 (trace, then new row),
+-- 19": the orders of the calls over rows.
 -- Main names: Rows, order, traceOrder, rowOrder. The rest says what the functions that check tell: Judged.
 use Prim.Native.Nat.{ℕ, _*_, _<_}
 use mathlib.Core.Path.{_≡_}
@@ -72,7 +72,8 @@ pub record JudgesCorrection (fits good : Bool) (states new : List ℕ) (n row : 
   pub is : Judges fits good (codesCorrection states new n row) (Codes states × Codes new × (row < n)) r
 
 -- of a tree and a trace
-pub record ChecksRow (names n : ℕ) (tree : List ℕ) (sort : Sort) (states : List ℕ) (row : ℕ) (r : Verdict) : Type 0 where
+pub record ChecksRow (names n : ℕ) (tree : List ℕ) (sort : Sort) (states : List ℕ) (row : ℕ) (r : Verdict)
+    : Type 0 where
   pub is : Judged (rowOrder names n tree sort states row)
       (Rows names n (length states) × Accepted names sort tree × (Codes states × (row < n))) r
 

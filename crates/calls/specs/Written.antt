@@ -1,4 +1,4 @@
--- What the calls come to that answer as the tree is written: document 01's state, value and answer at a row, or refused.
+-- What the calls come to that answer as the tree is written: document 01's state, value and answer, or refused.
 -- Main names: RowState, RowValue, AllValues, RowAnswer.
 use Prim.Native.Nat.{ℕ}
 use mathlib.Core.Path.{_≡_}

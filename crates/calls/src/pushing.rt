@@ -81,7 +81,8 @@ fn queue_good(names: usize, tree: &[u8], queue: Queue) -> bool
 // An accepted tree, a queue and a row that fit.
 fn push_tree(names: usize, tree: &[u8], queue: Queue, row: &[u8]) -> Pushed
     requires { ⌜ TreePush names (now tree) queue (now row) ⌝ }
-    ensures { λ r. ⌜ PushesTree names (now (tree .entry)) queue (now (row .entry)) (r .answer) (r .tries) (r .queue) ⌝ }
+    ensures { λ r. ⌜ PushesTree names (now (tree .entry)) queue (now (row .entry)) (r .answer) (r .tries)
+        (r .queue) ⌝ }
 {
     let a = alternatives_of(tree, names);
     let count = a.count;

@@ -1,4 +1,4 @@
-// The answer as written, by recursion over the tree: the state, the value and the answer at a row, the values of all rows.
+// The answer as written, by recursion over the tree: state, value and answer at a row, the values of all rows.
 ghost use mathlib.Core.Path.{_≡_};
 ghost use Rattle.calls.specs.Written.{RowState, RowValue, AllValues, RowAnswer};
 use crate::checks::Verdict;
@@ -45,7 +45,8 @@ pub fn row_value(names: usize, n: usize, tree: &[u8], states: &[u8], row: usize)
 
 // Its values at all rows; how many.
 pub fn values(names: usize, n: usize, tree: &[u8], states: &[u8], out: &mut [u8]) -> Outcome
-    ensures { λ r. ⌜ AllValues names n (now (tree .entry)) (now (states .entry)) (now (out .entry)) (now (out .exit)) r ⌝ }
+    ensures { λ r. ⌜ AllValues names n (now (tree .entry)) (now (states .entry)) (now (out .entry))
+        (now (out .exit)) r ⌝ }
 {
     let lent = out.len() == n;
     let v = check_rows(names, n, lent, tree, Sort::Boolean, states);

@@ -6,12 +6,14 @@ use mathlib.Core.Logic.{inl, inr}
 use Prim.Native.Nat.{ℕ, zero, suc, _+_, _*_, _<_, _≤_}
 use native.Mathlib.Nat.{suc-mul, mul-le-mul-right}
 use native.Mathlib.Omega.{arith}
-use lib.ListN.{length, getD}
-use Rattle.alf.specs.Refusals.{RefusedWith, Passed}
+use lib.ListN.{length}
+use Rattle.alf.specs.Refusals.{RefusedWith, Passed, bad-code}
 use Rattle.alf.specs.declared.changes.Changes.{Changes}
+use Rattle.matcher.specs.Codes.{FirstBad}
+use Rattle.matcher.proofs.Coding.{bad-given, bad-never}
 use Rattle.changes.specs.declared.RowChanges.{RowChanges}
 use Rattle.changes.specs.declared.RowChanges.the-variants.{Changed, Refused}
-use Rattle.changes.specs.Call.{Lists, CodesTo, Inside, RowSet, Comes}
+use Rattle.changes.specs.Call.{Lists, Inside, RowSet, Comes}
 
 module _ (names n : ℕ) (states : List ℕ) (row : ℕ) where
   abbrev Result : RowChanges → Type 0
@@ -32,7 +34,7 @@ module _ (names n : ℕ) (states : List ℕ) (row : ℕ) where
           room = omega (arith, suc-mul row names, l .all);
         }
 
-    module _ {bad : ℕ} (c : CodesTo states bad) where
+    module _ {bad : ℕ} (c : FirstBad states bad) where
       pub refused-15 : (r : RowChanges) → bad < length states
           → r ≡ Refused (record { number = 15; place = bad }) → Result r
       unfolding Comes RefusedWith
@@ -40,12 +42,12 @@ module _ (names n : ℕ) (states : List ℕ) (row : ℕ) where
           rw e
           (inr (
             λ p a. a .given l,
-            inl (refl, record { given = (h, c .bad h); before = λ i k b. omega (arith, c .good i k, b .1) }),
+            inl (refl, bad-given c h),
           ))
 
       -- no code is above 7
-      none-bad : length states ≤ bad → (i : ℕ) → i < length states → 7 < getD states i 0 → ⊥
-      none-bad h i k b = omega (arith, c .good i (omega (arith, c .high)), b)
+      none-bad : length states ≤ bad → (p : ℕ) → bad-code states p → ⊥
+      none-bad h = bad-never c (omega (arith, c .within))
 
       pub refused-19 : (r : RowChanges) → length states ≤ bad → n ≤ row
           → r ≡ Refused (record { number = 19; place = 0 }) → Result r
@@ -55,7 +57,7 @@ module _ (names n : ℕ) (states : List ℕ) (row : ℕ) where
           (inr (
             λ p a. a .given l,
             inr (
-              λ p a. none-bad h p (a .given .0) (a .given .1),
+              none-bad h,
               inl (refl, record { given = k; there = refl }),
             ),
           ))
@@ -64,6 +66,6 @@ module _ (names n : ℕ) (states : List ℕ) (row : ℕ) where
           → RowSet names states row (m .mask) (m .many) → Result (Changed m)
       unfolding Comes Passed
       changed-row m h k s = (
-        (λ p a. a .given l, (λ p a. none-bad h p (a .given .0) (a .given .1), (λ p a. omega (arith, a .given), tt))),
+        (λ p a. a .given l, (none-bad h, (λ p a. omega (arith, a .given), tt))),
         s,
       )

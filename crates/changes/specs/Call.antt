@@ -4,7 +4,7 @@
 use Prim.Native.Nat.{ℕ, _+_, _*_, _<_, _≤_}
 use mathlib.Core.Path.{_≡_}
 use mathlib.Core.List.{List, [], _∷_}
-use lib.ListN.{length, getD}
+use lib.ListN.{length}
 use Rattle.alf.specs.Refusals.{Order, check, bad-lists, bad-code, no-such-row, NameCount, RowCount, RefusedWith, Passed}
 use Rattle.alf.specs.Traces.{changeMask, changeCount}
 use Rattle.changes.specs.declared.RowChanges.{RowChanges}
@@ -33,13 +33,7 @@ unfoldable pub Comes : ℕ → ℕ → List ℕ → ℕ → RowChanges → Type 
 Comes names n states row (Changed c) = Passed (order names n states row) × RowSet names states row (c .mask) (c .many)
 Comes names n states row (Refused r) = RefusedWith (order names n states row) (r .number) (r .place)
 
--- for the functions inside: r is the place of the first code above 7, or how many codes there are
-pub record CodesTo (codes : List ℕ) (r : ℕ) : Type 0 where
-  pub high : r ≤ length codes
-  pub good : (i : ℕ) → i < r → getD codes i 0 ≤ 7
-  pub bad : r < length codes → 7 < getD codes r 0
-
--- the row stands in the states, of 1 to 32 names
+-- for the functions inside: the row stands in the states, of 1 to 32 names
 pub record Inside (names : ℕ) (states : List ℕ) (row : ℕ) : Type 0 where
   pub name-count : NameCount names
   pub few : row < 65536

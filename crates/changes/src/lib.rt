@@ -2,10 +2,11 @@
 ghost use mathlib.Core.Path.{_≡_};
 ghost use lib.ListN.{length};
 ghost use Rattle.names.specs.Check.{Tells};
-ghost use Rattle.changes.specs.Call.{Lists, CodesTo, Inside, RowSet, Comes};
+ghost use Rattle.changes.specs.Call.{Lists, Inside, RowSet, Comes};
 use alf::Refusal;
 use alf::changes::Changes;
 use alf::changes::changes_of;
+use matcher::codes::first_bad_code;
 
 // The changes of a row, or a refusal.
 pub enum RowChanges {
@@ -41,20 +42,6 @@ fn lists_fit(names: usize, n: usize, len: usize) -> bool
     true
 }
 
-// The place of the first code above 7, or how many there are.
-fn first_bad(states: &[u8]) -> usize
-    ensures { λ r. ⌜ CodesTo (now (states .entry)) r ⌝ }
-{
-    let mut i = 0;
-    while i < states.len() {
-        if 7 < states[i] {
-            return i;
-        }
-        i += 1;
-    }
-    i
-}
-
 // The changes of a row of the trace; row 0 has none.
 fn of_row(names: usize, states: &[u8], row: usize) -> Changes
     requires { ⌜ Inside names (now states) row ⌝ }
@@ -76,7 +63,7 @@ pub fn changes_at(names: usize, n: usize, states: &[u8], row: usize) -> RowChang
     if !lists_fit(names, n, states.len()) {
         return refuse(18, 0);
     }
-    let bad = first_bad(states);
+    let bad = first_bad_code(states);
     if bad < states.len() {
         return refuse(15, bad);
     }

@@ -15,28 +15,20 @@ use borrow.Author.Tests.{lt-ltb, le-ltb}
 use Rattle.alf.specs.States.{notOf}
 use Rattle.alf.specs.Expressions.{literal}
 use Rattle.alf.specs.Values.{operate, chosen, settled, state, value}
-use Rattle.alf.specs.Bytes.{binaryAt, isBoolean, isVector, under, stackAt}
+use Rattle.alf.specs.Bytes.{binaryAt, isBoolean, under, stackAt}
 use Rattle.alf.proofs.Bools.{below?}
 use Rattle.alf.proofs.Made.{Made}
 use Rattle.alf.proofs.Parts.{made-last}
 use Rattle.alf.proofs.Tops.{NameTop, NegationTop, BinaryTop, ChoiceTop}
 use Rattle.alf.proofs.Tops.{name-top, literal-top, negation-top, binary-top, choice-top}
-use Rattle.trees.specs.Parts.{EndsBoolean, EndsVector, booleanAt, Start}
+use Rattle.trees.specs.Parts.{EndsBoolean, booleanAt, Start}
 use Rattle.trees.proofs.Starts.{of-boolean, ends-pos}
+use Rattle.trees.proofs.Vectors.{boolean-under}
 use Rattle.evaluator.specs.Rows.{Within, IsState, settledBy, stateOf, valueOf}
 
 -- the last of the bytes before `end`
 abbrev pub lastByte : List ℕ → ℕ → ℕ
 lastByte t end = getD t (end - 1) 0
-
--- an expression that ends where another one starts
-pub boolean-before : {t : List ℕ} {names end m : ℕ} → Start t names end m → end ≤ length t
-    → isBoolean (under (stackAt t names end)) ≡ true → EndsBoolean t names m
-boolean-before g l h = let p = g .before in record { within = omega arith; whole = rw (g .left) h }
-
-pub vector-before : {t : List ℕ} {names end m : ℕ} → Start t names end m → end ≤ length t
-    → isVector (under (stackAt t names end)) ≡ true → EndsVector t names m
-vector-before g l h = let p = g .before in record { within = omega arith; whole = rw (g .left) h }
 
 module _ {t : List ℕ} {names end : ℕ} (h : EndsBoolean t names end) where
   pub some-bytes : 0 < end
@@ -80,7 +72,7 @@ module _ {t : List ℕ} {names end : ℕ} (h : EndsBoolean t names end) where
 
   pub left-ends : {m : ℕ} → 40 ≤ lastByte t end → lastByte t end < 64 → Start t names (end - 1) m
       → EndsBoolean t names m
-  left-ends k j g = boolean-before g (omega (arith, h .within)) (go (below? (lastByte t end) 60))
+  left-ends k j g = boolean-under g (omega (arith, h .within)) (go (below? (lastByte t end) 60))
     where
       go : (lastByte t end < 60) ⊎ (60 ≤ lastByte t end) → isBoolean (under (stackAt t names (end - 1))) ≡ true
       go (inl e) = binary-is k e .left
@@ -90,7 +82,7 @@ module _ {t : List ℕ} {names end : ℕ} (h : EndsBoolean t names end) where
       → Start t names m o → EndsBoolean t names o
   first-ends k j g f =
       let p = g .before in
-      boolean-before f (omega (arith, h .within)) (rw (g .left) (choice-is k j .first))
+      boolean-under f (omega (arith, h .within)) (rw (g .left) (choice-is k j .first))
 
   -- whether it is a name shows in its last byte
   pub settled-is : (x : ℕ) → settled (booleanAt t names end) x ≡ settledBy (lastByte t end) x

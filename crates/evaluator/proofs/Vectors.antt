@@ -19,9 +19,10 @@ use Rattle.alf.proofs.Tops.{EdgeTop, JoinTop, ConditionTop, ConditionBeforeTop}
 use Rattle.alf.proofs.Tops.{edge-top, join-top, condition-top, condition-before-top, vector-class}
 use Rattle.trees.specs.Parts.{Ends, EndsBoolean, EndsVector, Start}
 use Rattle.trees.proofs.Starts.{of-boolean, of-vector, ends-pos}
+use Rattle.trees.proofs.Vectors.{boolean-under, vector-under}
 use Rattle.evaluator.specs.Rows.{stateOf}
 use Rattle.evaluator.specs.Spans.{Span, Both, Conditioned, JoinByte, edgeOver, answerOn}
-use Rattle.evaluator.proofs.Booleans.{lastByte, boolean-before, vector-before}
+use Rattle.evaluator.proofs.Booleans.{lastByte}
 
 module _ {t : List ℕ} {names end : ℕ} (h : EndsVector t names end) where
   pub some-bytes : 0 < end
@@ -74,12 +75,12 @@ module _ {t : List ℕ} {names end : ℕ} (h : EndsVector t names end) where
     low = omega (arith, h .within)
 
     pub join-both : lastByte t end < 56 → Both t names m (end - 1)
-    join-both k = record { left = vector-before g low (join-is k .left); right = last-vector (join-is k .right) }
+    join-both k = record { left = vector-under g low (join-is k .left); right = last-vector (join-is k .right) }
 
     pub condition-ends : lastByte t end ≡ 56 → Conditioned t names m (end - 1)
     condition-ends k =
         record {
-          pattern = vector-before g low (condition-is k .left);
+          pattern = vector-under g low (condition-is k .left);
           condition = last-boolean (condition-is k .right);
         }
 
@@ -87,7 +88,7 @@ module _ {t : List ℕ} {names end : ℕ} (h : EndsVector t names end) where
         → Conditioned t names (end - 1) m
     before-ends j k n =
         let e = the-other j k n in
-        record { pattern = last-vector (before-is e .right); condition = boolean-before g low (before-is e .left) }
+        record { pattern = last-vector (before-is e .right); condition = boolean-under g low (before-is e .left) }
 
   -- the answer on a window, from what the operands come to there
   module _ {states : List ℕ} {a b : ℕ} (w : Span states names a b) where

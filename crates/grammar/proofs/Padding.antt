@@ -1,5 +1,5 @@
 -- Laws of the answer's lists: some entries and zeros behind them, written one by one. Main names: padded-none,
--- padded-next, accepted-all, placeAt-of. Assumes nothing.
+-- padded-set, padded-next, accepted-all, placeAt-of. Assumes nothing.
 use Prim.Native.Nat.{ℕ, zero, suc, _+_, _-_, _≤_, _<_}
 use native.Mathlib.Omega.{arith}
 use native.Mathlib.Numerals.{add-one}
@@ -21,7 +21,7 @@ pub padded-none : replicate 256 0 ≡ padded []
 unfolding padded
 padded-none = refl
 
-padded-set : (xs : List ℕ) (v : ℕ) → length xs < 256 → set (padded xs) (length xs) v ≡ padded (xs ++ (v ∷ []))
+pub padded-set : (xs : List ℕ) (v : ℕ) → length xs < 256 → set (padded xs) (length xs) v ≡ padded (xs ++ (v ∷ []))
 unfolding padded
 padded-set xs v h =
     let e : 256 - length xs ≡ suc (256 - length (xs ++ (v ∷ []))) = omega (arith, length-append xs (v ∷ [])) in

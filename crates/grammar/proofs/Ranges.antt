@@ -5,7 +5,7 @@ use mathlib.Core.Path.{_≡_, refl}
 use mathlib.Core.Bool.{Bool, true, false, _&&_}
 use lib.Dec.{eqb}
 use borrow.Author.Tests.{eqb-true, eqb-false}
-use Rattle.grammar.proofs.Table.{and-left, and-right}
+use Rattle.alf.proofs.Bools.{and-left, and-right}
 
 -- each of n numbers from lo on passes
 abbrev pub all-from : (ℕ → Bool) → ℕ → ℕ → Bool

@@ -8,16 +8,9 @@ use mathlib.Core.List.{List, [], _∷_}
 use lib.Dec.{leb, ltb}
 use borrow.Author.Tests.{ltb-true}
 use Rattle.alf.specs.Words.{if_then_else_, all}
+use Rattle.alf.proofs.Bools.{and-left, and-right}
 use Rattle.grammar.specs.Tokens.{Kind, operand, prefix, question, colon, opening, closing, other, binary, Span}
 use Rattle.grammar.specs.Tokens.{table, kindIn, kind}
-
-pub and-left : (a b : Bool) → (a && b) ≡ true → a ≡ true
-and-left true b e = refl
-and-left false b e = e
-
-pub and-right : (a b : Bool) → (a && b) ≡ true → b ≡ true
-and-right true b e = e
-and-right false b e = let z : _≡_ {A = ℕ} 0 1 = cc in absurd (omega arith)
 
 kindIn-all :
     (test : Kind → Bool) (ss : List Span) (c : ℕ) →

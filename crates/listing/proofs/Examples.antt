@@ -1,5 +1,4 @@
--- Texts, computed: case 1's listing as document 01 prints it, byte for byte, from T's trace and the answers that are defined
--- of it; shares; the table of cases 1 and 3.
+-- Texts, computed: case 1's listing as document 01 prints it, byte for byte; shares; lines of the table.
 -- Assumes nothing.
 use mathlib.Core.Path.{_≡_, refl}
 use mathlib.Core.List.{List, [], _∷_}
@@ -64,6 +63,6 @@ pub refused-line : refusedLine (bytes "01\tA ->") 5 7 ≡ bytes "refused 5 at 7\
 unfolding refusedLine refusedColumns ended plain bytes joined decimal width widthUpTo digits
 refused-line = refl
 
-pub total-line : totalLine 9 7 24 8 5 ≡ bytes "9\t-\t7\t24\ttotal patterns 8 events 5\n"
+pub total-line : totalLine 8 7 25 8 5 ≡ bytes "8\t-\t7\t25\ttotal patterns 8 events 5\n"
 unfolding totalLine totalColumns ended plain bytes joined decimal width widthUpTo digits
 total-line = refl

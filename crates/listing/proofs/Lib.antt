@@ -4,5 +4,6 @@ pub mod Rounding
 pub mod Examples
 pub mod Parts
 pub mod Sizes
+pub mod Starts
 pub mod Returns
 pub mod Theorems

@@ -19,7 +19,11 @@ share-rounds yeses events h =
     let p : 0 < 2 * events = omega arith in
     record {
       not-above = div-mul-le-self (2 * yeses * 1000000 + events) (2 * events);
-      not-below = omega (arith, add-mul (millionths yeses events) 1 (2 * events), lt-div-mul-add {a = 2 * yeses * 1000000 + events} p);
+      not-below = omega (
+        arith,
+        add-mul (millionths yeses events) 1 (2 * events),
+        lt-div-mul-add {a = 2 * yeses * 1000000 + events} p,
+      );
     }
 
 pub share-unique : (yeses events m : ℕ) → Rounds yeses events m → m ≡ millionths yeses events

@@ -1,31 +1,28 @@
--- How long the parts of a line are, and where writing one starts.
---   line-size, last-size                      lengths from the numbers' widths
---   Sizing, sizing-first, -next, -end         the lengths of the lines, row by row
---   decimal-room, decimal-short               a number of 64 bits has at most 20 digits
---   columns-short, refused-short, total-short the columns of a line have at most 192 bytes
---   line-start, last-start, share-start, columns-start, refused-start, total-start   the parts that are to be written
---   rows-start, rows-going, rows-done         the lines, row by row
+-- How long the parts of a text are.
+--   line-size, last-size                        lengths from the numbers' widths
+--   Sizing, sizing-first, -next, -end           the lengths of the lines, row by row
+--   decimal-short, decimal-room, decimal-put    a number of 64 bits has at most 20 digits
+--   share-none, share-some                      the share by cases
+--   columns-short, refused-short, total-short   the columns of a line have at most 192 bytes
 -- Assumes nothing.
 use Prim.Native.Nat.{ℕ, _+_, _-_, _*_, _/_, _^_, _<_, _≤_}
 use native.Mathlib.Nat.{div-le-self}
 use native.Mathlib.Omega.{arith}
 use mathlib.Core.Logic.{_⊎_, inl, inr}
-use mathlib.Core.Path.{_≡_, refl, sym, ap, _∙_}
-use mathlib.Core.List.{List, [], _∷_, _++_, append-nil}
-use lib.ListN.{length, getD, drop, length-append, drop-of-length-le}
+use mathlib.Core.Path.{_≡_, refl, ap}
+use mathlib.Core.List.{List, [], _∷_, _++_}
+use lib.ListN.{length, getD, drop, length-append}
 use mir.Val.{Fits}
 use mir.Syntax.{w8, w32, w64}
 use borrow.Author.Tests.{ne-eqb}
 use Rattle.alf.proofs.Bools.{below?}
 use Rattle.writer.specs.Inner.{Put, Room}
-use Rattle.writer.proofs.Going.{Going, going-start, going-room, going-parts, going-end}
-use Rattle.writer.proofs.Spelling.{put-as}
 use Rattle.listing.specs.Text.{bytes, joined}
 use Rattle.listing.specs.Numbers.{digits, width, decimal}
 use Rattle.listing.specs.Share.{millionths, withPoint, share}
 use Rattle.listing.specs.Listing.{word, line, lines, lastLine}
 use Rattle.listing.specs.Table.{columns, refusedColumns, totalColumns}
-use Rattle.listing.specs.Inner.{Wide, Sized, Listable, Wording, Lining}
+use Rattle.listing.specs.Inner.{Wide, Sized}
 use Rattle.listing.proofs.Digits.{digits-length, decimal-length, width-word}
 use Rattle.listing.proofs.Parts.{lines-next, lines-none}
 
@@ -59,7 +56,8 @@ last-size {yeses} {noes} {unknowns} f g h =
             decimal-length yeses,
             decimal-length noes,
             decimal-length unknowns,
-            length-append (decimal yeses) (bytes " no " ++ (decimal noes ++ (bytes " unknown " ++ (decimal unknowns ++ (10 ∷ []))))),
+            length-append (decimal yeses) (bytes " no " ++ (decimal noes ++ (bytes " unknown " ++
+                (decimal unknowns ++ (10 ∷ []))))),
             length-append (decimal noes) (bytes " unknown " ++ (decimal unknowns ++ (10 ∷ []))),
             length-append (decimal unknowns) (10 ∷ []),
           );
@@ -89,7 +87,8 @@ module _ {times answers : List ℕ} where
                 g .is,
                 z,
                 ap length (lines-next times answers i (omega arith) l),
-                length-append (line (getD times i 0) (getD answers i 0)) (lines (drop (i + 1) times) (drop (i + 1) answers)),
+                length-append (line (getD times i 0) (getD answers i 0)) (lines (drop (i + 1) times) (drop
+                    (i + 1) answers)),
               );
           few = omega (arith, g .few, s .few);
         }
@@ -114,26 +113,6 @@ pub decimal-put : {n w at r : ℕ} {out out′ : List ℕ} → Wide n w → Put 
 unfolding decimal
 decimal-put h p = rw (h .is) at p
 
-pub room-as : (out : List ℕ) (at : ℕ) {v w : List ℕ} → v ≡ w → Room out at v → Room out at w
-room-as out at e r = rw e at r
-
--- an answer's word
-pub word-0 : {a : ℕ} → a ≡ 0 → word a ≡ bytes "no"
-unfolding word
-word-0 e = rw e refl
-
-pub word-1 : {a : ℕ} → a ≡ 1 → word a ≡ bytes "yes"
-unfolding word
-word-1 e = rw e refl
-
-pub word-2 : {a : ℕ} → a ≡ 2 → word a ≡ bytes "unknown"
-unfolding word
-word-2 e = rw e refl
-
-pub word-3 : {a : ℕ} → a ≡ 3 → word a ≡ bytes "none"
-unfolding word
-word-3 e = rw e refl
-
 -- the share, in parts
 pub share-none : (yeses n : ℕ) → n ≤ 1 → share yeses n ≡ 45 ∷ []
 unfolding share
@@ -143,20 +122,9 @@ small-millionths : (yeses events : ℕ) → millionths yeses events ≤ 2 * yese
 unfolding millionths
 small-millionths yeses events = div-le-self (2 * yeses * 1000000 + events) (2 * events)
 
-share-some : (yeses n : ℕ) → 1 < n → share yeses n ≡ withPoint (millionths yeses (n - 1))
+pub share-some : (yeses n : ℕ) → 1 < n → share yeses n ≡ withPoint (millionths yeses (n - 1))
 unfolding share
 share-some yeses n h = rw (ne-eqb (n - 1) 0 (λ e. omega arith)) refl
-
-pub share-start : (yeses n m : ℕ) (out : List ℕ) (at : ℕ) → m ≡ millionths yeses (n - 1) → 1 < n
-    → Room out at (share yeses n)
-    → Going out at (share yeses n) (decimal (m / 1000000) ∷ (46 ∷ []) ∷ digits 6 m ∷ []) out at
-unfolding withPoint
-share-start yeses n m out at e h r =
-    going-start _
-    (share-some yeses n h
-    ∙ ap withPoint (sym e)
-    ∙ ap (λ (l : List ℕ). decimal (m / 1000000) ++ (46 ∷ l)) (sym (append-nil (digits 6 m))))
-    r
 
 -- a number of 32 bits, and millionths of two such, have at most 20 digits
 decimal-small-short : (n : ℕ) → n < 2 ^ 32 → length (decimal n) ≤ 20
@@ -177,42 +145,13 @@ share-length : (yeses n : ℕ) → Fits w32 yeses → Fits w32 n → length (sha
 share-length yeses n f g = go (below? 1 n)
   where
     go : (1 < n) ⊎ (n ≤ 1) → length (share yeses n) ≤ 27
-    go (inl h) = omega (arith, ap length (share-some yeses n h), point-short yeses (n - 1) (f .fits) (omega (arith, g .fits)))
+    go (inl h) = omega (
+      arith,
+      ap length (share-some yeses n h),
+      point-short yeses (n - 1) (f .fits) (omega
+          (arith, g .fits)),
+    )
     go (inr h) = omega (arith, ap length (share-none yeses n h))
-
--- the parts of each text, of which none is written yet
-pub line-start : (time a : ℕ) (out : List ℕ) (at : ℕ) → Room out at (line time a)
-    → Going out at (line time a) (decimal time ∷ bytes " " ∷ word a ∷ bytes "\n" ∷ []) out at
-unfolding line joined
-line-start time a out at r = going-start _ refl r
-
-pub last-start : (yeses noes unknowns : ℕ) (out : List ℕ) (at : ℕ) → Room out at (lastLine yeses noes unknowns)
-    → Going out at (lastLine yeses noes unknowns)
-    (bytes "yes " ∷ decimal yeses ∷ bytes " no " ∷ decimal noes ∷ bytes " unknown " ∷ decimal unknowns
-    ∷ bytes "\n" ∷ []) out at
-unfolding lastLine joined
-last-start yeses noes unknowns out at r = going-start _ refl r
-
-pub columns-start : (yeses unknowns noes n : ℕ) (out : List ℕ) (at : ℕ) → Room out at (columns yeses unknowns noes n)
-    → Going out at (columns yeses unknowns noes n)
-    (decimal yeses ∷ bytes "\t" ∷ share yeses n ∷ bytes "\t" ∷ decimal unknowns ∷ bytes "\t" ∷ decimal noes
-    ∷ bytes "\t" ∷ []) out at
-unfolding columns joined
-columns-start yeses unknowns noes n out at r = going-start _ refl r
-
-pub refused-start : (number place : ℕ) (out : List ℕ) (at : ℕ) → Room out at (refusedColumns number place)
-    → Going out at (refusedColumns number place)
-    (bytes "refused " ∷ decimal number ∷ bytes " at " ∷ decimal place ∷ bytes "\t-\t-\t-\t" ∷ []) out at
-unfolding refusedColumns joined
-refused-start number place out at r = going-start _ refl r
-
-pub total-start : (yeses unknowns noes patterns events : ℕ) (out : List ℕ) (at : ℕ)
-    → Room out at (totalColumns yeses unknowns noes patterns events)
-    → Going out at (totalColumns yeses unknowns noes patterns events)
-    (decimal yeses ∷ bytes "\t-\t" ∷ decimal unknowns ∷ bytes "\t" ∷ decimal noes ∷ bytes "\ttotal patterns "
-    ∷ decimal patterns ∷ bytes " events " ∷ decimal events ∷ []) out at
-unfolding totalColumns joined
-total-start yeses unknowns noes patterns events out at r = going-start _ refl r
 
 -- and their lengths
 pub columns-short : (yeses unknowns noes n : ℕ) → Fits w32 yeses → Fits w32 unknowns → Fits w32 noes → Fits w32 n
@@ -247,35 +186,3 @@ total-short yeses unknowns noes patterns events f g h j k =
       decimal-short patterns j,
       decimal-short events k,
     ))
-
--- the lines, row by row
-module _ (times answers : List ℕ) {out : List ℕ} {at : ℕ} where
-  pub rows-start : Lining times answers out at
-      → Going out at (lines times answers) (lines (drop 0 times) (drop 0 answers) ∷ []) out at
-  rows-start h = going-start _ (sym (append-nil (lines times answers))) (h .room)
-
-  module _ (i : ℕ) (same : length answers ≡ length times) {w out′ : List ℕ} {p : ℕ} where
-    pub rows-going : i < length answers
-        → Going out at w (lines (drop i times) (drop i answers) ∷ []) out′ p
-        → Going out at w
-        (line (getD times i 0) (getD answers i 0) ∷ lines (drop (i + 1) times) (drop (i + 1) answers) ∷ []) out′ p
-    rows-going l g =
-        going-parts
-        (append-nil _
-        ∙ lines-next times answers i (omega arith) l
-        ∙ ap (λ (x : List ℕ). line (getD times i 0) (getD answers i 0) ++ x) (sym (append-nil _)))
-        g
-
-    pub rows-done : length answers ≤ i → Going out at w (lines (drop i times) (drop i answers) ∷ []) out′ p
-        → Put out at w out′ p
-    rows-done l g = going-end (going-parts (append-nil _ ∙ lines-none times answers i (omega arith)) g)
-
-pub row-asked : {times answers out w out′ : List ℕ} {at p i time : ℕ} {left : List (List ℕ)} → Listable times answers
-    → i < length answers → time ≡ getD times i 0
-    → Going out at w (line (getD times i 0) (getD answers i 0) ∷ left) out′ p
-    → Wording (getD answers i 0) out′ p (line time (getD answers i 0))
-row-asked {i = i} h l e g = rw e (record { known = h .good i l; room = going-room g })
-
-pub row-put : (times : List ℕ) (i a : ℕ) {time : ℕ} {out out′ : List ℕ} {p q : ℕ} → time ≡ getD times i 0
-    → Put out p (line time a) out′ q → Put out p (line (getD times i 0) a) out′ q
-row-put times i a e h = put-as (ap (λ (t : ℕ). line t a) e) h

@@ -32,7 +32,8 @@ pub delivers-unique :
     Delivers w out y s →
     Same r s x y
 delivers-unique w out {r = r} {s = s} a b =
-    let e = comes-unique (lineOrder w (length out)) _ (at-fixed _ _, tt) (λ j k p q. p ∙ sym q) r s (a .outcome) (b .outcome) in
+    let e = comes-unique (lineOrder w (length out)) _ (at-fixed _ _, tt) (λ j k p q. p ∙ sym q) r s (a .outcome)
+    (b .outcome) in
     (e, a .memory ∙ ap (after w out) e ∙ sym (b .memory))
 
 pub lists-unique :
@@ -42,7 +43,8 @@ pub lists-unique :
     Same r s x y
 lists-unique times answers out {r = r} {s = s} a b =
     let f : AllFixed (listOrder times answers (length out)) = (at-fixed _ _, (first-fixed _, (at-fixed _ _, tt))) in
-    let e = comes-unique (listOrder times answers (length out)) _ f (λ j k p q. p ∙ sym q) r s (a .outcome) (b .outcome) in
+    let e = comes-unique (listOrder times answers (length out)) _ f (λ j k p q. p ∙ sym q) r s (a .outcome)
+    (b .outcome) in
     (e, a .memory ∙ ap (after (listing times answers) out) e ∙ sym (b .memory))
 
 count-same : (n : ℕ) (p q : ℕ → Bool) → ((i : ℕ) → i < n → p i ≡ q i) → count n p ≡ count n q

@@ -1,5 +1,6 @@
--- What the calls promise: the text at the front of the lent buffer, with its length, or a refusal. A listing: 18, 15 for
--- an answer that is none of the four, 9. A line of the table: 9. Main names: Delivers, Lists, listOrder, ListsText.
+-- What the calls promise: the text at the front of the lent buffer, with its length, or a refusal. A listing: 18, 15
+-- for an answer that is none of the four, 9. A line of the table: 9.
+-- Main names: Delivers, Lists, listOrder, ListsText.
 use Prim.Native.Nat.{ℕ, _<_}
 use mathlib.Core.Path.{_≡_}
 use mathlib.Core.List.{List, [], _∷_}

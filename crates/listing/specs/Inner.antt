@@ -1,4 +1,5 @@
--- What the inner functions ask of their callers, and what they give. Writing behind what is written is the writer's Put.
+-- What the inner functions ask of their callers, and what they give. Writing behind what is written is the writer's
+-- Put.
 use Prim.Native.Nat.{ℕ, _+_, _*_, _^_, _<_, _≤_}
 use mathlib.Core.Path.{_≡_}
 use mathlib.Core.List.{List}

@@ -1,5 +1,5 @@
--- Document 01, "The program's listing": a heading, a line for each row with its time and its answer in words, and last how
--- many rows answer yes, no and unknown. Every line ends in LF, the last too. Main name: listing.
+-- Document 01, "The program's listing": a heading, a line for each row with its time and its answer in words, and last
+-- how many rows answer yes, no and unknown. Every line ends in LF, the last too. Main name: listing.
 -- Case 1's listing is computed in proofs/Examples.antt, byte for byte.
 use Prim.Native.Nat.{ℕ}
 use mathlib.Core.List.{List, [], _∷_, _++_}
@@ -29,7 +29,8 @@ howMany answers a = count (length answers) (λ i. eqb (getD answers i 0) a)
 unfoldable pub lastLine : ℕ → ℕ → ℕ → List ℕ
 lastLine yeses noes unknowns =
     joined
-    (bytes "yes " ∷ decimal yeses ∷ bytes " no " ∷ decimal noes ∷ bytes " unknown " ∷ decimal unknowns ∷ bytes "\n" ∷ [])
+    (bytes "yes " ∷ decimal yeses ∷ bytes " no " ∷ decimal noes ∷ bytes " unknown " ∷ decimal unknowns
+    ∷ bytes "\n" ∷ [])
 
 unfoldable pub listing : List ℕ → List ℕ → List ℕ
 listing times answers =

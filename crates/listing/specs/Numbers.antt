@@ -11,8 +11,8 @@ unfoldable pub digits : ℕ → ℕ → List ℕ
 digits zero n = []
 digits (suc k) n = digits k (n / 10) ++ ((48 + n % 10) ∷ [])
 
--- how many digits a number needs: one below ten, else one more than its tenth part. A number n needs no more than n + 1,
--- so that is how far is counted.
+-- how many digits a number needs: one below ten, else one more than its tenth part. A number n needs no more than
+-- n + 1, so that is how far is counted.
 unfoldable pub widthUpTo : ℕ → ℕ → ℕ
 widthUpTo zero n = 1
 widthUpTo (suc k) n = if ltb n 10 then 1 else suc (widthUpTo k (n / 10))

@@ -1,5 +1,6 @@
--- The table: a heading, a line for each pattern with the times it is seen, its share of all events, the rows that answer
--- unknown and no, and the pattern last; and a line with the totals. Columns stand between tabs, and every line ends in LF.
+-- The table: a heading, a line for each pattern with the times it is seen, its share of all events, the rows that
+-- answer unknown and no, and the pattern last; and a line with the totals. Columns stand between tabs, and every line
+-- ends in LF.
 -- Main names: headingLine, patternLine, refusedLine, totalLine. The share's rule stands in Share.antt.
 use Prim.Native.Nat.{ℕ}
 use mathlib.Core.List.{List, [], _∷_, map}
@@ -27,7 +28,8 @@ headingLine = ended heading []
 unfoldable pub columns : ℕ → ℕ → ℕ → ℕ → List ℕ
 columns yeses unknowns noes n =
     joined
-    (decimal yeses ∷ bytes "\t" ∷ share yeses n ∷ bytes "\t" ∷ decimal unknowns ∷ bytes "\t" ∷ decimal noes ∷ bytes "\t" ∷ [])
+    (decimal yeses ∷ bytes "\t" ∷ share yeses n ∷ bytes "\t" ∷ decimal unknowns ∷ bytes "\t" ∷ decimal noes
+    ∷ bytes "\t" ∷ [])
 
 unfoldable pub patternLine : List ℕ → ℕ → ℕ → ℕ → ℕ → List ℕ
 patternLine pattern yeses unknowns noes n = ended (columns yeses unknowns noes n) pattern
@@ -40,8 +42,8 @@ refusedColumns number place =
 unfoldable pub refusedLine : List ℕ → ℕ → ℕ → List ℕ
 refusedLine pattern number place = ended (refusedColumns number place) pattern
 
--- of all patterns that are not refused, on a trace of so many events: sums of their columns; shares are not summed, since
--- patterns may see the same event
+-- of all patterns that are not refused, on a trace of so many events: sums of their columns; shares are not summed,
+-- since patterns may see the same event
 unfoldable pub totalColumns : ℕ → ℕ → ℕ → ℕ → ℕ → List ℕ
 totalColumns yeses unknowns noes patterns events =
     joined

@@ -94,7 +94,8 @@ pub fn lines_size(times: &[u32], answers: &[u8]) -> usize
 // All rows' lines.
 pub fn put_lines(times: &[u32], answers: &[u8], out: &mut [u8], at: usize) -> usize
     requires { ⌜ Lining (now times) (now answers) (now out) at ⌝ }
-    ensures { λ r. ⌜ Put (now (out .entry)) at (lines (now (times .entry)) (now (answers .entry))) (now (out .exit)) r ⌝ }
+    ensures { λ r. ⌜ Put (now (out .entry)) at (lines (now (times .entry)) (now (answers .entry)))
+        (now (out .exit)) r ⌝ }
 {
     let mut p = at;
     let mut i: usize = 0;

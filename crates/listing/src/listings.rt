@@ -59,7 +59,8 @@ fn write_listing(times: &[u32], answers: &[u8], out: &mut [u8]) -> Outcome
     Outcome::Done(size)
 }
 
-// A line for each row with its time and its answer, given as document 01's number; its length. Refused with 18, 15 or 9.
+// A line for each row with its time and its answer, given as document 01's number; the length of all. Refused with 18,
+// 15 or 9.
 pub fn list(times: &[u32], answers: &[u8], out: &mut [u8]) -> Outcome
     ensures { λ r. ⌜ ListsText (now (times .entry)) (now (answers .entry)) (now (out .entry)) (now (out .exit)) r ⌝ }
 {

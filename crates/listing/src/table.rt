@@ -40,7 +40,8 @@ fn put_plain(pattern: &[u8], out: &mut [u8], at: usize) -> usize
 
 // Columns, a pattern and the line's end, if there is room.
 fn finish(columns: &[u8], pattern: &[u8], out: &mut [u8]) -> Outcome
-    ensures { λ r. ⌜ Delivers (ended (now (columns .entry)) (now (pattern .entry))) (now (out .entry)) (now (out .exit)) r ⌝ }
+    ensures { λ r. ⌜ Delivers (ended (now (columns .entry)) (now (pattern .entry))) (now (out .entry))
+        (now (out .exit)) r ⌝ }
 {
     let size = columns.len() + pattern.len() + 1;
     if out.len() < size {

@@ -1,6 +1,5 @@
 -- Laws of matching in order: the answers of tests, steps and alternatives, the first one apart, and what is known after
 -- some alternatives were tried.
---   named-no, named-unknown, named-yes     the name of an answer
 --   Asking, asking-first, -more, -last     some tests of a step are asked
 --   Stepping, stepping-first, ..           some steps of an alternative are asked
 --   Trying, trying-first, ..               some alternatives are tried
@@ -13,7 +12,7 @@ use native.Mathlib.Omega.{arith}
 use borrow.Author.Tests.{eq-eqb, ne-eqb}
 use lib.ListN.{length, getD, take, drop, length-take, length-drop}
 use Rattle.alf.specs.declared.Answer.{Answer}
-use Rattle.alf.specs.declared.Answer.the-variants.{No, Yes, Unknown, NoEvent}
+use Rattle.alf.specs.declared.Answer.the-variants.{Yes, NoEvent}
 use Rattle.alf.specs.Words.{leastOf, greatestOf}
 use Rattle.alf.specs.Expressions.{Boolean}
 use Rattle.alf.specs.Windows.{named}
@@ -21,23 +20,10 @@ use Rattle.alf.specs.Alternatives.{Test, Alternative, testAt, stepAt, stepsFrom
 use Rattle.alf.proofs.Extremes.{leastOf-small}
 use Rattle.alf.proofs.Steps.{steps-small}
 use Rattle.alf.proofs.RowsAreAlternatives.{row-on}
+use Rattle.evaluator.proofs.RowAnswers.{named-yes}
 use Rattle.matcher.specs.Shapes.{cut, sum, stepIn, alternativeIn}
 use Rattle.matcher.specs.Answers.{Matches}
 use Rattle.matcher.proofs.Cuts.{part, part-first, part-next, part-last, cut-at, cut-length, sum-next}
-
-pub named-no : (r : ℕ) → r ≡ 0 → No ≡ named r
-unfolding named
-named-no r e = rw e refl
-
-pub named-unknown : (r : ℕ) → r ≡ 1 → Unknown ≡ named r
-unfolding named
-named-unknown r e = rw e refl
-
-pub named-yes : (r : ℕ) → (r ≡ 0 → ⊥) → (r ≡ 1 → ⊥) → Yes ≡ named r
-unfolding named
-named-yes zero h k = absurd (h refl)
-named-yes (suc zero) h k = absurd (k refl)
-named-yes (suc (suc r)) h k = refl
 
 yes-named : (r : ℕ) → 2 ≤ r → Yes ≡ named r
 yes-named r h = named-yes r (λ e. omega arith) (λ e. omega arith)

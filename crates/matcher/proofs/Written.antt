@@ -4,7 +4,7 @@
 --   written-inside, written-outside     an entry that is written; one that is not
 -- Assumes nothing.
 use mathlib.Core.Path.{_≡_, refl, ap, sym, _∙_}
-use mathlib.Core.List.{List, _∷_, _++_, append-assoc}
+use mathlib.Core.List.{List, [], _∷_, _++_, append-assoc}
 use Prim.Native.Nat.{ℕ, zero, suc, _+_, _<_, _≤_}
 use native.Mathlib.Numerals.{add-one}
 use native.Mathlib.Nat.{add-zero, add-assoc}
@@ -12,20 +12,8 @@ use native.Mathlib.Omega.{arith}
 use lib.ListN.{length, getD, take, drop, set, length-append, length-drop, take-append-drop, List·getD-append}
 use lib.Seq.{drop-cons, set-at, length-take-le, getD-take, getD-drop, getD-append-add}
 use Rattle.alf.specs.Words.{listed}
+use Rattle.evaluator.proofs.Lists.{listed-length, listed-more}
 use Rattle.matcher.specs.Tables.{written}
-
-listed-length : {A : Type 0} (a n : ℕ) (f : ℕ → A) → length (listed a n f) ≡ n
-unfolding listed
-listed-length a zero f = refl
-listed-length a (suc n) f = ap suc (listed-length (a + 1) n f)
-
-listed-last : {A : Type 0} (a n : ℕ) (f : ℕ → A) (ys : List A)
-    → listed a n f ++ (f (a + n) ∷ ys) ≡ listed a (suc n) f ++ ys
-unfolding listed
-listed-last a zero f ys = rw add-zero refl
-listed-last a (suc n) f ys =
-    let e : a + suc n ≡ a + 1 + n = omega arith in
-    rw e (ap (_∷_ (f a)) (listed-last (a + 1) n f ys))
 
 listed-at : (a n : ℕ) (f : ℕ → ℕ) (i : ℕ) → i < n → getD (listed a n f) i 0 ≡ f (a + i)
 unfolding listed
@@ -56,7 +44,8 @@ module _ (l : List ℕ) (r : ℕ) (f : ℕ → ℕ) where
       ∙ ap (λ (t : List ℕ). set (p ++ t) (r + m) (f (r + m))) (drop-cons l (r + m) 0 h)
       ∙ set-at p (getD l (r + m) 0) rest (f (r + m)) (r + m) (head-length m (omega arith))
       ∙ append-assoc (take r l) (listed r m f) (f (r + m) ∷ rest)
-      ∙ ap (_++_ (take r l)) (listed-last r m f rest)
+      ∙ ap (_++_ (take r l)) (sym (append-assoc (listed r m f) (f (r + m) ∷ []) rest))
+      ∙ ap (λ (t : List ℕ). take r l ++ (t ++ rest)) (sym (listed-more r m f))
       ∙ ap (λ (k : ℕ). take r l ++ (listed r k f ++ rest)) (sym (add-one m))
       ∙ ap (λ (k : ℕ). take r l ++ (listed r (m + 1) f ++ drop k l)) e
 

@@ -4,7 +4,6 @@ ghost use mathlib.Core.Path.{_≡_};
 ghost use Prim.Native.Nat.{_+_, _-_, _<_};
 ghost use lib.ListN.{getD};
 ghost use Rattle.alf.specs.Values.{stateAt};
-ghost use Rattle.alf.specs.Windows.{named};
 ghost use Rattle.alf.specs.Alternatives.{testAt, stepAt, atRow};
 ghost use Rattle.matcher.specs.Shapes.{testOf, testsOf, alternativesOf, stepIn, alternativeIn};
 ghost use Rattle.matcher.specs.Answers.{TestAsked, StepAsked, AlternativeAsked, RowAsked, EventAsked, Matches};
@@ -13,6 +12,7 @@ use alf::Answer;
 use alf::edges::edge_on;
 use alf::edges::greater;
 use alf::edges::lesser;
+use evaluator::rows::name_of;
 use evaluator::values::state;
 
 // What a row is told.
@@ -55,19 +55,6 @@ pub fn step_at(
         i += 1;
     }
     least
-}
-
-// The name of an answer.
-pub fn answer_named(r: u8) -> Answer
-    ensures { λ a. ⌜ a ≡ named r ⌝ }
-{
-    if r == 0 {
-        return Answer::No;
-    }
-    if r == 1 {
-        return Answer::Unknown;
-    }
-    Answer::Yes
 }
 
 // The n steps from step s on, whose tests start at t, ending at a row: the least of their answers; no where the row has
@@ -142,7 +129,7 @@ fn match_event(
         k += 1;
     }
     Matched {
-        answer: answer_named(best),
+        answer: name_of(best),
         tries: k as u32,
     }
 }

@@ -6,19 +6,12 @@ use Prim.Native.Nat.{ℕ, zero, suc, _+_, _≤_, _<_}
 use native.Mathlib.Omega.{arith}
 use lib.Dec.{eqb}
 use borrow.Author.Tests.{eqb-true, eqb-false, ne-eqb}
+use Rattle.alf.proofs.Bools.{and-left, and-right}
 
 -- each of n numbers from lo on passes
 abbrev pub all-from : (ℕ → Bool) → ℕ → ℕ → Bool
 all-from p lo zero = true
 all-from p lo (suc n) = p lo && all-from p (suc lo) n
-
-and-left : (a b : Bool) → (a && b) ≡ true → a ≡ true
-and-left true b e = refl
-and-left false b e = e
-
-and-right : (a b : Bool) → (a && b) ≡ true → b ≡ true
-and-right true b e = e
-and-right false b e = let z : _≡_ {A = ℕ} 0 1 = cc in absurd (omega arith)
 
 same-bool : (v w : Bool) → Bool·beq v w ≡ true → v ≡ w
 same-bool true true e = refl

@@ -1,32 +1,22 @@
 -- Laws of the lists of a text's tokens, with zeros behind them.
---   codes-length, places-length     as many as tokens
---   place-inside, filled-at         an entry
+--   place-inside                    a place of a token
 --   filled-holds, handed-filled     the tokens are there, and they are what the parser takes
 -- Assumes nothing.
-use mathlib.Core.Path.{_≡_, refl, ap}
+use mathlib.Core.Path.{_≡_}
 use mathlib.Core.List.{List, [], _∷_, _++_}
 use Prim.Native.Nat.{ℕ, zero, suc, _-_, _≤_, _<_}
 use native.Mathlib.Omega.{arith}
-use lib.ListN.{length, getD, take, replicate, length-append, List·getD-append}
+use lib.ListN.{length, getD, take, replicate, length-append}
 use lib.Seq.{take-at}
 use Rattle.alf.proofs.Lists.{All, none, more}
 use Rattle.tokens.specs.Texts as text
 use Rattle.tokens.specs.Reading as reading
 use Rattle.tokens.specs.Reading.{filled}
+use Rattle.tokens.proofs.Filling.{codes-length, places-length}
 use Rattle.grammar.specs.declared.Token.{Token}
 use Rattle.grammar.specs.Tokens.{tokens}
 use Rattle.grammar.specs.Answers.{handed}
 use Rattle.reader.specs.Texts.{tokensOf}
-
-pub codes-length : (ts : List text.Token) → length (reading.codesOf ts) ≡ length ts
-unfolding reading.codesOf
-codes-length [] = refl
-codes-length (t ∷ ts) = ap suc (codes-length ts)
-
-pub places-length : (ts : List text.Token) → length (reading.placesOf ts) ≡ length ts
-unfolding reading.placesOf
-places-length [] = refl
-places-length (t ∷ ts) = ap suc (places-length ts)
 
 pub place-inside : (ts : List text.Token) (b i : ℕ) → All (λ (t : Token). t .place ≤ b) (tokensOf ts) → i < length ts
     → getD (reading.placesOf ts) i 0 ≤ b
@@ -34,10 +24,6 @@ unfolding tokens reading.codesOf reading.placesOf
 place-inside [] b i a h = absurd (omega arith)
 place-inside (t ∷ ts) b zero (more k a) h = k
 place-inside (t ∷ ts) b (suc i) (more k a) h = place-inside ts b i a (omega arith)
-
-pub filled-at : (xs : List ℕ) (i : ℕ) → i < length xs → getD (filled xs) i 0 ≡ getD xs i 0
-unfolding filled
-filled-at xs i h = List·getD-append xs _ 0 i h
 
 pub filled-holds : (xs : List ℕ) → length xs ≤ length (filled xs)
 unfolding filled

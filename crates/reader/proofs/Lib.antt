@@ -9,7 +9,6 @@ pub mod Listing
 pub mod Trees
 pub mod Texts
 pub mod Faults
-pub mod Orders
 pub mod Unknowns
 pub mod Readings
 pub mod Whole

@@ -13,11 +13,12 @@ use lib.Dec.{eqb}
 use lib.ListN.{length, take, drop, length-drop}
 use borrow.Author.Tests.{eqb-true, eq-eqb, ne-eqb}
 use Rattle.alf.specs.Words.{if_then_else_}
-use Rattle.alf.specs.Names.{nameAt, slot, untilZero, goesOnName}
+use Rattle.alf.specs.Names.{nameAt, slot, untilZero}
 use Rattle.alf.proofs.Bools.{never, and-left, and-right}
 use Rattle.names.specs.Check.{Tells, holds, fails, NameLength}
 use Rattle.names.proofs.Slots.{told, slot-part}
 use Rattle.tokens.specs.Taking.{nameBytes}
+use Rattle.tokens.proofs.RightName.{names-le}
 use Rattle.reader.specs.Lookup.{word, countOf, same, first, numberOf, numberAt, isUnknown}
 
 pub first-here :
@@ -149,24 +150,15 @@ pub holds-told :
 holds-told r s w y z p = told r (λ e. sym (p .name) ∙ y e) (λ e. z (p .name ∙ e))
 
 pub slot-told :
-    (names text : List ℕ) (k at : ℕ) {end : ℕ} {b : Bool} →
-    end ≡ at + nameBytes (drop at text) →
-    Tells (untilZero (take (k * 32 + 32 - k * 32) (drop (k * 32) names)) ≡ take (end - at) (drop at text)) b →
+    (names text : List ℕ) (k at : ℕ) {size : ℕ} {b : Bool} →
+    size ≡ nameBytes (drop at text) →
+    Tells (untilZero (take (k * 32 + 32 - k * 32) (drop (k * 32) names)) ≡ take (at + size - at) (drop at text)) b →
     Tells (nameAt names k ≡ word text at) b
-slot-told names text k at e t = rw (slot-part names k, word-part text at e) at t
+slot-told names text k at e t = rw (slot-part names k, word-part text at (ap (λ (n : ℕ). at + n) e)) at t
 
 -- name bytes stand inside the text
-pub name-bytes-fit : (bs : List ℕ) → nameBytes bs ≤ length bs
-unfolding nameBytes
-name-bytes-fit [] = omega arith
-name-bytes-fit (b ∷ bs) = go (goesOnName b) (name-bytes-fit bs)
-  where
-    go : (x : Bool) → nameBytes bs ≤ length bs → (if x then suc (nameBytes bs) else 0) ≤ suc (length bs)
-    go true ih = omega arith
-    go false ih = omega arith
-
 pub word-fits : (text : List ℕ) (at : ℕ) → at ≤ length text → at + nameBytes (drop at text) ≤ length text
-word-fits text at h = omega (arith, name-bytes-fit (drop at text), length-drop at text)
+word-fits text at h = omega (arith, names-le (drop at text), length-drop at text)
 
 -- the tests of `is_unknown`
 pub unknown-other : (names text : List ℕ) (c p : ℕ) → (c ≡ 0 → ⊥) → false ≡ isUnknown names text c p

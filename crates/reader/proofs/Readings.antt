@@ -25,7 +25,7 @@ use Rattle.reader.specs.Reads.{made, refusedWith}
 use Rattle.reader.specs.Reading.{Unknown, unsorted, tooLarge, OfTree, stuck, unknown, sortedIn, faultsIn}
 use Rattle.reader.specs.Reading.{treeOrder, Gives, Reading, refused, read, Clear}
 use Rattle.reader.proofs.Faults.{call-agree, row-seven, seven-never}
-use Rattle.reader.proofs.Orders.{refused-first, refused-then, passed-both}
+use Rattle.names.proofs.Orders.{refused-first, refused-then, passed-both}
 
 module _ (names text : List ℕ) (sort : Sort) where
   pub names-refused : (n p : ℕ) → RefusedWith (namesOrder names) n p → Reading names text sort (refusedWith n p)

@@ -10,21 +10,15 @@ use Prim.Native.Nat.{ℕ, zero, suc, _+_, _-_, _≤_, _<_}
 use native.Mathlib.Omega.{arith}
 use native.Mathlib.Numerals.{add-one}
 use lib.ListN.{length, take, getD, set, replicate, length-append, length-set, List·getD-append}
-use lib.Seq.{set-append-seam, take-suc-set, take-take, take-at, getD-take, getD-at}
+use lib.Seq.{take-suc-set, take-take, take-at, getD-take, getD-at}
 use Rattle.alf.specs.Expressions.{Expression}
 use Rattle.alf.specs.Bytes.{bytesOf}
 use Rattle.grammar.specs.Answers.{padded}
+use Rattle.grammar.proofs.Padding.{padded-set}
 use Rattle.reader.specs.declared.sorts.Sorting.{Sorting}
 use Rattle.reader.specs.Passes.{Run, going, stopped, isVector, sortsOf, stackBytes, Shows, goes, stops, Fine}
 use Rattle.reader.specs.Passes.{Moved}
 use Rattle.reader.specs.Passes.{sortAt, Room, Put, Halted, Started}
-
-pub padded-set : (xs : List ℕ) (v : ℕ) → length xs < 256 → set (padded xs) (length xs) v ≡ padded (xs ++ (v ∷ []))
-unfolding padded
-padded-set xs v h =
-    let e : 256 - length xs ≡ suc (256 - length (xs ++ (v ∷ []))) = omega (arith, length-append xs (v ∷ [])) in
-    rw e
-    (set-append-seam xs 0 (replicate (256 - length (xs ++ (v ∷ []))) 0) v ∙ sym (append-assoc xs (v ∷ []) _))
 
 sorts-append : (ys xs : List Expression) → sortsOf (ys ++ xs) ≡ sortsOf xs ++ sortsOf ys
 unfolding sortsOf

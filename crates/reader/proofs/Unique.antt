@@ -17,8 +17,10 @@ use Rattle.alf.specs.Refusals.{Row, Passed, First}
 use Rattle.alf.proofs.Bools.{never}
 use Rattle.alf.proofs.Outcomes.{Fixed, AllFixed, at-fixed, first-fixed, first-of-fixed, refused-passed, refused-unique}
 use Rattle.names.specs.Check.{namesOrder}
-use Rattle.tokens.specs.Texts.{Token, Reads, OfTokens, deep, many, order}
+use Rattle.names.proofs.Orders.{fixed-both, passed-left, passed-right}
+use Rattle.tokens.specs.Texts.{Token, Reads, deep, many, order}
 use Rattle.tokens.proofs.TextLaws.{reads-unique, reads-not-stuck}
+use Rattle.tokens.proofs.ReadingLaws.{of-tokens-fixes, order-fixes}
 use Rattle.grammar.specs.Grammar.{Tree}
 use Rattle.grammar.proofs.Unique.{parses-unique}
 use Rattle.reader.specs.declared.Read.{Read}
@@ -27,16 +29,10 @@ use Rattle.reader.specs.Texts.{tokensOf}
 use Rattle.reader.specs.Reads.{made, refusedWith}
 use Rattle.reader.specs.Reading.{tooLarge, OfTree, stuck, unknown, sortedIn, treeOrder, readOrder}
 use Rattle.reader.specs.Reading.{Gives, Reading, refused, read}
-use Rattle.reader.proofs.Orders.{fixed-both, passed-left, passed-right}
 use Rattle.reader.proofs.Readings.{read-clear}
 use Rattle.reader.proofs.Whole.{text-short}
 
 -- each row fixes its place
-of-tokens-fixes : (text : List ℕ) (row : List Token → Row) → ((ts : List Token) → Fixed (row ts))
-    → Fixed (OfTokens text row)
-of-tokens-fixes text row f p q a b =
-    f (a .tokens) p q (a .holds) (rw (reads-unique (a .read) (b .read)) (b .holds))
-
 same-tree : {text : List ℕ} {row row′ : Tree → Row} {p q : ℕ} (a : OfTree text row p) (b : OfTree text row′ q)
     → b .tree ≡ a .tree
 same-tree a b = parses-unique (rw (reads-unique (b .read) (a .read)) at (b .whole)) (a .whole)
@@ -49,19 +45,6 @@ unfolding tooLarge
 large-fixes (is (boolean c)) p r a b = absurd a
 large-fixes (is (vector v)) p r a b = at-fixed _ _ p r a b
 large-fixes (faulty s) p r a b = absurd a
-
-text-fixed : (text : List ℕ) → AllFixed (order text)
-unfolding order
-text-fixed text = (
-  at-fixed _ _,
-  (
-    first-fixed _,
-    (
-      of-tokens-fixes text deep (λ ts. first-fixed _),
-      (of-tokens-fixes text many (λ ts. first-fixed _), tt),
-    ),
-  ),
-)
 
 tree-fixed : (names text : List ℕ) (sort : Sort) → AllFixed (treeOrder names text sort)
 unfolding treeOrder
@@ -79,7 +62,7 @@ tree-fixed names text sort = (
 read-fixed : (names text : List ℕ) (sort : Sort) → AllFixed (readOrder names text sort)
 read-fixed names text sort =
     fixed-both (namesOrder names) (order text ++ treeOrder names text sort) (at-fixed _ _, (first-fixed _, tt))
-    (fixed-both (order text) (treeOrder names text sort) (text-fixed text) (tree-fixed names text sort))
+    (fixed-both (order text) (treeOrder names text sort) (order-fixes text) (tree-fixed names text sort))
 
 -- a text gives one expression
 pub gives-unique : {names text : List ℕ} {sort : Sort} {x y : Expression} → Gives names text sort x

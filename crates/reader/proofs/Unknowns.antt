@@ -20,7 +20,7 @@ use Rattle.grammar.specs.declared.Token as node
 use Rattle.grammar.specs.Tokens.{tokens}
 use Rattle.tokens.specs.Texts.{Token, tokenAt}
 use Rattle.tokens.specs.Reading.{codesOf, placesOf}
-use Rattle.tokens.proofs.Places.{Rising}
+use Rattle.tokens.proofs.Places.{Rising, rising-at}
 use Rattle.reader.specs.Lookup.{word, countOf, numberAt, isUnknown, first, unknownAt}
 use Rattle.reader.specs.Texts.{tokensOf}
 use Rattle.reader.specs.Reading.{Stands, here, there, Unknown, unknown}
@@ -54,13 +54,6 @@ indexed (there s) =
     record { index = suc (r .index); within = omega arith; code = r .code; place = r .place }
 
 -- places rise
-rising-from : (ts : List Token) (lo k : ℕ) → Rising lo ts → k < length ts → lo ≤ getD (placesOf ts) k 0
-unfolding placesOf
-rising-from [] lo k r h = absurd (omega arith)
-rising-from (t ∷ ts) lo zero r h = r .0
-rising-from (t ∷ ts) lo (suc k) r h =
-    let j = rising-from ts (suc (t .place)) k (r .1) (omega arith) in let i = r .0 in omega arith
-
 rising-le :
     (ts : List Token) (lo i j : ℕ) → Rising lo ts → i ≤ j → j < length ts
     → getD (placesOf ts) i 0 ≤ getD (placesOf ts) j 0
@@ -68,7 +61,7 @@ unfolding placesOf
 rising-le [] lo i j r l h = absurd (omega arith)
 rising-le (t ∷ ts) lo zero zero r l h = omega arith
 rising-le (t ∷ ts) lo zero (suc j) r l h =
-    let k = rising-from ts (suc (t .place)) j (r .1) (omega arith) in omega arith
+    let k = rising-at ts (suc (t .place)) j (r .1) (omega arith) in omega arith
 rising-le (t ∷ ts) lo (suc i) zero r l h = absurd (omega arith)
 rising-le (t ∷ ts) lo (suc i) (suc j) r l h = rising-le ts (suc (t .place)) i j (r .1) (omega arith) (omega arith)
 

@@ -22,6 +22,7 @@ use Rattle.tokens.specs.Texts as text
 use Rattle.tokens.specs.Texts.{Reads, order}
 use Rattle.tokens.specs.Reading as reading
 use Rattle.tokens.specs.Reading.{filled}
+use Rattle.tokens.proofs.Filling.{codes-length, places-length, filled-at}
 use Rattle.tokens.proofs.Places.{reads-rising}
 use Rattle.tokens.proofs.Shapes.{token-size}
 use Rattle.grammar.specs.declared.Token.{Token}
@@ -44,8 +45,7 @@ use Rattle.reader.specs.Reads.{made, refusedWith, answered, Grown, Answe
 use Rattle.reader.specs.Reading.{sortedIn, Unknown, Reading, Unlimited, refused, unlimited}
 use Rattle.reader.specs.Whole.{Tokened}
 use Rattle.reader.proofs.Names.{first-same}
-use Rattle.reader.proofs.Filled.{codes-length, places-length, place-inside, filled-at, filled-holds}
-use Rattle.reader.proofs.Filled.{handed-filled}
+use Rattle.reader.proofs.Filled.{place-inside, filled-holds, handed-filled}
 use Rattle.reader.proofs.Texts.{reads-inside, reads-rises, few-counted, nodes-inside}
 use Rattle.reader.proofs.Unknowns.{unknown-here, unknown-never}
 use Rattle.reader.proofs.Readings.{five, six, seven}

@@ -1,30 +1,14 @@
 // Refusal 6: the slot of the name that stands at a byte of a text, and the first name that has none.
 use check::same;
-use names::goes_on_name;
 use names::name_len;
+use tokens::steps::name_size;
 ghost use mathlib.Core.Path.{_≡_};
-ghost use Prim.Native.Nat.{_+_, _≤_};
-ghost use lib.ListN.{length, drop};
+ghost use Prim.Native.Nat.{_≤_};
+ghost use lib.ListN.{length};
 ghost use Rattle.alf.specs.Names.{untilZero};
 ghost use Rattle.names.specs.Check.{Tells};
-ghost use Rattle.tokens.specs.Taking.{nameBytes};
 ghost use Rattle.reader.specs.Lookup.{numberAt, isUnknown, unknownAt};
 ghost use Rattle.reader.specs.Passes.{Listed};
-
-// Where the name bytes that stand together from `at` on end.
-fn name_end(text: &[u8], at: usize) -> usize
-    requires { ⌜ at ≤ length (now text) ⌝ }
-    ensures { λ r. ⌜ r ≡ at + nameBytes (drop at (now (text .entry))) ⌝ }
-{
-    let mut i = at;
-    while i < text.len() {
-        if !goes_on_name(text[i]) {
-            return i;
-        }
-        i += 1;
-    }
-    i
-}
 
 // Whether a slot holds a name.
 fn holds(slot: &[u8], word: &[u8]) -> bool
@@ -39,7 +23,7 @@ pub fn slot_of(names: &[u8], text: &[u8], at: usize) -> usize
     requires { ⌜ at ≤ length (now text) ⌝ }
     ensures { λ r. ⌜ r ≡ numberAt (now (names .entry)) (now (text .entry)) at ⌝ }
 {
-    let end = name_end(text, at);
+    let end = at + name_size(text, at);
     let n = names.len() / 32;
     let mut k = 0;
     while k < n {

@@ -41,18 +41,31 @@ pub fn show_named() {
 
 // Trees handed in, over the usual names: 10 where no text gives it, 9 where the room is too small.
 pub fn show_trees() {
-    vector_tree(b"\x00K\x01S2", 12); // as long as the text
-    vector_tree(b"\x00K\x01S2", 11); // a byte too few: the length needed
-    vector_tree(b"\x00K\x01S2", 0); // no room
-    boolean_tree(b"\x00K\x01S2", 12); // not of this sort
-    vector_tree(b"\x00K\x018", 64); // a condition on the right
-    vector_tree(b"\x00\x01K9", 64); // and on the left
-    vector_tree(b"\x00K\x01S(", 64); // the boolean `&` of two vectors
-    boolean_tree(b"\x08", 64); // the ninth of nine names
-    boolean_tree(b"\t", 64); // a tenth
+    let sequence = [0u8, 75, 1, 83, 50];
+    vector_tree(&sequence, 12); // as long as the text
+    vector_tree(&sequence, 11); // a byte too few: the length needed
+    vector_tree(&sequence, 0); // no room
+    boolean_tree(&sequence, 12); // not of this sort
+    let right = [0u8, 75, 1, 56];
+    vector_tree(&right, 64); // a condition on the right
+    let left = [0u8, 1, 75, 57];
+    vector_tree(&left, 64); // and on the left
+    let wrong = [0u8, 75, 1, 83, 40];
+    vector_tree(&wrong, 64); // the boolean `&` of two vectors
+}
+
+// Likewise, booleans.
+pub fn show_boolean_trees() {
+    let ninth = [8u8];
+    boolean_tree(&ninth, 64); // the ninth of nine names
+    let tenth = [9u8];
+    boolean_tree(&tenth, 64); // a tenth
     boolean_tree(b"", 64); // no node
-    boolean_tree(b" !", 64); // two expressions
-    boolean_tree(b" (", 64); // an operand is missing
-    boolean_tree(b":", 64); // no node has this byte
-    boolean_tree(b":", 0); // 10 before 9
+    let two = [32u8, 33];
+    boolean_tree(&two, 64); // two expressions
+    let short = [32u8, 40];
+    boolean_tree(&short, 64); // an operand is missing
+    let free = [58u8];
+    boolean_tree(&free, 64); // no node has this byte
+    boolean_tree(&free, 0); // 10 before 9
 }

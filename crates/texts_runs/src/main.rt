@@ -1,27 +1,20 @@
-// Texts read as expressions and written back, each with what is written, or with the number and place of its refusal.
-// The names of the list are A B C D E X a _9z and one of 32 bytes. The expected output was worked out from document 01.
-mod bounds;
+// Texts read as expressions and written back, each with what is written, or with the number and place of its refusal;
+// then lists of names and trees. The texts come from standard input, each with the reason for what is expected. The
+// expected output was worked out from document 01. The usual names are A B C D E X a _9z and one of 32 bytes.
 mod built;
+mod lines;
 mod lists;
-mod orders;
+mod pieces;
 mod shown;
-mod spans;
-mod spellings;
+
+use libc::STDIN_FILENO;
 
 fn main() {
-    spans::show_halves();
-    spans::show_longest();
-    spans::show_classes();
-    bounds::show_sizes();
-    bounds::show_alternatives();
-    bounds::show_written();
-    orders::show_grammar();
-    orders::show_sorts();
-    spellings::show_tokens();
-    spellings::show_levels();
-    spellings::show_ternaries();
-    spellings::show_table();
+    let mut input = io::large_buffer();
+    let n = io::read_full(STDIN_FILENO, &mut input);
+    lines::show_lines(&input[..n]);
     lists::show_sized();
     lists::show_named();
     lists::show_trees();
+    lists::show_boolean_trees();
 }

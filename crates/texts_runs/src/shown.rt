@@ -1,5 +1,5 @@
 // A text with what its tree is written as, or with its refusal. A text of over 64 bytes is shown by its length.
-use crate::built::put;
+use crate::pieces::put;
 use alf::Outcome;
 use alf::Refusal;
 use alf::Sort;
@@ -163,14 +163,6 @@ pub fn show_usual(text: &[u8], sort: Sort) {
     let mut names = [0u8; 288];
     fill_usual(&mut names);
     show_over(&names, text, sort);
-}
-
-pub fn boolean(text: &[u8]) {
-    show_usual(text, Sort::Boolean);
-}
-
-pub fn vector(text: &[u8]) {
-    show_usual(text, Sort::Vector);
 }
 
 // The bytes of a tree.

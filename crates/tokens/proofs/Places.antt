@@ -1,5 +1,6 @@
 -- The first token that goes over a limit, as an index and as a byte of the text.
 --   reads-rising   the places of a text's tokens rise
+--   rising-at      .. from the first on
 --   over-first     the place of the first token over the limit is the first byte at which the number is over it
 --   over-none      where no token is, no byte is
 -- Assumes nothing.
@@ -32,7 +33,7 @@ reads-rising (blank {p = p} {ts = ts} h r) = lower ts p (suc p) (omega arith) (r
 reads-rising (token {p = p} {w = w} {ts = ts} h t r) =
     let k = token-size (t .token) in (omega arith, lower ts (suc p) (p + length w) (omega arith) (reads-rising r))
 
-rising-at : (ts : List Token) (lo k : ℕ) → Rising lo ts → k < length ts → lo ≤ getD (placesOf ts) k 0
+pub rising-at : (ts : List Token) (lo k : ℕ) → Rising lo ts → k < length ts → lo ≤ getD (placesOf ts) k 0
 unfolding placesOf
 rising-at [] lo zero r h = absurd (omega arith)
 rising-at [] lo (suc k) r h = absurd (omega arith)

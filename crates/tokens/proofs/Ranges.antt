@@ -10,15 +10,7 @@ use native.Mathlib.Omega.{arith}
 use lib.Dec.{eqb}
 use borrow.Author.Tests.{eqb-true, eqb-false}
 use types.Run.{OneOf}
-
--- two tests at once
-pub and-left : (a b : Bool) → a && b ≡ true → a ≡ true
-and-left true b e = refl
-and-left false b e = e
-
-pub and-right : (a b : Bool) → a && b ≡ true → b ≡ true
-and-right true b e = e
-and-right false b e = let z : _≡_ {A = ℕ} 0 1 = cc in absurd (omega arith)
+use Rattle.alf.proofs.Bools.{and-left, and-right}
 
 -- each of n numbers from lo on passes
 abbrev pub all-from : (ℕ → Bool) → ℕ → ℕ → Bool

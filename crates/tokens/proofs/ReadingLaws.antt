@@ -1,5 +1,6 @@
 -- What a text is read as: the tokens or the refusal, one of them, and each by its own law.
 --   read-long, read-stuck, read-deep, read-many, read-whole   refused with 1, 2, 3, 4; read
+--   of-tokens-fixes, order-fixes   each row of the order fixes its place
 --   reading-unique   two readings of a text are the same
 --   reading-total    every text has one
 -- Assumes nothing.
@@ -23,14 +24,14 @@ use Rattle.tokens.proofs.TextLaws.{reads-unique, stuck-unique, reads-no
 use Rattle.tokens.proofs.Places.{reads-rising, over-first, over-none}
 
 -- each row fixes its place
-of-tokens-fixes :
+pub of-tokens-fixes :
     (text : List ℕ) (row : List Token → Row) →
     ((ts : List Token) → Fixed (row ts)) →
     Fixed (OfTokens text row)
 of-tokens-fixes text row f p q a b =
     f (a .tokens) p q (a .holds) (rw (reads-unique (a .read) (b .read)) (b .holds))
 
-order-fixes : (text : List ℕ) → AllFixed (order text)
+pub order-fixes : (text : List ℕ) → AllFixed (order text)
 unfolding order
 order-fixes text = (
   at-fixed _ _,

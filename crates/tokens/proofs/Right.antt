@@ -11,11 +11,11 @@ use lib.Dec.{eqb}
 use lib.ListN.{length, take, drop}
 use borrow.Author.Tests.{eq-eqb}
 use Rattle.alf.specs.Names.{startsName, goesOnName}
+use Rattle.alf.proofs.Bools.{and-left}
 use Rattle.tokens.specs.declared.Step.{Step}
 use Rattle.tokens.specs.Taking.{byteAt, nameBytes, isPlain, isBased, isHalf, Barred, Taken, NoToken}
 use Rattle.tokens.specs.Taking.Barred.{together, overlong, loose, lone, bad-half}
 use Rattle.tokens.specs.Steps.{none, step}
-use Rattle.tokens.proofs.Ranges.{and-left}
 use Rattle.tokens.proofs.Bytes.{contrary, plain-unquoted, quote-unnamed}
 
 -- a step with a token takes it, and one without names the place

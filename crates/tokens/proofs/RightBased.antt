@@ -12,6 +12,7 @@ use lib.Seq.{take-add, getD-drop}
 use borrow.Author.Tests.{eqb-true, eqb-false, eq-eqb, ltb-true, not-true}
 use Rattle.alf.specs.Names.{goesOnName}
 use Rattle.alf.specs.States.{among}
+use Rattle.alf.proofs.Bools.{and-left, and-right}
 use Rattle.tokens.specs.Classes.{halfOf}
 use Rattle.tokens.specs.Spelling.{edgeCode}
 use Rattle.tokens.specs.Spelling.IsToken.{literal, based-edge}
@@ -19,7 +20,6 @@ use Rattle.tokens.specs.Taking.{byteAt, isBased, isHalf, Taken, Tokenles
 use Rattle.tokens.specs.Taking.Barred.{loose, lone, bad-half}
 use Rattle.tokens.specs.Taking.NoToken.{barred, tokenless}
 use Rattle.tokens.specs.Steps.{halfAt, basedStep}
-use Rattle.tokens.proofs.Ranges.{and-left, and-right}
 use Rattle.tokens.proofs.Bytes.{contrary, plain-unquoted, quote-unnamed, half-zero, and-both, question}
 use Rattle.tokens.proofs.Ways.{no-half, bad-second, both-halves, lone as alone, based-literal}
 use Rattle.tokens.proofs.Shapes.{Shape, as-name, as-based, as-edge, as-spelled, shape, entry-good}

@@ -1,4 +1,4 @@
--- The step at a name is right. Main name: right-name. Assumes nothing.
+-- The step at a name is right. Main names: right-name; names-le: name bytes stand inside the text. Assumes nothing.
 use mathlib.Core.Path.{_≡_, refl, sym, ap}
 use mathlib.Core.Bool.{Bool, true, false}
 use mathlib.Core.List.{List, [], _∷_}
@@ -19,7 +19,7 @@ use Rattle.tokens.proofs.Bytes.{contrary, plain-unnamed, quote-unnamed}
 use Rattle.tokens.proofs.Shapes.{Shape, as-name, as-based, as-edge, as-spelled, shape, entry-good}
 use Rattle.tokens.proofs.Right.{Right, right-none, right-taken, barred-other}
 
-names-le : (bs : List ℕ) → nameBytes bs ≤ length bs
+pub names-le : (bs : List ℕ) → nameBytes bs ≤ length bs
 unfolding nameBytes
 names-le [] = omega arith
 names-le (b ∷ bs) = go (goesOnName b) (names-le bs)

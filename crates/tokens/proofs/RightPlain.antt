@@ -12,6 +12,7 @@ use borrow.Author.Tests.{eq-eqb, ltb-true}
 use Rattle.alf.specs.Words.{if_then_else_}
 use Rattle.alf.specs.Names.{startsName}
 use Rattle.alf.specs.States.{among}
+use Rattle.alf.proofs.Bools.{and-left, and-right}
 use Rattle.tokens.specs.declared.Step.{Step}
 use Rattle.tokens.specs.Classes.{halfOf}
 use Rattle.tokens.specs.Spelling.{Spelling, _In_, spellings, edgeCode}
@@ -20,7 +21,6 @@ use Rattle.tokens.specs.Taking.{byteAt, isPlain, Barred, Taken, Tokenles
 use Rattle.tokens.specs.Taking.Barred.{together}
 use Rattle.tokens.specs.Taking.NoToken.{barred, tokenless}
 use Rattle.tokens.specs.Steps.{starts, none, step, firstOf, plainStep}
-use Rattle.tokens.proofs.Ranges.{and-left, and-right}
 use Rattle.tokens.proofs.Bytes.{contrary, and-both}
 use Rattle.tokens.proofs.Search.{Found, hit, miss, found, falling, found-longest, all-in, in-all, starts-sound}
 use Rattle.tokens.proofs.Shapes.{Shape, as-name, as-based, as-edge, as-spelled, shape, entry-good}

@@ -12,11 +12,11 @@ use native.Mathlib.Omega.{arith}
 use lib.Dec.{eqb, leb}
 use lib.ListN.{length, drop}
 use borrow.Author.Tests.{eqb-true, eq-eqb, leb-true}
+use Rattle.alf.proofs.Bools.{and-left, and-right}
 use Rattle.tokens.specs.declared.Step.{Step}
 use Rattle.tokens.specs.Spelling.{Spelling, _In_}
 use Rattle.tokens.specs.Spelling._In_.{here, there}
 use Rattle.tokens.specs.Steps.{starts, firstOf, step, none}
-use Rattle.tokens.proofs.Ranges.{and-left, and-right}
 
 abbrev pub all-in : (Spelling → Bool) → List Spelling → Bool
 all-in p [] = true

@@ -15,12 +15,12 @@ use borrow.Author.Tests.{leb-true, lt-ltb, not-true}
 use Rattle.alf.specs.Words.{all}
 use Rattle.alf.specs.Names.{isLetter, startsName, goesOnName, isName}
 use Rattle.alf.specs.States.{among}
+use Rattle.alf.proofs.Bools.{and-left, and-right}
 use Rattle.tokens.specs.Classes.{halfOf}
 use Rattle.tokens.specs.Spelling.{Spelling, _In_, spellings, IsToken}
 use Rattle.tokens.specs.Spelling.IsToken.{name, spelled, literal, edge, based-edge}
 use Rattle.tokens.specs.Taking.{byteAt, nameBytes, isPlain, isBased}
 use Rattle.tokens.specs.Steps.{starts}
-use Rattle.tokens.proofs.Ranges.{and-left, and-right}
 use Rattle.tokens.proofs.Bytes.{contrary}
 use Rattle.tokens.proofs.Search.{all-in, in-all, starts-complete}
 

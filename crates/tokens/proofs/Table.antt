@@ -1,4 +1,5 @@
 -- The table of spellings as the code has it, a row of four bytes for each, and a search in it.
+--   same, same-law                  two lists are the same, as a test
 --   entry                           row i of the table is entry i of the spellings, by a computed test
 --   find-hit, find-miss, find-end   one turn of the search, and its end
 -- Assumes nothing.
@@ -12,10 +13,11 @@ use lib.Dec.{eqb, ltb}
 use lib.ListN.{length, getD, drop, drop-of-length-le}
 use lib.Seq.{drop-cons}
 use borrow.Author.Tests.{eqb-true, ltb-true}
+use Rattle.alf.proofs.Bools.{and-left, and-right}
 use Rattle.tokens.specs.Spelling.{Spelling, _means_, spellings}
 use Rattle.tokens.specs.Steps.{starts, firstOf, step, none}
 use Rattle.tokens.specs.Inner.{wordOf}
-use Rattle.tokens.proofs.Ranges.{and-left, and-right, all-from-law}
+use Rattle.tokens.proofs.Ranges.{all-from-law}
 
 abbrev pub rows : List Spelling → List (List ℕ)
 rows [] = []
@@ -28,7 +30,7 @@ same [] (y ∷ ys) = false
 same (x ∷ xs) [] = false
 same (x ∷ xs) (y ∷ ys) = eqb x y && same xs ys
 
-same-law : (xs ys : List ℕ) → same xs ys ≡ true → xs ≡ ys
+pub same-law : (xs ys : List ℕ) → same xs ys ≡ true → xs ≡ ys
 same-law [] [] e = refl
 same-law [] (y ∷ ys) e = let z : _≡_ {A = ℕ} 0 1 = cc in absurd (omega arith)
 same-law (x ∷ xs) [] e = let z : _≡_ {A = ℕ} 0 1 = cc in absurd (omega arith)

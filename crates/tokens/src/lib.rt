@@ -1,7 +1,7 @@
 // A text into its tokens, or refused with 1, 2, 3 or 4.
 mod classes;
 mod limits;
-mod steps;
+pub mod steps;
 
 ghost use mathlib.Core.Path.{_≡_};
 ghost use Prim.Native.Nat.{_≤_};

@@ -54,7 +54,7 @@ fn peek(text: &[u8], at: usize, k: usize) -> u8
 }
 
 // How many name bytes stand together.
-fn name_size(text: &[u8], at: usize) -> usize
+pub fn name_size(text: &[u8], at: usize) -> usize
     requires { ⌜ at ≤ length (now text) ⌝ }
     ensures { λ r. ⌜ r ≡ nameBytes (drop at (now (text .entry))) ⌝ }
 {

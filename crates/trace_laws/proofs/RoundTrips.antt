@@ -5,21 +5,21 @@
 --   write-read       writing what was read gives the same bytes
 -- Assumes nothing.
 use mathlib.Core.Path.{_≡_, refl, sym, ap, _∙_}
-use mathlib.Core.List.{List, [], _∷_, _++_}
+use mathlib.Core.List.{List}
 use mathlib.Core.Logic.{_⊎_, inl, inr}
 use Prim.Native.Nat.{ℕ, zero, suc, _+_, _-_, _*_, _/_, _<_, _≤_}
 use native.Mathlib.Omega.{arith}
 use lib.ListN.{length, getD}
 use Rattle.alf.specs.declared.Outcome.{Outcome}
 use Rattle.alf.specs.declared.Outcome.the-variants as Outcome
-use Rattle.alf.specs.Refusals.{Order, RefusedWith, Passed, Comes}
+use Rattle.alf.specs.Refusals.{RefusedWith, Passed, Comes}
 use Rattle.alf.proofs.Outcomes.{AllFixed, at-fixed, first-fixed, refused-passed, refused-unique, comes-unique}
+use Rattle.names.proofs.Orders.{passed-both, fixed-both}
 use Rattle.traces.specs.declared.Reading.{Reading}
 use Rattle.traces.specs.declared.Reading.the-variants.{Read, Refused}
 use Rattle.traces.specs.Format.{fileOf, count, Trace}
 use Rattle.traces.specs.Reading.{Accepted, FileRefused, RoomRefused, roomOrder, over, Got, Reads}
 use Rattle.traces.specs.Writing.{rowsOrder, writeOrder, after, Writes, BadState}
-use Rattle.traces.proofs.RowOrders.{passed-both}
 use Rattle.traces.proofs.Copying.{room-for}
 use Rattle.trace_laws.proofs.Places.{accepted-unique, accepted-refused, refusal-unique}
 use Rattle.trace_laws.proofs.Complete.{trace-accepted}
@@ -78,15 +78,11 @@ module _ (file names times states : List ℕ) where
       }
 
 -- each row of the order of writing fixes its place
-both-fixed : (a b : Order) → AllFixed a → AllFixed b → AllFixed (a ++ b)
-both-fixed [] b f g = g
-both-fixed (c ∷ a) b f g = (f .0, both-fixed a b (f .1) g)
-
 rows-fixed : (k : ℕ) (times states : List ℕ) (n : ℕ) → AllFixed (rowsOrder k times states n)
 unfolding rowsOrder
 rows-fixed k times states zero = tt
 rows-fixed k times states (suc n) =
-    both-fixed (rowsOrder k times states n) _ (rows-fixed k times states n) (at-fixed _ _, (first-fixed _, tt))
+    fixed-both (rowsOrder k times states n) _ (rows-fixed k times states n) (at-fixed _ _, (first-fixed _, tt))
 
 pub record OneWriting (r : Outcome) (out : List ℕ) (r′ : Outcome) (out′ : List ℕ) : Type 0 where
   pub answer : r ≡ r′
@@ -104,7 +100,7 @@ module _ {names times states : List ℕ} {n : ℕ} {out : List ℕ} where
         at-fixed _ _,
         (
           first-fixed _,
-          both-fixed (rowsOrder (count names) times states n) _ (rows-fixed (count names) times states n)
+          fixed-both (rowsOrder (count names) times states n) _ (rows-fixed (count names) times states n)
               (at-fixed _ _, tt),
         ),
       )

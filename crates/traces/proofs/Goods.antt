@@ -10,12 +10,13 @@ use native.Mathlib.Omega.{arith}
 use lib.ListN.{length, getD}
 use Rattle.alf.specs.Names.{isName}
 use Rattle.alf.specs.Refusals.{Passed}
+use Rattle.names.proofs.Orders.{none-first}
 use Rattle.traces.specs.declared.Mark.{Mark}
 use Rattle.traces.specs.declared.Mark.the-variants.{Name, Row, End, Other}
 use Rattle.traces.specs.Records.{place, timeIn, nameIn, wordAt, markHere, markedOrder, Due, sizeOf, contents}
 use Rattle.traces.specs.Records.{GoodName, BadCode, Good}
 use Rattle.traces.specs.Steps.{Above}
-use Rattle.traces.proofs.Stable.{none-first, lt-stable, eq-stable, true-stable}
+use Rattle.traces.proofs.Stable.{lt-stable, eq-stable, true-stable}
 
 pub record NameFacts (file : List ℕ) (k : ℕ) : Type 0 where
   pub mark : markHere file k 0 ≡ Name

@@ -1,11 +1,11 @@
--- 13 and 15 row by row: what the check of a row means for the rows' order, and orders one behind the other.
---   refused-left, refused-right, passed-both, passed-left   orders one behind the other
---   row-late, row-bad, row-passes                           a row that is refused or passes
+-- 13 and 15 row by row: what the check of a row means for the rows' order.
+--   row-late, row-bad, row-passes   a row that is refused or passes
+--   rows-none, rows-passed          no row yet; all of them
 -- Assumes nothing.
 use mathlib.Core.Path.{_≡_, refl, sym, ap, _∙_}
 use mathlib.Core.Bool.{Bool, true, false}
-use mathlib.Core.List.{List, [], _∷_, _++_}
-use mathlib.Core.Logic.{_⊎_, inl, inr}
+use mathlib.Core.List.{List}
+use mathlib.Core.Logic.{inl, inr}
 use Prim.Native.Nat.{ℕ, zero, suc, _+_, _-_, _*_, _≤_, _<_}
 use native.Mathlib.Omega.{arith}
 use native.Mathlib.Numerals.{add-one}
@@ -14,41 +14,15 @@ use lib.ListN.{length, getD}
 use borrow.Author.Tests.{eqb-true, eqb-false}
 use Rattle.alf.specs.declared.Outcome.{Outcome}
 use Rattle.alf.specs.declared.Outcome.the-variants.{Done, Refused}
-use Rattle.alf.specs.Refusals.{Order, RefusedWith, Passed, Comes}
+use Rattle.alf.specs.Refusals.{RefusedWith, Passed, Comes}
 use Rattle.names.specs.Check.{Tells}
 use Rattle.names.proofs.Slots.{told-true, told-false}
+use Rattle.names.proofs.Orders.{refused-first, refused-then, passed-both}
 use Rattle.traces.specs.Parts.{CodesTo}
 use Rattle.traces.specs.Putting.{Later}
 use Rattle.traces.specs.Writing.{rowsOrder, BadState}
 use Rattle.traces.proofs.Orders.{Is}
 use Rattle.traces.proofs.RowCursors.{not-above}
-
-module _ (n p : ℕ) where
-  pub refused-left : (a b : Order) → RefusedWith a n p → RefusedWith (a ++ b) n p
-  unfolding RefusedWith
-  refused-left [] b r = absurd r
-  refused-left (c ∷ a) b (inl r) = inl r
-  refused-left (c ∷ a) b (inr r) = inr (r .0, refused-left a b (r .1))
-
-  pub refused-right : (a b : Order) → Passed a → RefusedWith b n p → RefusedWith (a ++ b) n p
-  unfolding RefusedWith Passed
-  refused-right [] b h r = r
-  refused-right (c ∷ a) b h r = inr (h .0, refused-right a b (h .1) r)
-
-pub passed-both : (a b : Order) → Passed a → Passed b → Passed (a ++ b)
-unfolding Passed
-passed-both [] b h k = k
-passed-both (c ∷ a) b h k = (h .0, passed-both a b (h .1) k)
-
-pub passed-left : (a b : Order) → Passed (a ++ b) → Passed a
-unfolding Passed
-passed-left [] b h = tt
-passed-left (c ∷ a) b h = (h .0, passed-left a b (h .1))
-
-pub passed-right : (a b : Order) → Passed (a ++ b) → Passed b
-unfolding Passed
-passed-right [] b h = h
-passed-right (c ∷ a) b h = passed-right a b (h .1)
 
 module _ (k : ℕ) (times states : List ℕ) where
   further : (m n number p : ℕ) → m ≤ n → RefusedWith (rowsOrder k times states m) number p → RefusedWith
@@ -65,7 +39,7 @@ module _ (k : ℕ) (times states : List ℕ) where
           RefusedWith (rowsOrder k times states (suc n)) number p
       go true e ih = rw (eqb-true m (suc n) e) at r
       go false e ih =
-          refused-left number p (rowsOrder k times states n) _ (ih (omega (arith, eqb-false m (suc n) e)) r)
+          refused-first (rowsOrder k times states n) _ number p (ih (omega (arith, eqb-false m (suc n) e)) r)
 
   module _
       {n r : ℕ} (made : ℕ → Type 0) (before : r < n) (passed : Passed (rowsOrder k times states r))
@@ -76,7 +50,7 @@ module _ (k : ℕ) (times states : List ℕ) where
       row-late e f =
           rw e
           (further (suc r) n 13 r before
-          (refused-right 13 r (rowsOrder k times states r) _ passed
+          (refused-then (rowsOrder k times states r) _ 13 r passed
           (inl (refl, record { given = not-above r _ _ (told-false tested f); there = refl }))))
 
       module _ (later : b ≡ true) where
@@ -92,7 +66,7 @@ module _ (k : ℕ) (times states : List ℕ) where
           row-bad e l =
               rw e
               (further (suc r) n 15 bad before
-              (refused-right 15 bad (rowsOrder k times states r) _ passed
+              (refused-then (rowsOrder k times states r) _ 15 bad passed
               (inr (
                 above,
                 inl (

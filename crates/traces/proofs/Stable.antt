@@ -1,29 +1,14 @@
--- What cannot fail holds: of orders, equations, names and slots; and what is so nowhere first is so nowhere.
--- Main names: none-first, lt-stable, eq-stable, true-stable, slot-stable. Assumes nothing.
+-- What cannot fail holds: of orders, equations, names and slots.
+-- Main names: lt-stable, eq-stable, true-stable, slot-stable. Assumes nothing.
 use mathlib.Core.Path.{_≡_, refl, sym, ap, _∙_}
 use mathlib.Core.Bool.{Bool, true, false}
 use mathlib.Core.List.{List, [], _∷_}
-use Prim.Native.Nat.{ℕ, zero, suc, _<_}
+use Prim.Native.Nat.{ℕ, _<_}
 use native.Mathlib.Omega.{arith}
 use lib.Dec.{ltb, eqb}
 use lib.ListN.{getD, drop}
 use borrow.Author.Tests.{ltb-true, ltb-false, eqb-true, eqb-false}
 use Rattle.alf.specs.Names.{isName, nameAt, slot, slotOf, GoodSlot}
-use Rattle.alf.specs.Refusals.{First}
-
--- nothing is so where it is so nowhere first
-no-first : (so : ℕ → Type 0) → ((p : ℕ) → First so p → ⊥) → (n i : ℕ) → i < n → so i → ⊥
-no-first so none zero i h x = omega arith
-no-first so none (suc n) i h x = go (ltb i n) refl (no-first so none n)
-  where
-    go : (b : Bool) → ltb i n ≡ b → ((j : ℕ) → j < n → so j → ⊥) → ⊥
-    go true e below = below i (ltb-true i n e) x
-    go false e below =
-        let f : i ≡ n = omega (arith, ltb-false i n e) in
-        none i (record { given = x; before = λ j l. below j (omega arith) })
-
-pub none-first : (so : ℕ → Type 0) → ((p : ℕ) → First so p → ⊥) → (i : ℕ) → so i → ⊥
-none-first so none i x = no-first so none (suc i) i (omega arith) x
 
 -- what is not refused holds
 module _ (x y : ℕ) where

@@ -15,15 +15,15 @@ use Rattle.alf.specs.Names.{GoodSlot}
 use Rattle.alf.specs.Refusals.{Order, RefusedWith, Passed, Comes}
 use Rattle.names.specs.Check.{Slots, Tells, namesOrder}
 use Rattle.names.proofs.Slots.{told-true, told-false}
+use Rattle.names.proofs.Orders.{refused-first, refused-then, passed-both, none-first}
 use Rattle.traces.specs.Format.{nameRecords, rowRecords, endRecord, word, fileOf, count}
 use Rattle.traces.specs.Writing.{AllLists, rowsOrder, writeOrder, after, Writes, Put}
 use Rattle.traces.specs.Putting.{RowsLent, SlotsLent, SlotsFit, NamesSize, NamesPut, RowsPut, NamesGood, Good}
 use Rattle.traces.proofs.Orders.{Is}
-use Rattle.traces.proofs.RowOrders.{refused-left, refused-right, passed-both}
 use Rattle.traces.proofs.Put.{put-put, put-over, put-length}
 use Rattle.traces.proofs.PutRecords.{word-length}
 use Rattle.traces.proofs.Putting.{rows-length}
-use Rattle.traces.proofs.Stable.{none-first, slot-stable}
+use Rattle.traces.proofs.Stable.{slot-stable}
 
 module _ {names times states : List ℕ} {n : ℕ} (out : List ℕ) where
   stopped :
@@ -108,7 +108,7 @@ module _ {names times states : List ℕ} {n k : ℕ} (g : NamesGood names times 
         no-18,
         inr (
           no-12,
-          refused-left (r .number) (r .place) (rowsOrder (count names) times states n) _
+          refused-first (rowsOrder (count names) times states n) _ (r .number) (r .place)
               (rw (g .counted) at (rw e at c)),
         ),
       ))
@@ -168,7 +168,7 @@ module _ {names times states : List ℕ} {n k : ℕ} (g : Good names times state
           no-18 (g .named),
           inr (
             no-12 (g .named),
-            refused-right 9 (s + n * (6 + k) + 6) (rowsOrder (count names) times states n) _ passed-rows
+            refused-then (rowsOrder (count names) times states n) _ 9 (s + n * (6 + k) + 6) passed-rows
                 (inl (refl, record { given = omega (arith, all-size); there = sym all-size })),
           ),
         ))

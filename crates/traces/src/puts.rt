@@ -31,7 +31,8 @@ pub fn put_word(out: &mut [u8], at: usize, x: u32)
 // The record of a name: n bytes of a list.
 pub fn put_name(names: &[u8], from: usize, n: usize, out: &mut [u8], at: usize)
     requires { ⌜ NameFits (now names) from n (now out) at ⌝ }
-    ensures { λ _. ⌜ Put (now (out .entry)) at (nameRecord (take n (drop from (now (names .entry))))) (now (out .exit)) ⌝ }
+    ensures { λ _.
+        ⌜ Put (now (out .entry)) at (nameRecord (take n (drop from (now (names .entry))))) (now (out .exit)) ⌝ }
 {
     put_mark(out, at, b'N', b'M');
     out[at + 2] = n as u8;

@@ -120,7 +120,8 @@ fn put_names(names: &[u8], k: usize, out: &mut [u8]) -> usize
 // Writes the records of n rows of k codes each.
 fn put_rows(k: usize, times: &[u32], states: &[u8], n: usize, out: &mut [u8], at: usize)
     requires { ⌜ RowsPut k (now times) (now states) n (now out) at ⌝ }
-    ensures { λ _. ⌜ Put (now (out .entry)) at (rowRecords k (now (times .entry)) (now (states .entry)) n) (now (out .exit)) ⌝ }
+    ensures { λ _.
+        ⌜ Put (now (out .entry)) at (rowRecords k (now (times .entry)) (now (states .entry)) n) (now (out .exit)) ⌝ }
 {
     let mut q = at;
     let mut from = 0;
@@ -144,7 +145,8 @@ fn write_good(
 ) -> Outcome
     requires { ⌜ Good (now names) (now times) (now states) n k ⌝ }
     ensures { λ r.
-        ⌜ Writes (now (names .entry)) (now (times .entry)) (now (states .entry)) n (now (out .entry)) (now (out .exit)) r ⌝ }
+        ⌜ Writes (now (names .entry)) (now (times .entry)) (now (states .entry)) n
+        (now (out .entry)) (now (out .exit)) r ⌝ }
 {
     let size = names_size(names, k) + n * (6 + k) + 6;
     if out.len() < size {
@@ -168,7 +170,8 @@ fn write_named(
 ) -> Outcome
     requires { ⌜ NamesGood (now names) (now times) (now states) n k ⌝ }
     ensures { λ r.
-        ⌜ Writes (now (names .entry)) (now (times .entry)) (now (states .entry)) n (now (out .entry)) (now (out .exit)) r ⌝ }
+        ⌜ Writes (now (names .entry)) (now (times .entry)) (now (states .entry)) n
+        (now (out .entry)) (now (out .exit)) r ⌝ }
 {
     match check_rows(k, times, states, n) {
         Outcome::Refused(r) => Outcome::Refused(r),
@@ -179,7 +182,8 @@ fn write_named(
 // Writes a trace file: names in slots, n times, and states row by row.
 pub fn write_trace(names: &[u8], times: &[u32], states: &[u8], n: usize, out: &mut [u8]) -> Outcome
     ensures { λ r.
-        ⌜ Writes (now (names .entry)) (now (times .entry)) (now (states .entry)) n (now (out .entry)) (now (out .exit)) r ⌝ }
+        ⌜ Writes (now (names .entry)) (now (times .entry)) (now (states .entry)) n
+        (now (out .entry)) (now (out .exit)) r ⌝ }
 {
     if !lists_fit(names, times, states, n) {
         return refuse(18, 0);

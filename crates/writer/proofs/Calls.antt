@@ -2,7 +2,7 @@
 -- Main names: held, delivered-long, delivered-short, delivered, refused-names, refused-tree, laid, lined, wrote,
 -- names-named, names-new, decoded.
 -- Assumes nothing.
-use Prim.Native.Nat.{ℕ, zero, suc, _+_, _*_, _/_, _<_, _≤_}
+use Prim.Native.Nat.{ℕ, _+_, _*_, _/_, _<_, _≤_}
 use native.Mathlib.Omega.{arith}
 use mathlib.Core.Path.{_≡_, refl, sym, ap, _∙_, subst}
 use mathlib.Core.Bool.{Bool, true, false, not}
@@ -21,10 +21,11 @@ use Rattle.alf.specs.Expressions.{Expression, ExpressionOver}
 use Rattle.alf.specs.Bytes.{bytesOf, Decodes}
 use Rattle.alf.proofs.Bools.{never}
 use Rattle.alf.proofs.Decoding.{bytes-decode, decode-over}
-use Rattle.alf.specs.Refusals.{At, First, RefusedWith, Passed, Comes}
+use Rattle.alf.specs.Refusals.{At, RefusedWith, Passed, Comes}
 use Rattle.grammar.specs.Written.{written}
 use Rattle.trees.specs.Parts.{Ends, isWhole, top, expressionAt}
 use Rattle.names.specs.Check.{namesOrder}
+use Rattle.names.proofs.Orders.{none-first}
 use Rattle.limits.specs.Accepted.{Accepted, Decides}
 use Rattle.writer.specs.Trees.{treeOf}
 use Rattle.writer.specs.Spelled.{text}
@@ -81,11 +82,6 @@ delivered {w} {out} h k p =
     }
 
 -- what checked names are: at most 32, names, and all different
-never-first : (so : ℕ → Type 0) → ((p : ℕ) → First so p → ⊥) → (n k : ℕ) → k < n → so k → ⊥
-never-first so f zero k h s = omega arith
-never-first so f (suc n) k h s =
-    f k (record { given = s; before = λ i l t. never-first so f n i (omega arith) t })
-
 module _ {names : List ℕ} (h : Named names) where
   pub names-few : length names / 32 ≤ 32
   unfolding Passed
@@ -103,11 +99,11 @@ module _ {names : List ℕ} (h : Named names) where
     where
       go : (b : Bool) → isName (nameAt names i) ≡ b → isName (nameAt names i) ≡ true
       go true e = e
-      go false e = absurd (never-first _ (h .passed .1 .0) (suc i) i (omega arith) (l, λ g. never (sym e ∙ g .named)))
+      go false e = absurd (none-first _ (h .passed .1 .0) i (l, λ g. never (sym e ∙ g .named)))
 
   pub names-new : (i : ℕ) → i < length names / 32 → (j : ℕ) → j < i → nameAt names j ≡ nameAt names i → ⊥
   unfolding Passed
-  names-new i l j k e = never-first _ (h .passed .1 .0) (suc i) i (omega arith) (l, λ g. g .new j k e)
+  names-new i l j k e = none-first _ (h .passed .1 .0) i (l, λ g. g .new j k e)
 
 -- the call's order: the names, 10, and the end
 abbrev done : List ℕ → List ℕ → ℕ → Type 0

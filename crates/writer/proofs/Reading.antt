@@ -9,14 +9,14 @@ use lib.ListN.{length, getD}
 use Rattle.alf.specs.Words.{all}
 use Rattle.alf.specs.States.{among}
 use Rattle.alf.specs.Names.{isLetter, isDecimal, startsName, goesOnName, isName, nameAt}
-use Rattle.alf.proofs.Bools.{never}
+use Rattle.alf.proofs.Bools.{and-left, and-right}
 use borrow.Author.Tests.{leb-true, leb-false, ltb-true, ne-eqb, not-true}
 use Rattle.tokens.specs.Classes.{isBlank, halfOf}
 use Rattle.tokens.specs.Spelling.{IsToken, spellings}
 use Rattle.tokens.specs.Taking.{Taken}
 use Rattle.tokens.specs.Texts.{Reads, tokenAt}
 use Rattle.tokens.specs.Texts as texts
-use Rattle.tokens.proofs.Ranges.{and-left, and-right, all-from, all-from-law}
+use Rattle.tokens.proofs.Ranges.{all-from, all-from-law}
 use Rattle.tokens.proofs.Bytes.{contrary}
 use Rattle.tokens.proofs.Search.{all-in, in-all}
 use Rattle.tokens.proofs.Shapes.{token-size}

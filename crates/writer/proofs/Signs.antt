@@ -13,12 +13,13 @@ use lib.Seq.{take-at, drop-at}
 use borrow.Author.Tests.{eqb-true, ltb-true}
 use Rattle.alf.specs.Names.{isLetter, isDecimal, startsName, goesOnName}
 use Rattle.alf.specs.States.{among}
+use Rattle.alf.proofs.Bools.{and-left, and-right}
 use Rattle.tokens.specs.declared.Step.{Step}
 use Rattle.tokens.specs.Classes.{halfOf}
 use Rattle.tokens.specs.Spelling.{spellings}
 use Rattle.tokens.specs.Taking.{nameBytes, Taken}
 use Rattle.tokens.specs.Steps.{starts, none, firstOf, nameStep, halfAt, basedStep, plainStep, stepOf}
-use Rattle.tokens.proofs.Ranges.{and-left, and-right, all-from, all-from-law}
+use Rattle.tokens.proofs.Ranges.{all-from, all-from-law}
 use Rattle.tokens.proofs.Right.{Right}
 use Rattle.tokens.proofs.Taking.{right}
 use Rattle.writer.specs.Spelled.{halfByte, literalSpelled, pairSpelled, operators, marks, prefixes, signSpelled}

@@ -11,12 +11,13 @@ use lib.Seq.{length-take-le}
 use borrow.Author.Tests.{eqb-true, ltb-true, ltb-false, lt-ltb, le-ltb, ne-eqb}
 use Rattle.alf.specs.Words.{if_then_else_}
 use Rattle.alf.specs.Names.{untilZero, slot, nameAt}
-use Rattle.alf.proofs.Bools.{never}
+use Rattle.alf.proofs.Bools.{and-left, and-right}
 use Rattle.names.specs.Check.{NameLength}
 use Rattle.names.proofs.Slots.{slot-part}
 use Rattle.tokens.specs.Spelling.{based}
 use Rattle.tokens.specs.Inner.{wordOf}
-use Rattle.tokens.proofs.Ranges.{and-left, and-right, all-from, all-from-law}
+use Rattle.tokens.proofs.Ranges.{all-from, all-from-law}
+use Rattle.tokens.proofs.Table.{same, same-law}
 use Rattle.writer.specs.Spelled.{halfByte, literalSpelled, pairSpelled, operators, marks, prefixes, signSpelled}
 use Rattle.writer.specs.Signs.{word, markAt}
 use Rattle.writer.specs.Inner.{Put, Room, Copying, Naming, Halving, Pairing, Wording}
@@ -40,21 +41,6 @@ half-at h k = all-from-law (λ c. eqb (getD halves c 0) (halfByte c)) 0 9 h refl
 pub half-table : (h : ℕ) → h < 9 → getD halves h 0 ≡ halfByte h
 half-table h k = eqb-true _ _ (half-at h k)
 
--- two lists are the same, as a test
-same : List ℕ → List ℕ → Bool
-same [] [] = true
-same [] (y ∷ ys) = false
-same (x ∷ xs) [] = false
-same (x ∷ xs) (y ∷ ys) = eqb x y && same xs ys
-
-same-sound : (xs ys : List ℕ) → same xs ys ≡ true → xs ≡ ys
-unfolding same
-same-sound [] [] h = refl
-same-sound [] (y ∷ ys) h = never h
-same-sound (x ∷ xs) [] h = never h
-same-sound (x ∷ xs) (y ∷ ys) h =
-    rw (eqb-true x y (and-left (eqb x y) _ h), same-sound xs ys (and-right (eqb x y) _ h))
-
 abbrev bytes : List ℕ
 bytes =
     38 ∷ 0 ∷ 0 ∷ 124 ∷ 0 ∷ 0 ∷ 94 ∷ 0 ∷ 0 ∷ 126 ∷ 94 ∷ 0 ∷ 61 ∷ 61 ∷ 0 ∷ 33 ∷ 61 ∷ 0 ∷ 62 ∷ 0 ∷ 0 ∷ 60 ∷ 0 ∷ 0 ∷
@@ -68,7 +54,7 @@ right-mark : ℕ → Bool
 right-mark c = same (marked c) (signSpelled c)
 
 marks-right : (all-from right-mark 40 14 && (all-from right-mark 60 4 && all-from right-mark 145 3)) ≡ true
-unfolding right-mark same markAt wordOf signSpelled operators marks prefixes pairSpelled literalSpelled halfByte
+unfolding right-mark markAt wordOf signSpelled operators marks prefixes pairSpelled literalSpelled halfByte
 marks-right = refl
 
 mark-right : (c : ℕ) → 40 ≤ c → c < 148 → (54 ≤ c → 60 ≤ c) → (64 ≤ c → 145 ≤ c) → right-mark c ≡ true
@@ -90,7 +76,7 @@ mark-right c l k f g = go (ltb c 54) (ltb c 64) refl refl
 
 pub mark-bytes : {c : ℕ} {out : List ℕ} {at : ℕ} → Marking c out at → marked c ≡ signSpelled c
 unfolding right-mark
-mark-bytes {c} h = same-sound _ _ (mark-right c (h .low) (h .known) (h .apart) (h .unpaired))
+mark-bytes {c} h = same-law _ _ (mark-right c (h .low) (h .known) (h .apart) (h .unpaired))
 
 small-mark : ℕ → Bool
 small-mark c = ltb (markAt c) 21

@@ -10,10 +10,9 @@ use lib.ListN.{length}
 use borrow.Author.Tests.{eqb-true, ltb-true, ne-eqb, le-leb}
 use Rattle.alf.specs.Words.{if_then_else_, all}
 use Rattle.alf.specs.Names.{isLetter, isDecimal, startsName, goesOnName, isName, nameAt}
-use Rattle.alf.proofs.Bools.{never}
+use Rattle.alf.proofs.Bools.{never, and-left, and-right}
 use Rattle.tokens.specs.Taking.{nameBytes, Taken}
 use Rattle.tokens.specs.Steps.{nameStep, stepOf, step}
-use Rattle.tokens.proofs.Ranges.{and-left, and-right}
 use Rattle.grammar.specs.declared.Token.{Token}
 use Rattle.writer.specs.Trees.{named}
 use Rattle.writer.specs.Spelled.{signSpelled, spelled}

@@ -1,4 +1,5 @@
 // An expression's tree as text: one blank between all tokens, only needed brackets.
+mod halves;
 mod layout;
 mod puts;
 mod spells;

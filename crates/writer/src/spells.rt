@@ -1,20 +1,17 @@
 // A sign's spelling, and some signs' with one blank between them.
+use crate::halves::put_literal;
+use crate::halves::put_pair;
 use crate::puts::push;
 use names::name_len;
 ghost use mathlib.Core.Path.{_≡_};
-ghost use mathlib.Core.List.{[], _∷_, _++_};
-ghost use Prim.Native.Nat.{_≤_, _<_};
-ghost use lib.ListN.{length, take};
+ghost use Prim.Native.Nat.{_≤_};
+ghost use lib.ListN.{take};
 ghost use Rattle.alf.specs.Names.{nameAt};
-ghost use Rattle.tokens.specs.Spelling.{based};
 ghost use Rattle.tokens.specs.Inner.{wordOf};
-ghost use Rattle.writer.specs.Spelled.{halfByte, literalSpelled, pairSpelled, signSpelled};
+ghost use Rattle.writer.specs.Spelled.{signSpelled};
 ghost use Rattle.writer.specs.Signs.{word, markAt, gap};
-ghost use Rattle.writer.specs.Inner.{Put, Room, Roomy, Copying, Naming, Halving, Pairing};
+ghost use Rattle.writer.specs.Inner.{Put, Room, Roomy, Copying, Naming};
 ghost use Rattle.writer.specs.Inner.{Wording, Marking, Lining, Lined};
-
-// `? 0 1 X H L W Z U`
-const HALVES: [u8; 9] = [63, 48, 49, 88, 72, 76, 87, 90, 85];
 
 // Up to three bytes, then zeros: & | ^ ~^ == != > < >= <= -> <-> &> <&> ? : ( ) ?! ?- !
 const MARKS: [u8; 63] = [
@@ -105,56 +102,6 @@ fn put_name(names: &[u8], i: usize, out: &mut [u8], at: usize) -> usize
     let to = from + 32;
     let n = name_len(&names[from..to]);
     put_bytes(&names[from..to], n, out, at)
-}
-
-fn put_half(h: u8, out: &mut [u8], at: usize) -> usize
-    requires { ⌜ Halving h (now out) at (halfByte h ∷ []) ⌝ }
-    ensures { λ r. ⌜ Put (now (out .entry)) at (halfByte h ∷ []) (now (out .exit)) r ⌝ }
-{
-    push(out, at, HALVES[h as usize])
-}
-
-fn put_based(h: u8, out: &mut [u8], at: usize) -> usize
-    requires { ⌜ Halving h (now out) at (based (halfByte h)) ⌝ }
-    ensures { λ r. ⌜ Put (now (out .entry)) at (based (halfByte h)) (now (out .exit)) r ⌝ }
-{
-    let p = push(out, at, 39);
-    let q = push(out, p, 98);
-    put_half(h, out, q)
-}
-
-fn put_literal(h: u8, out: &mut [u8], at: usize) -> usize
-    requires { ⌜ Halving h (now out) at (literalSpelled h) ⌝ }
-    ensures { λ r. ⌜ Put (now (out .entry)) at (literalSpelled h) (now (out .exit)) r ⌝ }
-{
-    if h < 3 {
-        return put_half(h, out, at);
-    }
-    put_based(h, out, at)
-}
-
-// Both halves based.
-fn put_wide(f: u8, t: u8, out: &mut [u8], at: usize) -> usize
-    requires { ⌜ Pairing f t (now out) at (based (halfByte f) ++ based (halfByte t)) ⌝ }
-    ensures { λ r. ⌜ Put (now (out .entry)) at (based (halfByte f) ++ based (halfByte t)) (now (out .exit)) r ⌝ }
-{
-    let p = put_based(f, out, at);
-    put_based(t, out, p)
-}
-
-// An edge of two halves.
-fn put_pair(f: u8, t: u8, out: &mut [u8], at: usize) -> usize
-    requires { ⌜ Pairing f t (now out) at (pairSpelled f t) ⌝ }
-    ensures { λ r. ⌜ Put (now (out .entry)) at (pairSpelled f t) (now (out .exit)) r ⌝ }
-{
-    if 3 <= f {
-        return put_wide(f, t, out, at);
-    }
-    if 3 <= t {
-        return put_wide(f, t, out, at);
-    }
-    let p = put_half(f, out, at);
-    put_half(t, out, p)
 }
 
 // Up to three bytes, with zeros behind them.

@@ -26,7 +26,8 @@ correct-tree-requires : tie.Need-correct-tree-requires
 correct-tree-requires c κs =
     let c4 = c .before .before .before .before in
     let c7 = c4 .before .before .before in
-    correction-asked (c7 .before .before .before .before .before .before .args .answers .now) (c7 .before .correction-fits .ensures) (c7 .accepts .ensures)
+    correction-asked (c7 .before .before .before .before .before .before .args .answers .now)
+    (c7 .before .correction-fits .ensures) (c7 .accepts .ensures)
     (c4 .judge-correction .ensures) (c .before .before .enum-told .given .1)
 
 same-length : tie.Need-same-length
@@ -36,7 +37,8 @@ returns : tie.Need-returns
 returns c =
     let c3 = c .before .before .before in
     let c6 = c3 .before .before .before in
-    correction-refused (c6 .before .before .before .before .before .before .args .answers .now) (c6 .before .correction-fits .ensures) (c6 .accepts .ensures)
+    correction-refused (c6 .before .before .before .before .before .before .args .answers .now)
+    (c6 .before .correction-fits .ensures) (c6 .accepts .ensures)
     (c3 .judge-correction .ensures) (c .before .v .given .1)
 
 same-length-2 : tie.Need-same-length-2
@@ -51,7 +53,8 @@ returns-2 c =
     let c7 = c4 .before .before .before in
     let c9 = c7 .before .before in
     let c12 = c9 .before .before .before in
-    correction-told (c12 .before .before .before .before .before .before .args .answers .now) (c12 .before .correction-fits .ensures) (c12 .accepts .ensures)
+    correction-told (c12 .before .before .before .before .before .before .args .answers .now)
+    (c12 .before .correction-fits .ensures) (c12 .accepts .ensures)
     (c9 .judge-correction .ensures) (c7 .enum-told .given .1) (c4 .correct-tree .ensures)
 
 pub correct-spec : {M : Type 1} → statement M

@@ -69,7 +69,8 @@ same-length-2 c = search needs
 returns : tie.Need-returns
 returns c =
     let c4 = c .before .before .before .before in
-    tree-corrects (c4 .before .before .before .before .before .before .before .before .before .before .before .alternatives-of .ensures) (c4 .correct .ensures)
+    let c15 = c4 .before .before .before .before .before .before .before .before .before .before .before in
+    tree-corrects (c15 .alternatives-of .ensures) (c4 .correct .ensures)
 
 pub correct-tree-spec : {M : Type 1} → statement M
 correct-tree-spec =

@@ -21,7 +21,8 @@ returns c = match-refused (c .before .before .before .check-row .ensures) (c .be
 
 returns-2 : tie.Need-returns-2
 returns-2 c =
-    match-told (c .before .before .before .check-row .ensures) (c .before .enum-told .given .1) (c .match-tree .ensures)
+    match-told (c .before .before .before .check-row .ensures) (c .before .enum-told .given .1)
+    (c .match-tree .ensures)
 
 pub match-row-spec : {M : Type 1} → statement M
 match-row-spec =

@@ -62,7 +62,9 @@ match-row-requires c κs = search needs
 
 returns : tie.Need-returns
 returns c =
-    tree-matches (c .before .before .before .before .before .before .before .before .before .alternatives-of .ensures) (c .match-row .ensures)
+    tree-matches
+    (c .before .before .before .before .before .before .before .before .before .alternatives-of .ensures)
+    (c .match-row .ensures)
 
 pub match-tree-spec : {M : Type 1} → statement M
 match-tree-spec =

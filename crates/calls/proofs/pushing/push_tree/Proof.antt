@@ -59,11 +59,15 @@ slice-aggregate-push-4 c =
     front-length _ e (a .ensures .few-tests)
 
 push-requires : tie.Need-push-requires
-push-requires c κs = push-asked (c .before .before .before .before .before .before .before .before .before .before .before .pre) (c .before .before .before .before .before .before .before .before .alternatives-of .ensures)
+push-requires c κs =
+    push-asked (c .before .before .before .before .before .before .before .before .before .before .before .pre)
+    (c .before .before .before .before .before .before .before .before .alternatives-of .ensures)
 
 returns : tie.Need-returns
 returns c =
-    tree-pushes (c .before .before .before .before .before .before .before .before .before .alternatives-of .ensures) (c .push .ensures)
+    tree-pushes
+    (c .before .before .before .before .before .before .before .before .before .alternatives-of .ensures)
+    (c .push .ensures)
 
 pub push-tree-spec : {M : Type 1} → statement M
 push-tree-spec =

@@ -27,7 +27,13 @@ same-requires c κs = search needs
 add-k : tie.Need-add-k Inv-loop μ-loop
 add-k c =
     let c3 = c .before .before .before in
-    omega (arith, counting-small (c3 .loop .inv), c .same .ensures, one-small (eqb (getD (c3 .before .before .args .answers .now) (c3 .loop .i) 0) (c3 .before .before .args .a)))
+    omega (
+      arith,
+      counting-small (c3 .loop .inv),
+      c .same .ensures,
+      one-small (eqb (getD
+          (c3 .before .before .args .answers .now) (c3 .loop .i) 0) (c3 .before .before .args .a)),
+    )
 
 add-i : tie.Need-add-i Inv-loop μ-loop
 add-i c = omega arith

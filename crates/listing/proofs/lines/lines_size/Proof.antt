@@ -42,7 +42,14 @@ add-size c =
     let c3 = c .before .before .before in
     let c4 = c3 .before in
     let c7 = c4 .before .before .before in
-    omega (arith, c4 .loop .inv .few, c .line-size .ensures .few, c3 .loop-test .taken, c7 .pre .lists .same, c7 .pre .lists .rows .1)
+    omega (
+      arith,
+      c4 .loop .inv .few,
+      c .line-size .ensures .few,
+      c3 .loop-test .taken,
+      c7 .pre .lists .same,
+      c7 .pre .lists .rows .1,
+    )
 
 add-i : tie.Need-add-i Inv-loop μ-loop
 add-i c = omega arith
@@ -58,7 +65,8 @@ loop-again c =
     let c3 = c2 .before in
     let c4 = c3 .before in
     let c7 = c4 .before .before .before in
-    sizing-next (c7 .pre .lists .same) (c4 .loop .inv) (c3 .loop-test .taken) (c2 .stamp-of .ensures) refl (c .line-size .ensures)
+    sizing-next (c7 .pre .lists .same) (c4 .loop .inv) (c3 .loop-test .taken) (c2 .stamp-of .ensures) refl
+    (c .line-size .ensures)
 
 returns : tie.Need-returns Inv-loop μ-loop
 returns c =

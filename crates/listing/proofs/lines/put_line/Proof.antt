@@ -3,7 +3,7 @@ use native.Mathlib.Omega.{arith}
 use borrow.Author.Needs.{needs}
 use Rattle.writer.proofs.Going.{going-room, going-on, going-end}
 use Rattle.listing.specs.Text.{bytes}
-use Rattle.listing.proofs.Sizes.{line-start}
+use Rattle.listing.proofs.Starts.{line-start}
 use Rattle.listing.proofs.lines.put_line.Statement.{statement}
 use Rattle.listing.proofs.lines.put_line.Tie as tie
 

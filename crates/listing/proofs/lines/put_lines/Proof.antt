@@ -5,7 +5,7 @@ use mathlib.Core.List.{[], _∷_}
 use lib.ListN.{length, getD, drop}
 use Rattle.writer.proofs.Going.{Going, going-on, going-length}
 use Rattle.listing.specs.Listing.{lines}
-use Rattle.listing.proofs.Sizes.{rows-start, rows-going, rows-done, row-asked, row-put}
+use Rattle.listing.proofs.Starts.{rows-start, rows-going, rows-done, row-asked, row-put}
 use Rattle.listing.proofs.lines.put_lines.Statement.{statement}
 use Rattle.listing.proofs.lines.put_lines.Tie as tie
 
@@ -63,8 +63,11 @@ loop-again c =
     let c6 = c5 .before in
     let c7 = c6 .before in
     let c11 = c7 .before .before .before .before in
-    let g = rows-going _ _ _ (c11 .pre .listable .lists .same) (c6 .loop-test .taken) (c7 .loop .inv .1) in
-    (omega (arith, c6 .loop-test .taken), going-on g (row-put (c11 .args .times .now) (c7 .loop .i) (getD (c11 .args .answers .now) (c7 .loop .i) 0) (c5 .stamp-of .ensures) (c2 .put-line .ensures)))
+    let g = rows-going _ _ _ (c11 .pre .listable .lists .same) (c6 .loop-test .taken) (c7 .loop .inv .1) in (
+      omega (arith, c6 .loop-test .taken),
+      going-on g (row-put (c11 .args .times .now) (c7 .loop .i) (getD
+          (c11 .args .answers .now) (c7 .loop .i) 0) (c5 .stamp-of .ensures) (c2 .put-line .ensures)),
+    )
 
 same-length : tie.Need-same-length Inv-loop μ-loop
 same-length c =

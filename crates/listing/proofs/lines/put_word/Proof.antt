@@ -4,7 +4,7 @@ use mathlib.Core.Path.{sym}
 use Rattle.writer.proofs.Spelling.{put-as}
 use Rattle.listing.specs.Text.{bytes}
 use Rattle.listing.proofs.Parts.{last-number}
-use Rattle.listing.proofs.Sizes.{word-0, word-1, word-2, word-3, room-as}
+use Rattle.listing.proofs.Starts.{word-0, word-1, word-2, word-3, room-as}
 use Rattle.listing.proofs.lines.put_word.Statement.{statement}
 use Rattle.listing.proofs.lines.put_word.Tie as tie
 
@@ -78,7 +78,8 @@ put-requires-4 c κs =
     let c3 = c2 .before in
     let c4 = c3 .before in
     let c6 = c4 .before .before in
-    room-as (c6 .args .out .now) (c6 .args .at) (word-3 (last-number (c6 .pre .known) (c4 .if1 .left) (c3 .if2 .left) (c2 .if3 .left))) (c6 .pre .room)
+    room-as (c6 .args .out .now) (c6 .args .at) (word-3 (last-number (c6 .pre .known) (c4 .if1 .left)
+    (c3 .if2 .left) (c2 .if3 .left))) (c6 .pre .room)
 
 same-length-4 : tie.Need-same-length-4
 same-length-4 c = search needs
@@ -91,7 +92,8 @@ returns-4 c =
     let c6 = c5 .before in
     let c7 = c6 .before in
     let c9 = c7 .before .before in
-    put-as (sym (word-3 (last-number (c9 .pre .known) (c7 .if1 .left) (c6 .if2 .left) (c5 .if3 .left)))) (c2 .put4 .ensures)
+    put-as (sym (word-3 (last-number (c9 .pre .known) (c7 .if1 .left) (c6 .if2 .left) (c5 .if3 .left))))
+    (c2 .put4 .ensures)
 
 pub put-word-spec : {M : Type 1} → statement M
 put-word-spec =

@@ -22,7 +22,8 @@ returns-3 c = rw (c .if3 .taken) (record { is = refl; few = omega arith })
 returns-4 : tie.Need-returns-4
 unfolding word bytes
 returns-4 c =
-    let e = last-number (c .before .before .before .pre) (c .before .before .if1 .left) (c .before .if2 .left) (c .if3 .left) in
+    let e = last-number (c .before .before .before .pre) (c .before .before .if1 .left) (c .before .if2 .left)
+    (c .if3 .left) in
     rw e (record { is = refl; few = omega arith })
 
 pub word-size-spec : {M : Type 1} → statement M

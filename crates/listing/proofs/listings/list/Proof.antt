@@ -30,7 +30,8 @@ returns-2 c =
     let c2 = c1 .before in
     let c3 = c2 .before in
     let c4 = c3 .before in
-    refused-15 _ _ (told-true (c4 .lists-fit .ensures) (not-false _ (c3 .if1 .left))) (c2 .first-bad .ensures) (c1 .if2 .taken) (c .refuse2 .ensures)
+    refused-15 _ _ (told-true (c4 .lists-fit .ensures) (not-false _ (c3 .if1 .left))) (c2 .first-bad .ensures)
+    (c1 .if2 .taken) (c .refuse2 .ensures)
 
 write-listing-requires : tie.Need-write-listing-requires
 write-listing-requires c κs =
@@ -38,7 +39,8 @@ write-listing-requires c κs =
     let c2 = c1 .before in
     let c3 = c2 .before in
     let c4 = c3 .before in
-    listable _ _ (told-true (c4 .lists-fit .ensures) (not-false _ (c3 .if1 .left))) (c2 .first-bad .ensures) (c1 .if2 .left)
+    listable _ _ (told-true (c4 .lists-fit .ensures) (not-false _ (c3 .if1 .left))) (c2 .first-bad .ensures)
+    (c1 .if2 .left)
 
 same-length : tie.Need-same-length
 same-length c = search needs

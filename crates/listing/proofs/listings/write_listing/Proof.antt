@@ -59,7 +59,9 @@ returns c =
     let c5 = c4 .before in
     let c6 = c5 .before in
     let c10 = c6 .before .before .before .before in
-    listed _ _ (c10 .pre) (short (listing-size (c10 .args .times .now) (c10 .args .answers .now) (c6 .count-of .ensures) (c5 .count-of2 .ensures) (c4 .count-of3 .ensures) (c3 .lines-size .ensures) (c2 .last-size .ensures)) (c1 .if1 .taken) (c .refuse .ensures))
+    listed _ _ (c10 .pre) (short (listing-size (c10 .args .times .now) (c10 .args .answers .now)
+    (c6 .count-of .ensures) (c5 .count-of2 .ensures) (c4 .count-of3 .ensures) (c3 .lines-size .ensures)
+    (c2 .last-size .ensures)) (c1 .if1 .taken) (c .refuse .ensures))
 
 slice-aggregate-put : tie.Need-slice-aggregate-put
 slice-aggregate-put c = search needs
@@ -74,7 +76,10 @@ put-requires c κs =
     let c6 = c5 .before in
     let c7 = c6 .before in
     let c11 = c7 .before .before .before .before in
-    let g = listing-start (c11 .args .times .now) (c11 .args .answers .now) (c7 .count-of .ensures) (c6 .count-of2 .ensures) (c5 .count-of3 .ensures) (c11 .args .out .now) (listing-size (c11 .args .times .now) (c11 .args .answers .now) (c7 .count-of .ensures) (c6 .count-of2 .ensures) (c5 .count-of3 .ensures) (c4 .lines-size .ensures) (c3 .last-size .ensures)) (c2 .if1 .left) in
+    let g = listing-start (c11 .args .times .now) (c11 .args .answers .now) (c7 .count-of .ensures)
+    (c6 .count-of2 .ensures) (c5 .count-of3 .ensures) (c11 .args .out .now) (listing-size
+    (c11 .args .times .now) (c11 .args .answers .now) (c7 .count-of .ensures) (c6 .count-of2 .ensures)
+    (c5 .count-of3 .ensures) (c4 .lines-size .ensures) (c3 .last-size .ensures)) (c2 .if1 .left) in
     going-room g
 
 put-lines-requires : tie.Need-put-lines-requires
@@ -88,7 +93,10 @@ put-lines-requires c κs =
     let c10 = c9 .before in
     let c11 = c10 .before in
     let c15 = c11 .before .before .before .before in
-    let g = listing-start (c15 .args .times .now) (c15 .args .answers .now) (c11 .count-of .ensures) (c10 .count-of2 .ensures) (c9 .count-of3 .ensures) (c15 .args .out .now) (listing-size (c15 .args .times .now) (c15 .args .answers .now) (c11 .count-of .ensures) (c10 .count-of2 .ensures) (c9 .count-of3 .ensures) (c8 .lines-size .ensures) (c7 .last-size .ensures)) (c6 .if1 .left) in
+    let g = listing-start (c15 .args .times .now) (c15 .args .answers .now) (c11 .count-of .ensures)
+    (c10 .count-of2 .ensures) (c9 .count-of3 .ensures) (c15 .args .out .now) (listing-size
+    (c15 .args .times .now) (c15 .args .answers .now) (c11 .count-of .ensures) (c10 .count-of2 .ensures)
+    (c9 .count-of3 .ensures) (c8 .lines-size .ensures) (c7 .last-size .ensures)) (c6 .if1 .left) in
     let g1 = going-on g (c3 .put .ensures) in
     record { listable = c15 .pre; room = going-room g1 }
 
@@ -104,7 +112,10 @@ put-last-requires c κs =
     let c14 = c13 .before in
     let c15 = c14 .before in
     let c19 = c15 .before .before .before .before in
-    let g = listing-start (c19 .args .times .now) (c19 .args .answers .now) (c15 .count-of .ensures) (c14 .count-of2 .ensures) (c13 .count-of3 .ensures) (c19 .args .out .now) (listing-size (c19 .args .times .now) (c19 .args .answers .now) (c15 .count-of .ensures) (c14 .count-of2 .ensures) (c13 .count-of3 .ensures) (c12 .lines-size .ensures) (c11 .last-size .ensures)) (c10 .if1 .left) in
+    let g = listing-start (c19 .args .times .now) (c19 .args .answers .now) (c15 .count-of .ensures)
+    (c14 .count-of2 .ensures) (c13 .count-of3 .ensures) (c19 .args .out .now) (listing-size
+    (c19 .args .times .now) (c19 .args .answers .now) (c15 .count-of .ensures) (c14 .count-of2 .ensures)
+    (c13 .count-of3 .ensures) (c12 .lines-size .ensures) (c11 .last-size .ensures)) (c10 .if1 .left) in
     let g1 = going-on g (c7 .put .ensures) in
     let g2 = going-on g1 (c3 .put-lines .ensures) in
     going-room g2
@@ -125,11 +136,16 @@ returns-2 c =
     let c17 = c16 .before in
     let c18 = c17 .before in
     let c22 = c18 .before .before .before .before in
-    let g = listing-start (c22 .args .times .now) (c22 .args .answers .now) (c18 .count-of .ensures) (c17 .count-of2 .ensures) (c16 .count-of3 .ensures) (c22 .args .out .now) (listing-size (c22 .args .times .now) (c22 .args .answers .now) (c18 .count-of .ensures) (c17 .count-of2 .ensures) (c16 .count-of3 .ensures) (c15 .lines-size .ensures) (c14 .last-size .ensures)) (c13 .if1 .left) in
+    let g = listing-start (c22 .args .times .now) (c22 .args .answers .now) (c18 .count-of .ensures)
+    (c17 .count-of2 .ensures) (c16 .count-of3 .ensures) (c22 .args .out .now) (listing-size
+    (c22 .args .times .now) (c22 .args .answers .now) (c18 .count-of .ensures) (c17 .count-of2 .ensures)
+    (c16 .count-of3 .ensures) (c15 .lines-size .ensures) (c14 .last-size .ensures)) (c13 .if1 .left) in
     let g1 = going-on g (c10 .put .ensures) in
     let g2 = going-on g1 (c6 .put-lines .ensures) in
     let g3 = going-on g2 (c2 .put-last .ensures) in
-    listed _ _ (c22 .pre) (delivered (listing-size (c22 .args .times .now) (c22 .args .answers .now) (c18 .count-of .ensures) (c17 .count-of2 .ensures) (c16 .count-of3 .ensures) (c15 .lines-size .ensures) (c14 .last-size .ensures)) (c13 .if1 .left) (going-end g3))
+    listed _ _ (c22 .pre) (delivered (listing-size (c22 .args .times .now) (c22 .args .answers .now)
+    (c18 .count-of .ensures) (c17 .count-of2 .ensures) (c16 .count-of3 .ensures) (c15 .lines-size .ensures)
+    (c14 .last-size .ensures)) (c13 .if1 .left) (going-end g3))
 
 pub write-listing-spec : {M : Type 1} → statement M
 write-listing-spec =

@@ -81,7 +81,8 @@ put-digits-push-requires t c κs =
     let c4 = c .before .before .before .before in
     let c6 = c4 .before .before in
     let c8 = c6 .before .before in
-    digits-push (c8 .args .n) (c8 .args .out .now) (c8 .args .at) (c6 .if1 .left) (c8 .pre .1) (c4 .put-digits .ensures)
+    digits-push (c8 .args .n) (c8 .args .out .now) (c8 .args .at) (c6 .if1 .left) (c8 .pre .1)
+    (c4 .put-digits .ensures)
 
 put-digits-same-length : (t : ℕ) → put-digits-lts.Need-same-length (
   put-digits-below t,

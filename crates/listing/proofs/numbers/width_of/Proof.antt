@@ -25,7 +25,15 @@ loop-less : tie.Need-loop-less Inv-loop μ-loop
 loop-less c = omega arith
 
 loop-again : tie.Need-loop-again Inv-loop μ-loop
-loop-again c = (omega arith, omega (arith, c .before .loop .inv, width-more (c .before .loop .m) (c .loop-test .taken)))
+loop-again c = (
+  omega arith,
+  omega (
+    arith,
+    c .before .loop .inv,
+    width-more (c .before .loop .m)
+        (c .loop-test .taken),
+  ),
+)
 
 returns : tie.Need-returns Inv-loop μ-loop
 returns c =

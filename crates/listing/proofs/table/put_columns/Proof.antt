@@ -3,7 +3,7 @@ use native.Mathlib.Omega.{arith}
 use borrow.Author.Needs.{needs}
 use Rattle.writer.proofs.Going.{going-room, going-on, going-end}
 use Rattle.listing.specs.Text.{bytes}
-use Rattle.listing.proofs.Sizes.{columns-start}
+use Rattle.listing.proofs.Starts.{columns-start}
 use Rattle.listing.proofs.table.put_columns.Statement.{statement}
 use Rattle.listing.proofs.table.put_columns.Tie as tie
 
@@ -11,7 +11,8 @@ put-decimal-requires : tie.Need-put-decimal-requires
 unfolding bytes
 put-decimal-requires c κs =
     let c2 = c .before .before in
-    let g = columns-start (c2 .args .yes) (c2 .args .unknown) (c2 .args .no) (c2 .args .n) (c2 .args .out .now) (c2 .args .at) (c2 .pre) in
+    let g = columns-start (c2 .args .yes) (c2 .args .unknown) (c2 .args .no) (c2 .args .n) (c2 .args .out .now)
+    (c2 .args .at) (c2 .pre) in
     going-room g
 
 push-requires : tie.Need-push-requires
@@ -19,7 +20,8 @@ unfolding bytes
 push-requires c κs =
     let c3 = c .before .before .before in
     let c6 = c3 .before .before .before in
-    let g = columns-start (c6 .args .yes) (c6 .args .unknown) (c6 .args .no) (c6 .args .n) (c6 .args .out .now) (c6 .args .at) (c6 .pre) in
+    let g = columns-start (c6 .args .yes) (c6 .args .unknown) (c6 .args .no) (c6 .args .n) (c6 .args .out .now)
+    (c6 .args .at) (c6 .pre) in
     let g1 = going-on g (c3 .put-decimal .ensures) in
     let r = going-room g1 in omega arith
 
@@ -29,7 +31,8 @@ put-share-requires c κs =
     let c3 = c .before .before .before in
     let c7 = c3 .before .before .before .before in
     let c10 = c7 .before .before .before in
-    let g = columns-start (c10 .args .yes) (c10 .args .unknown) (c10 .args .no) (c10 .args .n) (c10 .args .out .now) (c10 .args .at) (c10 .pre) in
+    let g = columns-start (c10 .args .yes) (c10 .args .unknown) (c10 .args .no) (c10 .args .n)
+    (c10 .args .out .now) (c10 .args .at) (c10 .pre) in
     let g1 = going-on g (c7 .put-decimal .ensures) in
     let g2 = going-on g1 (c3 .push .ensures) in
     going-room g2
@@ -41,7 +44,8 @@ push-requires-2 c κs =
     let c7 = c3 .before .before .before .before in
     let c11 = c7 .before .before .before .before in
     let c14 = c11 .before .before .before in
-    let g = columns-start (c14 .args .yes) (c14 .args .unknown) (c14 .args .no) (c14 .args .n) (c14 .args .out .now) (c14 .args .at) (c14 .pre) in
+    let g = columns-start (c14 .args .yes) (c14 .args .unknown) (c14 .args .no) (c14 .args .n)
+    (c14 .args .out .now) (c14 .args .at) (c14 .pre) in
     let g1 = going-on g (c11 .put-decimal .ensures) in
     let g2 = going-on g1 (c7 .push .ensures) in
     let g3 = going-on g2 (c3 .put-share .ensures) in
@@ -55,7 +59,8 @@ put-decimal-requires-2 c κs =
     let c11 = c7 .before .before .before .before in
     let c15 = c11 .before .before .before .before in
     let c18 = c15 .before .before .before in
-    let g = columns-start (c18 .args .yes) (c18 .args .unknown) (c18 .args .no) (c18 .args .n) (c18 .args .out .now) (c18 .args .at) (c18 .pre) in
+    let g = columns-start (c18 .args .yes) (c18 .args .unknown) (c18 .args .no) (c18 .args .n)
+    (c18 .args .out .now) (c18 .args .at) (c18 .pre) in
     let g1 = going-on g (c15 .put-decimal .ensures) in
     let g2 = going-on g1 (c11 .push .ensures) in
     let g3 = going-on g2 (c7 .put-share .ensures) in
@@ -71,7 +76,8 @@ push-requires-3 c κs =
     let c15 = c11 .before .before .before .before in
     let c19 = c15 .before .before .before .before in
     let c22 = c19 .before .before .before in
-    let g = columns-start (c22 .args .yes) (c22 .args .unknown) (c22 .args .no) (c22 .args .n) (c22 .args .out .now) (c22 .args .at) (c22 .pre) in
+    let g = columns-start (c22 .args .yes) (c22 .args .unknown) (c22 .args .no) (c22 .args .n)
+    (c22 .args .out .now) (c22 .args .at) (c22 .pre) in
     let g1 = going-on g (c19 .put-decimal .ensures) in
     let g2 = going-on g1 (c15 .push .ensures) in
     let g3 = going-on g2 (c11 .put-share .ensures) in
@@ -89,7 +95,8 @@ put-decimal-requires-3 c κs =
     let c19 = c15 .before .before .before .before in
     let c23 = c19 .before .before .before .before in
     let c26 = c23 .before .before .before in
-    let g = columns-start (c26 .args .yes) (c26 .args .unknown) (c26 .args .no) (c26 .args .n) (c26 .args .out .now) (c26 .args .at) (c26 .pre) in
+    let g = columns-start (c26 .args .yes) (c26 .args .unknown) (c26 .args .no) (c26 .args .n)
+    (c26 .args .out .now) (c26 .args .at) (c26 .pre) in
     let g1 = going-on g (c23 .put-decimal .ensures) in
     let g2 = going-on g1 (c19 .push .ensures) in
     let g3 = going-on g2 (c15 .put-share .ensures) in
@@ -109,7 +116,8 @@ push-requires-4 c κs =
     let c23 = c19 .before .before .before .before in
     let c27 = c23 .before .before .before .before in
     let c30 = c27 .before .before .before in
-    let g = columns-start (c30 .args .yes) (c30 .args .unknown) (c30 .args .no) (c30 .args .n) (c30 .args .out .now) (c30 .args .at) (c30 .pre) in
+    let g = columns-start (c30 .args .yes) (c30 .args .unknown) (c30 .args .no) (c30 .args .n)
+    (c30 .args .out .now) (c30 .args .at) (c30 .pre) in
     let g1 = going-on g (c27 .put-decimal .ensures) in
     let g2 = going-on g1 (c23 .push .ensures) in
     let g3 = going-on g2 (c19 .put-share .ensures) in
@@ -134,7 +142,8 @@ returns c =
     let c26 = c22 .before .before .before .before in
     let c30 = c26 .before .before .before .before in
     let c33 = c30 .before .before .before in
-    let g = columns-start (c33 .args .yes) (c33 .args .unknown) (c33 .args .no) (c33 .args .n) (c33 .args .out .now) (c33 .args .at) (c33 .pre) in
+    let g = columns-start (c33 .args .yes) (c33 .args .unknown) (c33 .args .no) (c33 .args .n)
+    (c33 .args .out .now) (c33 .args .at) (c33 .pre) in
     let g1 = going-on g (c30 .put-decimal .ensures) in
     let g2 = going-on g1 (c26 .push .ensures) in
     let g3 = going-on g2 (c22 .put-share .ensures) in

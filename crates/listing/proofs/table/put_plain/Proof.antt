@@ -47,8 +47,11 @@ loop-less c = omega arith
 loop-again : tie.Need-loop-again Inv-loop μ-loop
 loop-again c =
     let c3 = c .before .before .before in
-    let c6 = c3 .before .before .before in
-    (omega arith, plain-more (c6 .args .pattern .now) (c3 .loop .i) (c .before .before .loop-test .taken) (c .plain-of .ensures) (c3 .loop .inv .1))
+    let c6 = c3 .before .before .before in (
+      omega arith,
+      plain-more (c6 .args .pattern .now) (c3 .loop .i) (c .before .before .loop-test .taken)
+          (c .plain-of .ensures) (c3 .loop .inv .1),
+    )
 
 add-result : tie.Need-add-result Inv-loop μ-loop
 add-result c = omega arith

@@ -2,7 +2,7 @@
 use borrow.Author.Needs.{needs}
 use Rattle.writer.proofs.Going.{going-room, going-on, going-end}
 use Rattle.listing.specs.Text.{bytes}
-use Rattle.listing.proofs.Sizes.{refused-start}
+use Rattle.listing.proofs.Starts.{refused-start}
 use Rattle.listing.proofs.table.put_refused.Statement.{statement}
 use Rattle.listing.proofs.table.put_refused.Tie as tie
 

@@ -3,7 +3,7 @@ use native.Mathlib.Omega.{arith}
 use borrow.Author.Needs.{needs}
 use Rattle.writer.proofs.Going.{going-room, going-on, going-end, going-length}
 use Rattle.listing.specs.Text.{bytes}
-use Rattle.listing.proofs.Sizes.{total-start}
+use Rattle.listing.proofs.Starts.{total-start}
 use Rattle.listing.proofs.table.put_total.Statement.{statement}
 use Rattle.listing.proofs.table.put_total.Tie as tie
 
@@ -11,7 +11,8 @@ put-decimal-requires : tie.Need-put-decimal-requires
 unfolding bytes
 put-decimal-requires c κs =
     let c2 = c .before .before in
-    let g = total-start (c2 .args .yes) (c2 .args .unknown) (c2 .args .no) (c2 .args .patterns) (c2 .args .events) (c2 .args .out .now) (c2 .args .at) (c2 .pre) in
+    let g = total-start (c2 .args .yes) (c2 .args .unknown) (c2 .args .no) (c2 .args .patterns) (c2 .args .events)
+    (c2 .args .out .now) (c2 .args .at) (c2 .pre) in
     going-room g
 
 slice-aggregate-put : tie.Need-slice-aggregate-put
@@ -22,7 +23,8 @@ unfolding bytes
 put-requires c κs =
     let c4 = c .before .before .before .before in
     let c7 = c4 .before .before .before in
-    let g = total-start (c7 .args .yes) (c7 .args .unknown) (c7 .args .no) (c7 .args .patterns) (c7 .args .events) (c7 .args .out .now) (c7 .args .at) (c7 .pre) in
+    let g = total-start (c7 .args .yes) (c7 .args .unknown) (c7 .args .no) (c7 .args .patterns) (c7 .args .events)
+    (c7 .args .out .now) (c7 .args .at) (c7 .pre) in
     let g1 = going-on g (c4 .put-decimal .ensures) in
     going-room g1
 
@@ -32,7 +34,8 @@ put-decimal-requires-2 c κs =
     let c3 = c .before .before .before in
     let c8 = c3 .before .before .before .before .before in
     let c11 = c8 .before .before .before in
-    let g = total-start (c11 .args .yes) (c11 .args .unknown) (c11 .args .no) (c11 .args .patterns) (c11 .args .events) (c11 .args .out .now) (c11 .args .at) (c11 .pre) in
+    let g = total-start (c11 .args .yes) (c11 .args .unknown) (c11 .args .no) (c11 .args .patterns)
+    (c11 .args .events) (c11 .args .out .now) (c11 .args .at) (c11 .pre) in
     let g1 = going-on g (c8 .put-decimal .ensures) in
     let g2 = going-on g1 (c3 .put .ensures) in
     going-room g2
@@ -44,7 +47,8 @@ push-requires c κs =
     let c7 = c3 .before .before .before .before in
     let c12 = c7 .before .before .before .before .before in
     let c15 = c12 .before .before .before in
-    let g = total-start (c15 .args .yes) (c15 .args .unknown) (c15 .args .no) (c15 .args .patterns) (c15 .args .events) (c15 .args .out .now) (c15 .args .at) (c15 .pre) in
+    let g = total-start (c15 .args .yes) (c15 .args .unknown) (c15 .args .no) (c15 .args .patterns)
+    (c15 .args .events) (c15 .args .out .now) (c15 .args .at) (c15 .pre) in
     let g1 = going-on g (c12 .put-decimal .ensures) in
     let g2 = going-on g1 (c7 .put .ensures) in
     let g3 = going-on g2 (c3 .put-decimal2 .ensures) in
@@ -58,7 +62,8 @@ put-decimal-requires-3 c κs =
     let c11 = c7 .before .before .before .before in
     let c16 = c11 .before .before .before .before .before in
     let c19 = c16 .before .before .before in
-    let g = total-start (c19 .args .yes) (c19 .args .unknown) (c19 .args .no) (c19 .args .patterns) (c19 .args .events) (c19 .args .out .now) (c19 .args .at) (c19 .pre) in
+    let g = total-start (c19 .args .yes) (c19 .args .unknown) (c19 .args .no) (c19 .args .patterns)
+    (c19 .args .events) (c19 .args .out .now) (c19 .args .at) (c19 .pre) in
     let g1 = going-on g (c16 .put-decimal .ensures) in
     let g2 = going-on g1 (c11 .put .ensures) in
     let g3 = going-on g2 (c7 .put-decimal2 .ensures) in
@@ -77,7 +82,8 @@ put-requires-2 c κs =
     let c16 = c12 .before .before .before .before in
     let c21 = c16 .before .before .before .before .before in
     let c24 = c21 .before .before .before in
-    let g = total-start (c24 .args .yes) (c24 .args .unknown) (c24 .args .no) (c24 .args .patterns) (c24 .args .events) (c24 .args .out .now) (c24 .args .at) (c24 .pre) in
+    let g = total-start (c24 .args .yes) (c24 .args .unknown) (c24 .args .no) (c24 .args .patterns)
+    (c24 .args .events) (c24 .args .out .now) (c24 .args .at) (c24 .pre) in
     let g1 = going-on g (c21 .put-decimal .ensures) in
     let g2 = going-on g1 (c16 .put .ensures) in
     let g3 = going-on g2 (c12 .put-decimal2 .ensures) in
@@ -95,7 +101,8 @@ put-decimal-requires-4 c κs =
     let c20 = c16 .before .before .before .before in
     let c25 = c20 .before .before .before .before .before in
     let c28 = c25 .before .before .before in
-    let g = total-start (c28 .args .yes) (c28 .args .unknown) (c28 .args .no) (c28 .args .patterns) (c28 .args .events) (c28 .args .out .now) (c28 .args .at) (c28 .pre) in
+    let g = total-start (c28 .args .yes) (c28 .args .unknown) (c28 .args .no) (c28 .args .patterns)
+    (c28 .args .events) (c28 .args .out .now) (c28 .args .at) (c28 .pre) in
     let g1 = going-on g (c25 .put-decimal .ensures) in
     let g2 = going-on g1 (c20 .put .ensures) in
     let g3 = going-on g2 (c16 .put-decimal2 .ensures) in
@@ -118,7 +125,8 @@ put-requires-3 c κs =
     let c25 = c21 .before .before .before .before in
     let c30 = c25 .before .before .before .before .before in
     let c33 = c30 .before .before .before in
-    let g = total-start (c33 .args .yes) (c33 .args .unknown) (c33 .args .no) (c33 .args .patterns) (c33 .args .events) (c33 .args .out .now) (c33 .args .at) (c33 .pre) in
+    let g = total-start (c33 .args .yes) (c33 .args .unknown) (c33 .args .no) (c33 .args .patterns)
+    (c33 .args .events) (c33 .args .out .now) (c33 .args .at) (c33 .pre) in
     let g1 = going-on g (c30 .put-decimal .ensures) in
     let g2 = going-on g1 (c25 .put .ensures) in
     let g3 = going-on g2 (c21 .put-decimal2 .ensures) in
@@ -140,7 +148,8 @@ put-decimal-requires-5 c κs =
     let c29 = c25 .before .before .before .before in
     let c34 = c29 .before .before .before .before .before in
     let c37 = c34 .before .before .before in
-    let g = total-start (c37 .args .yes) (c37 .args .unknown) (c37 .args .no) (c37 .args .patterns) (c37 .args .events) (c37 .args .out .now) (c37 .args .at) (c37 .pre) in
+    let g = total-start (c37 .args .yes) (c37 .args .unknown) (c37 .args .no) (c37 .args .patterns)
+    (c37 .args .events) (c37 .args .out .now) (c37 .args .at) (c37 .pre) in
     let g1 = going-on g (c34 .put-decimal .ensures) in
     let g2 = going-on g1 (c29 .put .ensures) in
     let g3 = going-on g2 (c25 .put-decimal2 .ensures) in
@@ -164,7 +173,8 @@ same-length c =
     let c32 = c28 .before .before .before .before in
     let c37 = c32 .before .before .before .before .before in
     let c40 = c37 .before .before .before in
-    let g = total-start (c40 .args .yes) (c40 .args .unknown) (c40 .args .no) (c40 .args .patterns) (c40 .args .events) (c40 .args .out .now) (c40 .args .at) (c40 .pre) in
+    let g = total-start (c40 .args .yes) (c40 .args .unknown) (c40 .args .no) (c40 .args .patterns)
+    (c40 .args .events) (c40 .args .out .now) (c40 .args .at) (c40 .pre) in
     let g1 = going-on g (c37 .put-decimal .ensures) in
     let g2 = going-on g1 (c32 .put .ensures) in
     let g3 = going-on g2 (c28 .put-decimal2 .ensures) in
@@ -189,7 +199,8 @@ returns c =
     let c32 = c28 .before .before .before .before in
     let c37 = c32 .before .before .before .before .before in
     let c40 = c37 .before .before .before in
-    let g = total-start (c40 .args .yes) (c40 .args .unknown) (c40 .args .no) (c40 .args .patterns) (c40 .args .events) (c40 .args .out .now) (c40 .args .at) (c40 .pre) in
+    let g = total-start (c40 .args .yes) (c40 .args .unknown) (c40 .args .no) (c40 .args .patterns)
+    (c40 .args .events) (c40 .args .out .now) (c40 .args .at) (c40 .pre) in
     let g1 = going-on g (c37 .put-decimal .ensures) in
     let g2 = going-on g1 (c32 .put .ensures) in
     let g3 = going-on g2 (c28 .put-decimal2 .ensures) in

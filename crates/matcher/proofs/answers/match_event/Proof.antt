@@ -88,8 +88,8 @@ loop-again c =
     (walking-next (c13 .pre .asked) (c6 .loop .inv) (c5 .loop-test .taken) _
     (c3 .alternative-at .ensures) (c2 .if1 .left))
 
-answer-named-requires : tie.Need-answer-named-requires Inv-loop μ-loop
-answer-named-requires c κs = search needs
+name-of-requires : tie.Need-name-of-requires Inv-loop μ-loop
+name-of-requires c κs = search needs
 
 cast-t23 : tie.Need-cast-t23 Inv-loop μ-loop
 cast-t23 c = omega arith
@@ -98,7 +98,7 @@ returns-2 : tie.Need-returns-2 Inv-loop μ-loop
 returns-2 c =
     let c2 = c .before .before in
     let c9 = c2 .before .before .before .before .before .before .before in
-    rw (c .answer-named .ensures)
+    rw (c .name-of .ensures)
     (walking-end (c9 .pre .asked) (c2 .loop .inv) (c .before .loop-test .left) (c9 .pre .event))
 
 pub match-event-spec : {M : Type 1} → statement M
@@ -120,6 +120,6 @@ match-event-spec =
     add-k
     loop-less
     loop-again
-    answer-named-requires
+    name-of-requires
     cast-t23
     returns-2)

@@ -17,17 +17,23 @@ Inv-loop names text at end n k₀ k = (k ≤ n) × ((j : ℕ) → j < k → name
 abbrev μ-loop : tie.MeasureT-loop
 μ-loop names text at end n k₀ k = n - k
 
+add-end : tie.Need-add-end Inv-loop μ-loop
+add-end c =
+    let a = c .before in
+    let w = word-fits (a .before .before .args .text .now) (a .before .before .args .at) (a .before .before .pre) in
+    let e = c .name-size .ensures in omega arith
+
 part-holds-end-2 : tie.Need-part-holds-end-2 Inv-loop μ-loop
 part-holds-end-2 c =
     let a = c .before .before .before .before .before .before in
     let w = word-fits (a .args .text .now) (a .args .at) (a .pre) in
-    let e = c .before .before .before .name-end .ensures in omega arith
+    let e = c .before .before .before .name-size .ensures in omega arith
 
 returns : tie.Need-returns Inv-loop μ-loop
 returns c =
     let b = c .before .before .before .before .before in
     number-here _ _ _ (c .before .before .before .before .loop-test .taken)
-    (told-true (slot-told _ _ _ _ (b .before .name-end .ensures) (c .before .holds .ensures)) (c .if1 .taken))
+    (told-true (slot-told _ _ _ _ (b .before .name-size .ensures) (c .before .holds .ensures)) (c .if1 .taken))
     (b .loop .inv .1)
 
 loop-again : tie.Need-loop-again Inv-loop μ-loop
@@ -35,7 +41,7 @@ loop-again c =
     let b = c .before .before .before .before .before in (
       search needs,
       below-more _ _ (b .loop .inv .1)
-          (told-false (slot-told _ _ _ _ (b .before .name-end .ensures) (c .before .holds .ensures)) (c .if1 .left)),
+          (told-false (slot-told _ _ _ _ (b .before .name-size .ensures) (c .before .holds .ensures)) (c .if1 .left)),
     )
 
 returns-2 : tie.Need-returns-2 Inv-loop μ-loop
@@ -47,7 +53,8 @@ slot-of-spec =
     (tie.spec
     Inv-loop
     μ-loop
-    (λ c κs. search needs)  -- name-end-requires
+    (λ c κs. search needs)  -- name-size-requires
+    add-end
     (λ c. (search needs, below-none _))  -- loop-holds
     (λ c. search needs)  -- mul-from
     (λ c. search needs)  -- add-to

@@ -62,19 +62,15 @@ add-to c =
 
 add-q : tie.Need-add-q Inv-loop μ-loop
 add-q c =
-    omega (
-      arith,
-      row-there _ _ _ (c .before .before .before .before .before .before .before .before .pre .rows) _ _
-          (c .before .before .before .before .loop-test .taken) (c .before .before .before .before .before .loop .inv .2),
-    )
+    let c4 = c .before .before .before .before in
+    let c8 = c4 .before .before .before .before in
+    omega (arith, row-there _ _ _ (c8 .pre .rows) _ _ (c4 .loop-test .taken) (c4 .before .loop .inv .2))
 
 add-q-2 : tie.Need-add-q-2 Inv-loop μ-loop
 add-q-2 c =
-    omega (
-      arith,
-      row-there _ _ _ (c .before .before .before .before .before .before .before .before .pre .rows) _ _
-          (c .before .before .before .before .loop-test .taken) (c .before .before .before .before .before .loop .inv .2),
-    )
+    let c4 = c .before .before .before .before in
+    let c8 = c4 .before .before .before .before in
+    omega (arith, row-there _ _ _ (c8 .pre .rows) _ _ (c4 .loop-test .taken) (c4 .before .loop .inv .2))
 
 add-r : tie.Need-add-r Inv-loop μ-loop
 add-r c = search needs

@@ -1,0 +1,57 @@
+-- `store` is safe and ends; the slice keeps its length. Assumes nothing.
+use Prim.Native.Nat.{_-_, _≤_}
+use lib.ListN.{length}
+use mathlib.Core.Path.{_≡_, refl}
+use borrow.Author.Needs.{needs}
+use native.Mathlib.Omega.{arith}
+use Rattle.dachsmond_cli.proofs.correct.store.Statement.{statement}
+use Rattle.dachsmond_cli.proofs.correct.store.Tie as tie
+
+abbrev Inv-loop : tie.InvT-loop
+Inv-loop states₀ at text p₀ i₀ states p i = (i ≤ length text) × (length states ≡ length states₀)
+
+abbrev μ-loop : tie.MeasureT-loop
+μ-loop states₀ at text p₀ i₀ states p i = length text - i
+
+loop-holds : tie.Need-loop-holds Inv-loop μ-loop
+loop-holds c = (omega arith, refl)
+
+shared-slice-read-code-of : tie.Need-shared-slice-read-code-of Inv-loop μ-loop
+shared-slice-read-code-of c = omega arith
+
+code-of-requires : tie.Need-code-of-requires Inv-loop μ-loop
+code-of-requires c κs = search needs
+
+put-requires : tie.Need-put-requires Inv-loop μ-loop
+put-requires c κs = search needs
+
+add-i : tie.Need-add-i Inv-loop μ-loop
+add-i c = omega arith
+
+loop-less : tie.Need-loop-less Inv-loop μ-loop
+loop-less c = omega arith
+
+loop-again : tie.Need-loop-again Inv-loop μ-loop
+loop-again c = (omega arith, omega arith)
+
+same-length : tie.Need-same-length Inv-loop μ-loop
+same-length c = c .before .loop .inv .1
+
+returns : tie.Need-returns Inv-loop μ-loop
+returns c = search needs
+
+pub store-spec : {M : Type 1} → statement M
+store-spec =
+    tie.close
+    (tie.spec
+    Inv-loop
+    μ-loop
+    loop-holds
+    shared-slice-read-code-of
+    code-of-requires
+    put-requires
+    add-i
+    loop-less
+    loop-again
+    same-length
+    returns)

@@ -1,0 +1,71 @@
+// Writing: data to standard output, complaints to standard error; lines built in a buffer.
+use libc::STDERR_FILENO;
+use libc::STDOUT_FILENO;
+ghost use Prim.Native.Nat.{_≤_};
+ghost use lib.ListN.{length};
+
+pub fn say(text: &[u8]) {
+    io::write_all(STDOUT_FILENO, text);
+}
+
+pub fn note(text: &[u8]) {
+    io::write_all(STDERR_FILENO, text);
+}
+
+pub fn note_number(n: usize) {
+    io::print_decimal(STDERR_FILENO, n as u64);
+}
+
+// A complaint begins. Descriptor 3, where the caller opened one, is how it learns of it: a program has no exit status.
+pub fn complain() {
+    io::write_all(3, b"1");
+    note(b"dachsmond: ");
+}
+
+// The first n bytes, or all.
+pub fn say_front(text: &[u8], n: usize) {
+    if n <= text.len() {
+        say(&text[0..n]);
+    }
+}
+
+pub fn say_buffer(line: &[u8; 4096], n: usize) {
+    let text: &[u8] = line;
+    say_front(text, n);
+}
+
+// A byte behind what is written, where there is room.
+pub fn put(out: &mut [u8], at: usize, b: u8) -> usize {
+    if at < out.len() {
+        out[at] = b;
+        return at + 1;
+    }
+    at
+}
+
+// Some bytes.
+pub fn put_all(out: &mut [u8], at: usize, text: &[u8]) -> usize {
+    let mut p = at;
+    let mut i: usize = 0;
+    while i < text.len() {
+        p = put(out, p, text[i]);
+        i += 1;
+    }
+    p
+}
+
+// A number.
+pub fn put_number(out: &mut [u8], at: usize, n: u64) -> usize {
+    let mut digits = [0u8; 20];
+    let k = io::decimal(n, &mut digits);
+    put_all(out, at, &digits[..k])
+}
+
+// The letter of a state.
+pub fn letter(state: u8) -> u8 {
+    let letters = b"01XHLWZU";
+    if state < 8 {
+        return letters[state as usize];
+    }
+    b'?'
+}

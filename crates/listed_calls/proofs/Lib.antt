@@ -1,0 +1,6 @@
+-- The laws of alternatives handed in.
+pub mod Each
+pub mod Sums
+pub mod Acceptance
+pub mod Calls
+pub mod Unique

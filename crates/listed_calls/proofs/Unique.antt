@@ -1,0 +1,70 @@
+-- Any two results that the contract of a call over alternatives handed in allows coincide, and so does the memory lent
+-- at exit, refused or not.
+--   fits-unique; listed-match-unique, listed-all-unique, listed-totals-unique, listed-push-unique
+-- Assumes nothing.
+use mathlib.Core.Path.{_≡_, sym, _∙_}
+use mathlib.Core.Bool.{Bool}
+use mathlib.Core.List.{List}
+use Prim.Native.Nat.{ℕ}
+use Rattle.alf.specs.declared.Outcome.{Outcome}
+use Rattle.alf.proofs.Outcomes.{refused-passed, refused-unique}
+use Rattle.limits.specs.Accepted.{Decides}
+use Rattle.limits.proofs.Acceptance.{decides-unique}
+use Rattle.matcher.proofs.Unique.{matches-unique, totals-unique}
+use Rattle.updates.specs.declared.queues.Queue.{Queue}
+use Rattle.updates.proofs.Unique.{pushes-unique}
+use Rattle.calls.specs.declared.matching.Matching.{Matching}
+use Rattle.calls.specs.declared.matching.Matching.the-variants.{Found, Refused}
+use Rattle.calls.specs.declared.matching.Counting.{Counting}
+use Rattle.calls.proofs.Unique.{codes-fixed, row-fixed, outcome-unique, after-unique, finds-unique, counts-unique}
+use Rattle.listed_calls.specs.Lists.{AcceptedAlternatives}
+use Rattle.listed_calls.specs.Listed.{ListedMatch, ListedAll, ListedTotals, ListedPush, pushOrder, Takes}
+
+pub fits-unique : (names : ℕ) (tree steps tests edges operands : List ℕ) (q r : Bool)
+    → Decides q (AcceptedAlternatives names tree steps tests edges operands)
+    → Decides r (AcceptedAlternatives names tree steps tests edges operands) → q ≡ r
+fits-unique names tree steps tests edges operands =
+    decides-unique (AcceptedAlternatives names tree steps tests edges operands)
+
+module _ {names n : ℕ} {tree steps tests edges operands states : List ℕ} where
+  pub listed-match-unique : {row : ℕ} {a b : Matching}
+      → ListedMatch names n tree steps tests edges operands states row a
+      → ListedMatch names n tree steps tests edges operands states row b → a ≡ b
+  listed-match-unique {row} x y =
+      finds-unique _ _ (row-fixed _ _ states n row) (λ a b t u p q. matches-unique p q) _ _ (x .comes) (y .comes)
+
+  pub listed-all-unique : {answers tried a t b u : List ℕ} {x y : Outcome}
+      → ListedAll names n tree steps tests edges operands states answers tried a t x
+      → ListedAll names n tree steps tests edges operands states answers tried b u y
+      → (x ≡ y) × (a ≡ b) × (t ≡ u)
+  listed-all-unique {answers} {tried} x y =
+      let e = outcome-unique _ _ (codes-fixed _ _ states) _ _ (x .comes) (y .comes) in (
+        e,
+        after-unique _ answers e (x .answers-memory) (y .answers-memory),
+        after-unique _ tried e (x .tried-memory) (y .tried-memory),
+      )
+
+  pub listed-totals-unique : {a b : Counting} → ListedTotals names n tree steps tests edges operands states a
+      → ListedTotals names n tree steps tests edges operands states b → a ≡ b
+  listed-totals-unique x y =
+      counts-unique _ _ (codes-fixed _ _ states) (λ a b c d e f p q. totals-unique p q) _ _ (x .comes) (y .comes)
+
+module _ (names : ℕ) (tree steps tests edges operands : List ℕ) (q : Queue) (row : List ℕ) where
+  takes-unique : (x y : Matching) (p r : Queue) → Takes names tree steps tests edges operands q row x p
+      → Takes names tree steps tests edges operands q row y r → (x ≡ y) × (p ≡ r)
+  unfolding Takes
+  takes-unique (Found m) (Found k) p r a b =
+      let e = pushes-unique (a .1) (b .1) in (λ i. Found (record { answer = e .0 i; tries = e .1 i }), e .2)
+  takes-unique (Found m) (Refused s) p r a b =
+      absurd (refused-passed (pushOrder names tree steps tests edges operands q row) _ _ (a .0) (b .0))
+  takes-unique (Refused s) (Found k) p r a b =
+      absurd (refused-passed (pushOrder names tree steps tests edges operands q row) _ _ (b .0) (a .0))
+  takes-unique (Refused s) (Refused t) p r a b =
+      let o = pushOrder names tree steps tests edges operands q row in
+      let e = refused-unique o (codes-fixed _ _ row) (a .0) (b .0) in
+      (λ i. Refused (record { number = e .0 i; place = e .1 i }), a .1 ∙ sym (b .1))
+
+pub listed-push-unique : {names : ℕ} {tree steps tests edges operands : List ℕ} {q : Queue} {row : List ℕ}
+    {x y : Matching} {p r : Queue} → ListedPush names tree steps tests edges operands q row x p
+    → ListedPush names tree steps tests edges operands q row y r → (x ≡ y) × (p ≡ r)
+listed-push-unique a b = takes-unique _ _ _ _ _ _ _ _ _ _ _ _ (a .comes) (b .comes)

@@ -1,0 +1,46 @@
+-- `accepting::fits` meets its contract. Assumes nothing.
+use borrow.Author.Needs.{needs}
+use Rattle.limits.specs.Accepted.{Decides}
+use Rattle.calls.proofs.Deciding.{said, denied, told, same-decided}
+use Rattle.listed_calls.proofs.Acceptance.{accepted-shaped, shaped-accepted}
+use Rattle.listed_calls.proofs.accepting.fits.Statement.{statement}
+use Rattle.listed_calls.proofs.accepting.fits.Tie as tie
+
+are-shaped-requires : tie.Need-are-shaped-requires
+are-shaped-requires c κs = search needs
+
+returns : tie.Need-returns
+unfolding Decides
+returns c = λ a.
+    denied (c .before .are-shaped .result) (c .before .are-shaped .ensures) (c .if1 .taken)
+    (accepted-shaped _ _ _ _ _ _ a)
+
+are-known-requires : tie.Need-are-known-requires
+are-known-requires c κs = search needs
+
+returns-2 : tie.Need-returns-2
+unfolding Decides
+returns-2 c = λ a.
+    denied (c .before .are-known .result) (c .before .are-known .ensures) (c .if2 .taken) (a .known)
+
+are-operands-requires : tie.Need-are-operands-requires
+are-operands-requires c κs = search needs
+
+returns-3 : tie.Need-returns-3
+returns-3 c =
+    let c1 = c .before in
+    let c3 = c1 .before .before in
+    let shaped = told _ (c3 .before .are-shaped .ensures) (said _ (c3 .if1 .left)) in
+    let known = told _ (c1 .before .are-known .ensures) (said _ (c1 .if2 .left)) in
+    same-decided _ _ _ (shaped-accepted _ _ _ _ _ _ shaped known) (λ a. a .operand) (c .are-operands .ensures)
+
+pub fits-spec : {M : Type 1} → statement M
+fits-spec =
+    tie.close
+    (tie.spec
+    are-shaped-requires
+    returns
+    are-known-requires
+    returns-2
+    are-operands-requires
+    returns-3)

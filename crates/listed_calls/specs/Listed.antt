@@ -1,0 +1,78 @@
+-- What the calls come to that match by alternatives handed in: document 01's answer of the alternatives, and the
+-- number tried; or refused with 18, 10, 15, 19.
+-- Main names: ListedMatch, ListedAll, ListedTotals, ListedPush.
+use Prim.Native.Nat.{ℕ, _≤_}
+use mathlib.Core.Path.{_≡_}
+use mathlib.Core.Bool.{Bool}
+use mathlib.Core.List.{List}
+use lib.ListN.{length}
+use Rattle.alf.specs.declared.Outcome.{Outcome}
+use Rattle.alf.specs.Words.{listed}
+use Rattle.alf.specs.Values.{stateAt}
+use Rattle.alf.specs.Alternatives.{Alternative, tries}
+use Rattle.alf.specs.Refusals.{Order, RefusedWith, Passed, Comes}
+use Rattle.limits.specs.Accepted.{Decides}
+use Rattle.matcher.specs.Shapes.{alternativesOf}
+use Rattle.matcher.specs.Answers.{Matches}
+use Rattle.matcher.specs.Tables.{numberAt, Totals}
+use Rattle.updates.specs.declared.queues.Queue.{Queue}
+use Rattle.updates.specs.Corrections.{longestOf}
+use Rattle.updates.specs.Queues.{Pushes}
+use Rattle.calls.specs.declared.matching.Matching.{Matching}
+use Rattle.calls.specs.declared.matching.Matching.the-variants.{Found, Refused}
+use Rattle.calls.specs.declared.matching.Counting.{Counting}
+use Rattle.calls.specs.Orders.{Rows, order, codes, codesRow}
+use Rattle.calls.specs.Written.{after}
+use Rattle.calls.specs.Matching.{Finds, Counts}
+use Rattle.calls.specs.Pushing.{RowFits, Keeps}
+use Rattle.listed_calls.specs.Lists.{AcceptedAlternatives}
+
+module _ (names n : ℕ) (tree steps tests edges operands states : List ℕ) where
+  -- the alternatives that are handed in
+  abbrev pub alternativesIn : List Alternative
+  alternativesIn = alternativesOf tree names steps tests edges operands
+
+  -- at a row: 18, 10, 15, 19
+  abbrev pub rowOrder : ℕ → Order
+  rowOrder row =
+      order (Rows names n (length states)) (AcceptedAlternatives names tree steps tests edges operands)
+      (codesRow states n row)
+
+  pub record ListedMatch (row : ℕ) (r : Matching) : Type 0 where
+    pub comes : Finds (rowOrder row) (Matches (stateAt names states) alternativesIn row) r
+
+  -- at all rows: 18, 10, 15
+  abbrev pub rowsOrder : Type 0 → Order
+  rowsOrder lists = order lists (AcceptedAlternatives names tree steps tests edges operands) (codes states)
+
+  pub record ListedAll (answers tried answers′ tried′ : List ℕ) (r : Outcome) : Type 0 where
+    pub comes : Comes (rowsOrder (((length answers ≡ n) × (length tried ≡ n)) × Rows names n (length states)))
+        (λ k. k ≡ n) r
+    pub answers-memory : answers′ ≡ after (listed 0 n (numberAt (stateAt names states) alternativesIn)) answers r
+    pub tried-memory : tried′ ≡ after (listed 0 n (tries (stateAt names states) alternativesIn)) tried r
+
+  pub record ListedTotals (r : Counting) : Type 0 where
+    pub comes : Counts (rowsOrder (Rows names n (length states))) (Totals (stateAt names states) alternativesIn n) r
+
+module _ (names : ℕ) (tree steps tests edges operands : List ℕ) (queue : Queue) where
+  -- alternatives that are accepted, and a queue that keeps at most K rows
+  pub record Handed : Type 0 where
+    pub accepted : AcceptedAlternatives names tree steps tests edges operands
+    pub kept : Keeps names (longestOf (alternativesOf tree names steps tests edges operands)) queue
+
+  -- 18, 10, 15 of the new row
+  abbrev pub pushOrder : List ℕ → Order
+  pushOrder row = order (RowFits names (length row)) Handed (codes row)
+
+  unfoldable pub Takes : List ℕ → Matching → Queue → Type 0
+  Takes row (Found m) queue′ =
+      Passed (pushOrder row)
+      × Pushes names (alternativesOf tree names steps tests edges operands) queue row (m .answer) (m .tries) queue′
+  Takes row (Refused r) queue′ = RefusedWith (pushOrder row) (r .number) (r .place) × (queue′ ≡ queue)
+
+  pub record ListedPush (row : List ℕ) (told : Matching) (queue′ : Queue) : Type 0 where
+    pub comes : Takes row told queue′
+
+  -- for the function inside
+  pub record DecidesQueue (r : Bool) : Type 0 where
+    pub is : names ≤ 32 → Decides r Handed

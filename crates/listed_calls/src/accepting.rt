@@ -1,0 +1,56 @@
+// Whether alternatives that are handed in as lists are accepted.
+ghost use mathlib.Core.Path.{_≡_};
+ghost use lib.ListN.{length};
+ghost use Rattle.limits.specs.Accepted.{Decides};
+ghost use Rattle.listed_calls.specs.Lists.{Shaped, AcceptedAlternatives};
+use crate::counting::are_light;
+use crate::counting::are_stepped;
+use crate::counting::sums_to;
+use crate::operands::are_known;
+use crate::operands::are_operands;
+
+// Whether the lists fit each other and are within limit 8, with one alternative or more, none without a step.
+pub fn are_shaped(steps: &[u8], tests: &[u8], edges: usize, operands: usize) -> bool
+    ensures { λ r. ⌜ Decides r (Shaped (now (steps .entry)) (now (tests .entry)) edges operands) ⌝ }
+{
+    if steps.len() == 0 {
+        return false;
+    }
+    if 64 < steps.len() {
+        return false;
+    }
+    if operands != edges {
+        return false;
+    }
+    if !are_stepped(steps) {
+        return false;
+    }
+    if !sums_to(steps, tests.len()) {
+        return false;
+    }
+    if !sums_to(tests, edges) {
+        return false;
+    }
+    are_light(steps, tests)
+}
+
+// Whether they are accepted.
+pub fn fits(
+    names: usize,
+    tree: &[u8],
+    steps: &[u8],
+    tests: &[u8],
+    edges: &[u8],
+    operands: &[u16],
+) -> bool
+    ensures { λ r. ⌜ Decides r (AcceptedAlternatives names (now (tree .entry)) (now (steps .entry))
+        (now (tests .entry)) (now (edges .entry)) (now (operands .entry))) ⌝ }
+{
+    if !are_shaped(steps, tests, edges.len(), operands.len()) {
+        return false;
+    }
+    if !are_known(edges) {
+        return false;
+    }
+    are_operands(tree, names, operands)
+}
