@@ -142,6 +142,10 @@ dachsmond_told dachsmond_rewrite(size_t names, const uint8_t *tree, size_t tree_
                                  uint8_t *tests, size_t tests_len, uint8_t *edges, size_t edges_len,
                                  uint16_t *operands, size_t operands_len);
 
+/* A flag for each alternative of a vector tree, 1 where it is contradictory, else 0; how many: 18, 10, 9. */
+dachsmond_told dachsmond_contradictions(size_t names, const uint8_t *tree, size_t tree_len, uint8_t *flags,
+                                        size_t flags_len);
+
 /* The new states become the row, and the answers from it on that can depend on it are written anew: 18, 10, 15, 19. */
 dachsmond_told dachsmond_correct(size_t names, size_t n, const uint8_t *tree, size_t tree_len, uint8_t *states,
                                  size_t states_len, uint8_t *answers, size_t answers_len, uint32_t row,

@@ -168,13 +168,14 @@ static void case_changes(void)
     printf(" %ld", some_row(n));
 }
 
-static void case_rewrite(void)
+static void case_rewrite(int letter)
 {
     long k = once_in(40) ? below(35) : 1 + below(4);
     some_tree(k, 1, any_size());
-    printf("l %ld", k);
+    printf("%c %ld", letter, k);
     say(&tree);
-    if (once_in(3)) printf(" %ld %ld %ld %ld", 1 + below(8), 1 + below(16), 1 + below(30), 1 + below(40));
+    if (letter == 'x') printf(" %ld", once_in(3) ? 1 + below(8) : 64);
+    else if (once_in(3)) printf(" %ld %ld %ld %ld", 1 + below(8), 1 + below(16), 1 + below(30), 1 + below(40));
     else printf(" 64 1024 4096 4096");
 }
 
@@ -213,7 +214,7 @@ int main(int argc, char **argv)
         else if (letter == 'f') case_read_trace();
         else if (letter == 'g') case_write_trace();
         else if (letter == 'c') case_changes();
-        else if (letter == 'l') case_rewrite();
+        else if (strchr("lx", letter)) case_rewrite(letter);
         else case_pattern(letter);
         putchar('\n');
     }

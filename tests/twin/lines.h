@@ -12,6 +12,7 @@
      s NAMES N TREE STATES ROW       a row's state and value
      k NAMES N TREE STATES ANSWERS ROW NEW   correction of a row
      l NAMES TREE ROOM ROOM ROOM ROOM   the lists of alternatives: steps, tests, edges, ends of operands
+     x NAMES TREE ROOM               a flag for each contradictory alternative
      q NAMES TREE STATES             a queue that takes the rows of STATES one after the other
    An answer is a line too: `refused NUMBER PLACE` or what the call gave, then a sum over all lent memory. */
 #ifndef LINES_H

@@ -199,10 +199,27 @@ static void do_rewrite(void)
     end_line(sum);
 }
 
+static void do_contradictions(void)
+{
+    long names = take_number();
+    Bytes tree = take_bytes(), flags = lend(take_number());
+    Node *node;
+    Refusal r = check_rows(names, 1, names);
+    if (!r.number) r = check_tree(tree.at, tree.length, (int)names, VECTOR, &node);
+    Alternatives *all = r.number ? NULL : alternatives_of(node);
+    if (all && all->count > flags.length) r = (Refusal){9, all->count};
+    if (!refused(r)) {
+        for (int i = 0; i < all->count; i++) flags.at[i] = (byte)contradictory(all->list[i]);
+        printf("flags %d", all->count);
+    }
+    end_line(sum_of(0, flags.at, flags.length));
+}
+
 void do_pattern(int c)
 {
     if (c == 'v') do_values();
     else if (c == 'l') do_rewrite();
+    else if (c == 'x') do_contradictions();
     else if (c == 'm') do_matching();
     else if (c == 't') do_totals();
     else if (c == 'r') do_row(VECTOR, 1);

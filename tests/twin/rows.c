@@ -127,6 +127,16 @@ static void do_rewrite(void)
     end_line(sum_of(sum_of(sum, edges.at, edges.length), operands.at, operands.length));
 }
 
+static void do_contradictions(void)
+{
+    size_t names = take_number();
+    Bytes tree = take_bytes(), flags = lend(take_number());
+    dachsmond_told r = dachsmond_contradictions(names, tree.at, tree.length, flags.at, flags.length);
+    if (r.number) say_refused(r.number, r.place);
+    else printf("flags %zu", r.count);
+    end_line(sum_of(0, flags.at, flags.length));
+}
+
 void do_pattern(int c)
 {
     if (c == 'v') do_values();
@@ -138,4 +148,5 @@ void do_pattern(int c)
     else if (c == 'k') do_correction();
     else if (c == 'q') do_queue();
     else if (c == 'l') do_rewrite();
+    else if (c == 'x') do_contradictions();
 }

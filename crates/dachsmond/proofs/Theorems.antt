@@ -20,8 +20,9 @@ use Rattle.calls.specs.Matching.{RowMatch, AllMatched, RowTotals}
 use Rattle.calls.specs.Correcting.{Correction}
 use Rattle.calls.proofs.Unique.{state-unique, value-unique, values-unique, answer-unique, match-unique, all-unique}
 use Rattle.calls.proofs.Unique.{totals-unique, correction-unique, push-unique}
-use Rattle.rewriting.specs.Calls.{Rewrites}
+use Rattle.rewriting.specs.Calls.{Rewrites, Contradicts}
 use Rattle.rewriting.proofs.Theorems.{rewrites-unique}
+use Rattle.rewriting.proofs.Reporting.{contradicts-unique}
 use Rattle.dachsmond.specs.declared.Told.{Told}
 use Rattle.dachsmond.specs.declared.Expression.{Expression}
 use Rattle.dachsmond.specs.declared.Trace.{Trace}
@@ -138,3 +139,11 @@ module _ {names : ℕ} {tree steps tests edges operands : List ℕ} where
     from-both (λ a b p q. rewrites-unique names tree steps tests edges operands p q .3) x y,
     from-both (λ a b p q. rewrites-unique names tree steps tests edges operands p q .4) x y,
   )
+
+pub contradictions-unique : {names : ℕ} {tree flags a b : List ℕ} {r s : Told}
+    → Hands (Contradicts names tree flags a) told r → Hands (Contradicts names tree flags b) told s
+    → (r ≡ s) × (a ≡ b)
+contradictions-unique {names} {tree} {flags} x y = (
+  hands-unique (λ a b p q. contradicts-unique names tree flags p q .0) x y,
+  from-both (λ a b p q. contradicts-unique names tree flags p q .1) x y,
+)

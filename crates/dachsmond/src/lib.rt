@@ -1,6 +1,7 @@
-// The library for C: every public call under a plain name, `include/dachsmond.h` declares them. A call hands on to the
-// crate that has it and tells what came of it in numbers, since an enum cannot cross to C. Lent memory is a pointer and
-// a length. Number 0 is done; another is document 01's number of the refusal.
+// The library for C: the public calls under plain names, `include/dachsmond.h` declares them. A call hands on to the
+// crate that has it and tells what came of it in numbers, since an enum cannot cross to C. Lent memory is a pointer
+// and a length. Number 0 is done; another is document 01's number of the refusal. The calls by alternatives that are
+// handed in and the listing are not among them yet.
 pub mod changing;
 pub mod files;
 pub mod matching;

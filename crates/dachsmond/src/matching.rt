@@ -1,7 +1,7 @@
 // Matching by the alternatives of an expression, for C: a row, all rows, the totals, and the alternatives themselves.
 ghost use mathlib.Core.Path.{_≡_};
 ghost use Rattle.calls.specs.Matching.{RowMatch, AllMatched, RowTotals};
-ghost use Rattle.rewriting.specs.Calls.{Rewrites};
+ghost use Rattle.rewriting.specs.Calls.{Rewrites, Contradicts};
 ghost use Rattle.dachsmond.specs.Handing.{Hands, told};
 ghost use Rattle.dachsmond.specs.Matching.{toldMatch, toldCounts};
 use crate::Counted;
@@ -14,6 +14,7 @@ use calls::matching::match_all;
 use calls::matching::match_row;
 use calls::matching::totals;
 use matcher::tables::number_of;
+use rewriting::contradictions;
 use rewriting::rewrite;
 
 pub fn tell_match(o: Matching) -> Matched
@@ -114,4 +115,12 @@ pub extern "C" fn dachsmond_rewrite(
         (now (operands .exit))) told r ⌝ }
 {
     tell(rewrite(names, tree, steps, tests, edges, operands))
+}
+
+// A flag for each of its alternatives, 1 where it is contradictory, else 0, into a lent list.
+#[no_mangle]
+pub extern "C" fn dachsmond_contradictions(names: usize, tree: &[u8], flags: &mut [u8]) -> Told
+    ensures { λ r. ⌜ Hands (Contradicts names (now (tree .entry)) (now (flags .entry)) (now (flags .exit))) told r ⌝ }
+{
+    tell(contradictions(names, tree, flags))
 }
