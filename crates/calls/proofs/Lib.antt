@@ -3,6 +3,7 @@ pub mod Deciding
 pub mod Verdicts
 pub mod Checked
 pub mod AsWritten
+pub mod OnWindows
 pub mod ByAlternatives
 pub mod Matches
 pub mod Corrects

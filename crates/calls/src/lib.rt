@@ -4,4 +4,5 @@ pub mod checks;
 pub mod correcting;
 pub mod matching;
 pub mod pushing;
+pub mod windows;
 pub mod written;
