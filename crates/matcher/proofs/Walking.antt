@@ -1,6 +1,7 @@
 -- Through the lists of alternatives: what is known when those before k are tried, the steps of k start at s and its
 -- tests at t, and the best answer so far is b.
 --   Walking, walking-first, -yes, -next, -end
+--   alternatives-next      alternative k apart from those behind it
 --   alternative-asked      alternative k may be asked
 -- Assumes nothing.
 use mathlib.Core.Path.{_≡_, refl, _∙_}
@@ -26,7 +27,7 @@ pub record Walking (st : Boolean → ℕ → ℕ) (steps tests : List ℕ) (all 
   pub trying : Trying st row (cut steps (cut tests all)) (alternativesIn steps tests all k s t) k b
 
 -- alternative k apart
-alternatives-next : (steps tests : List ℕ) (all : List Test) (k s t : ℕ) → k < length steps
+pub alternatives-next : (steps tests : List ℕ) (all : List Test) (k s t : ℕ) → k < length steps
     → alternativesIn steps tests all k s t
     ≡ alternativeIn tests all s t (getD steps k 0)
     ∷ alternativesIn steps tests all (k + 1) (s + getD steps k 0) (t + sum (take (getD steps k 0) (drop s tests)))

@@ -1,4 +1,5 @@
 -- The lists of a tree, one step and one alternative after the other: what is known when those before are written.
+--   sets-next                                    a list of f of each thing, stored up to one thing more
 --   Counting, counting-first, -next, -end        how long the lists are
 --   Walking, walking-first, -next, -end          the steps of an alternative
 --   Filling, filling-first, -next, -end          the alternatives
@@ -19,7 +20,7 @@ use Rattle.rewriting.proofs.Joining.{joined-append, joined-next, joined
 use Rattle.rewriting.proofs.Puts.{sets-append, put-none, put-then, put-lengths}
 
 -- stores of f of each of some things: one thing more, some things more
-sets-next : {A : Type 0} (f : A → ℕ) (l : List ℕ) (i : ℕ) (xs : List A) (t : ℕ) (d : A) {v : ℕ} → t < length xs
+pub sets-next : {A : Type 0} (f : A → ℕ) (l : List ℕ) (i : ℕ) (xs : List A) (t : ℕ) (d : A) {v : ℕ} → t < length xs
     → v ≡ f (getD xs t d) → set (sets l i (map f (take t xs))) (i + t) v ≡ sets l i (map f (take (t + 1) xs))
 sets-next f l i xs t d {v} h e =
     let n = length-map (take t xs) f ∙ length-take-le t xs (omega arith) in

@@ -1,10 +1,11 @@
 -- The lists of a tree by value: what their fronts are, that they have the shape and stand for the alternatives, and
--- that the whole value follows from the tree. Main names: arrays-fillable, holds, holds-unique. Assumes nothing.
-use Prim.Native.Nat.{ℕ}
+-- that the whole value follows from the tree. Main names: arrays-fillable, holds, steps-within,
+-- tests-within, edges-within, operands-within, holds-unique. Assumes nothing.
+use Prim.Native.Nat.{ℕ, _≤_}
 use native.Mathlib.Omega.{arith}
 use mathlib.Core.Path.{_≡_, ap, sym, _∙_}
 use mathlib.Core.List.{List}
-use lib.ListN.{length, take, replicate, length-map}
+use lib.ListN.{length, take, drop, replicate, length-append, length-map}
 use lib.Seq.{take-at}
 use Rattle.alf.specs.Alternatives.{Alternative}
 use Rattle.alf.specs.declared.Sort.the-variants.{Vector}
@@ -39,6 +40,10 @@ module _ (xs : List Alternative) where
 pub front : (w out : List ℕ) {l : List ℕ} {n : ℕ} → l ≡ laid w out → n ≡ length w → take n l ≡ w
 unfolding laid
 front w out {n = n} e k = ap (take n) e ∙ take-at w _ n (sym k)
+
+pub front-within : (w out : List ℕ) {l : List ℕ} {n : ℕ} → l ≡ laid w out → n ≡ length w → n ≤ length l
+unfolding laid
+front-within w out e k = let d = ap length e ∙ length-append w (drop (length w) out) in omega arith
 
 -- arrays have room
 pub arrays-fillable : {tree : List ℕ} {names : ℕ} {steps tests edges operands : List ℕ} → Accepted names Vector tree
@@ -87,6 +92,20 @@ module _ (tree : List ℕ) (names : ℕ) (a : Accepted names Vector tree) (v : A
         shape = rw (steps-front, tests-front, edges-front, operands-front) (lists-shape tree names h (b .few));
         stands = rw (steps-front, tests-front, edges-front, operands-front) (lists-stand tree names h);
       }
+
+-- what is in use stands in the arrays
+module _ {tree : List ℕ} {names : ℕ} {v : Alternatives} (h : Holds tree names v) where
+  pub steps-within : v .count ≤ length (v .steps)
+  steps-within = front-within _ _ (h .filled .steps-are) (h .long .alternatives-are ∙ sym (step-entries _))
+
+  pub tests-within : v .«step_count» ≤ length (v .tests)
+  tests-within = front-within _ _ (h .filled .tests-are) (h .long .steps-are ∙ sym (test-entries _))
+
+  pub edges-within : v .«test_count» ≤ length (v .edges)
+  edges-within = front-within _ _ (h .filled .edges-are) (h .long .tests-are ∙ sym (edge-entries _))
+
+  pub operands-within : v .«test_count» ≤ length (v .operands)
+  operands-within = front-within _ _ (h .filled .operands-are) (h .long .tests-are ∙ sym (operand-entries _))
 
 pub holds-unique : (tree : List ℕ) (names : ℕ) (v w : Alternatives) → Holds tree names v → Holds tree names w → v ≡ w
 holds-unique tree names v w h k =

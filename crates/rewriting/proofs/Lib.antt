@@ -1,4 +1,4 @@
--- The laws that the alternatives are written by.
+-- The laws that the alternatives are written by, the statements that the lists meet, and the laws of the report.
 pub mod Splits
 pub mod Operands
 pub mod Placing
@@ -14,3 +14,8 @@ pub mod Turns
 pub mod Holding
 pub mod Calls
 pub mod Theorems
+pub mod Allowing
+pub mod Quantifiers
+pub mod RowsOf
+pub mod Flagging
+pub mod Reporting

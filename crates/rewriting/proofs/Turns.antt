@@ -11,7 +11,6 @@ use Rattle.limits.specs.Accepted.{Accepted}
 use Rattle.limits.specs.Sizes.{alternativeAt, Shaped}
 use Rattle.rewriting.specs.Steps.{stepAt, Placing, Put}
 use Rattle.rewriting.specs.Lists.{alternativesAt, alternativeOf, Adding, Added, Fillable, Filled}
-use Rattle.rewriting.proofs.Joining.{joined-part}
 use Rattle.rewriting.proofs.Bounds.{accepted-bounded, few-steps, few-tests, shape-exact}
 use Rattle.rewriting.proofs.Bounds.{accepted-chosen, accepted-short}
 use Rattle.rewriting.proofs.Filling.{Counting, counting-room, counting-next}
@@ -54,12 +53,12 @@ module _ {tree : List ℕ} {names t n : ℕ} {tests₀ : List ℕ} {s : ℕ} {ed
 
     module _ {next : ℕ} {edges′ operands′ : List ℕ}
         (p : Put (stepAt tree names (length tree) t j) at edges operands next edges′ operands′) where
-      pub step-rises : at ≤ next
-      step-rises = omega (arith, p .next-is)
+      pub step-rises : (from ≤ at) × (at ≤ next)
+      step-rises = (omega (arith, g .put .next-is), omega (arith, p .next-is))
 
-      pub step-small : next - at < 256
+      pub step-small : next ≤ from + 64
       step-small =
-          let r = joined-part (alternativeOf tree names t) j there in
+          let r = walking-room g there in
           omega (arith, p .next-is, accepted-bounded tree names (h .accepted) .light t)
 
       pub step-next : Walking (alternativeOf tree names t) tests₀ s edges₀ operands₀ from

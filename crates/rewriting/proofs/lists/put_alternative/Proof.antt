@@ -29,17 +29,20 @@ sub-tests c =
     let c4 = c .before .before .before .before in
     let c8 = c4 .before .before .before .before in
     let c13 = c8 .before .before .before .before .before in
+    let r =
     step-rises (c13 .pre) (c8 .loop .inv) (c4 .before .before .before .loop-test .taken) (c4 .put-step .ensures)
+    in
+    omega (arith, r .0, r .1)
 
 cast-tests : tie.Need-cast-tests Inv-loop μ-loop
 cast-tests c =
     let c4 = c .before .before .before .before in
     let c8 = c4 .before .before .before .before in
     let c13 = c8 .before .before .before .before .before in
-    let r =
-    step-small (c13 .pre) (c8 .loop .inv) (c4 .before .before .before .loop-test .taken) (c4 .put-step .ensures)
-    in
-    omega arith
+    let l = c4 .before .before .before .loop-test .taken in
+    let r = step-small (c13 .pre) (c8 .loop .inv) l (c4 .put-step .ensures) in
+    let u = step-rises (c13 .pre) (c8 .loop .inv) l (c4 .put-step .ensures) in
+    omega (arith, u .0)
 
 add-tests : tie.Need-add-tests Inv-loop μ-loop
 add-tests c =
