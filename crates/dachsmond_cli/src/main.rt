@@ -1,10 +1,12 @@
 // Dachsmond, the program: counts patterns of pin events in a trace. Each command stands in a file of its own.
+mod alternatives;
 mod complaints;
 mod correct;
 mod files;
 mod output;
 mod parts;
 mod patterns;
+mod rewrite;
 mod rows;
 mod show;
 mod table;
@@ -26,12 +28,18 @@ fn help() {
     say(b"  dachsmond list TRACE PATTERN             a pattern's answer at each row\n");
     say(b"  dachsmond values TRACE EXPRESSION        a boolean expression's value at each row\n");
     say(
+        b"  dachsmond rewrite TRACE PATTERN          a pattern's alternatives, contradictory ones marked\n",
+    );
+    say(
         b"  dachsmond show TRACE                     the trace as a table, with the number of changed pins\n",
     );
     say(
         b"  dachsmond correct TRACE ROW STATES OUT   the trace with one row replaced, written to OUT\n",
     );
     say(b"  dachsmond --help, dachsmond --version\n\n");
+    say(
+        b"rewrite writes `->` between steps, `&` between the tests of a step, and `( )` for an empty step.\n",
+    );
     say(
         b"`-` for a file is standard input or output. Data goes to standard output, complaints go to standard error.\n",
     );
@@ -75,6 +83,10 @@ fn run_more(command: &[u8], more: usize) {
         }
         if check::same(command, b"values") {
             rows::rows(false);
+            return;
+        }
+        if check::same(command, b"rewrite") {
+            rewrite::alternatives();
             return;
         }
     }

@@ -8,6 +8,10 @@ pub fn say(text: &[u8]) {
     io::write_all(STDOUT_FILENO, text);
 }
 
+pub fn say_number(n: usize) {
+    io::print_decimal(STDOUT_FILENO, n as u64);
+}
+
 pub fn note(text: &[u8]) {
     io::write_all(STDERR_FILENO, text);
 }

@@ -6,6 +6,7 @@ use crate::files::failed;
 use crate::files::load;
 use crate::files::open;
 use crate::files::take_argument;
+use crate::output::complain;
 use crate::output::note;
 use crate::output::note_number;
 use crate::parts::codes_in;
@@ -29,13 +30,13 @@ fn line_end(text: &[u8], from: usize) -> usize
     i
 }
 
-// A line of a file; an empty one is none.
+// A line of a file; an empty one is none. A longer one than an argument can be is refused by its front.
 fn line(names: &[u8], k: usize, n: usize, states: &[u8], text: &[u8], s: Sums) -> Sums {
     if text.len() == 0 {
         return s;
     }
     if 65536 < text.len() {
-        return s;
+        return pattern(names, k, n, states, &text[0..65536], s);
     }
     pattern(names, k, n, states, text, s)
 }
@@ -51,7 +52,8 @@ fn lines(names: &[u8], k: usize, n: usize, states: &[u8], text: &[u8], s: Sums) 
     sums
 }
 
-fn fill(fd: i32, data: &mut [u8; 1048576]) -> usize {
+// One byte more than a file of patterns may have.
+fn fill(fd: i32, data: &mut [u8; 1048577]) -> usize {
     io::read_full(fd, data)
 }
 
@@ -60,7 +62,7 @@ fn lines_of(
     k: usize,
     n: usize,
     states: &[u8],
-    data: &[u8; 1048576],
+    data: &[u8; 1048577],
     m: usize,
     s: Sums,
 ) -> Sums {
@@ -72,6 +74,13 @@ fn lines_of(
     }
 }
 
+// A file that is not read to its end is not used at all.
+fn too_long(path: &[u8]) {
+    complain();
+    note(path);
+    note(b": a file of patterns has at most 1,048,576 bytes\n");
+}
+
 // The patterns of a file, one a line.
 fn file(names: &[u8], k: usize, n: usize, states: &[u8], path: &[u8], s: Sums) -> Sums {
     let fd = open(path);
@@ -79,9 +88,13 @@ fn file(names: &[u8], k: usize, n: usize, states: &[u8], path: &[u8], s: Sums) -
         failed(path);
         return s;
     }
-    let mut data = [0u8; 1048576];
+    let mut data = [0u8; 1048577];
     let m = fill(fd, &mut data);
     libc::close(fd);
+    if 1048576 < m {
+        too_long(path);
+        return s;
+    }
     lines_of(names, k, n, states, &data, m, s)
 }
 
