@@ -87,6 +87,9 @@ typedef struct {
     dachsmond_queue queue;
 } dachsmond_pushed;
 
+/* How many names a list of names holds: 18, 12. */
+dachsmond_told dachsmond_check_names(const uint8_t *names, size_t names_len);
+
 /* The expression that a text is, as a tree over a list of names, for the sort asked for: 18, 12, 1 to 8. */
 dachsmond_expression dachsmond_read_expression(const uint8_t *names, size_t names_len, const uint8_t *text,
                                                size_t text_len, bool vector);
@@ -157,6 +160,63 @@ dachsmond_queue dachsmond_empty_queue(void);
 /* One row more: its answer, how many alternatives were tried, and the queue with the row in it: 18, 10, 15. */
 dachsmond_pushed dachsmond_push(size_t names, const uint8_t *tree, size_t tree_len, dachsmond_queue queue,
                                 const uint8_t *row, size_t row_len);
+
+/* Alternatives handed in: lists as `dachsmond_rewrite` writes them, of exactly as many entries as they say, over the tree
+   in which their operands end. Lists that are not accepted are refused with 10. */
+
+/* Whether such lists are accepted; nothing is refused. */
+bool dachsmond_listed_fits(size_t names, const uint8_t *tree, size_t tree_len, const uint8_t *steps, size_t steps_len,
+                           const uint8_t *tests, size_t tests_len, const uint8_t *edges, size_t edges_len,
+                           const uint16_t *operands, size_t operands_len);
+
+/* Their answer at a row, and how many of them were tried: 18, 10, 15, 19. */
+dachsmond_matched dachsmond_listed_match_row(size_t names, size_t n, const uint8_t *tree, size_t tree_len,
+                                             const uint8_t *steps, size_t steps_len, const uint8_t *tests,
+                                             size_t tests_len, const uint8_t *edges, size_t edges_len,
+                                             const uint16_t *operands, size_t operands_len, const uint8_t *states,
+                                             size_t states_len, size_t row);
+
+/* Their answers at all n rows and the numbers tried into two lists of exactly n; how many: 18, 10, 15. */
+dachsmond_told dachsmond_listed_match_all(size_t names, size_t n, const uint8_t *tree, size_t tree_len,
+                                          const uint8_t *steps, size_t steps_len, const uint8_t *tests,
+                                          size_t tests_len, const uint8_t *edges, size_t edges_len,
+                                          const uint16_t *operands, size_t operands_len, const uint8_t *states,
+                                          size_t states_len, uint8_t *answers, size_t answers_len, uint32_t *tried,
+                                          size_t tried_len);
+
+/* How many of the n rows they answer with yes, no and unknown, together n - 1: 18, 10, 15. */
+dachsmond_counted dachsmond_listed_totals(size_t names, size_t n, const uint8_t *tree, size_t tree_len,
+                                          const uint8_t *steps, size_t steps_len, const uint8_t *tests,
+                                          size_t tests_len, const uint8_t *edges, size_t edges_len,
+                                          const uint16_t *operands, size_t operands_len, const uint8_t *states,
+                                          size_t states_len);
+
+/* One row more: their answer, how many of them were tried, and the queue with the row in it: 18, 10, 15. */
+dachsmond_pushed dachsmond_listed_push(size_t names, const uint8_t *tree, size_t tree_len, const uint8_t *steps,
+                                       size_t steps_len, const uint8_t *tests, size_t tests_len, const uint8_t *edges,
+                                       size_t edges_len, const uint16_t *operands, size_t operands_len,
+                                       dachsmond_queue queue, const uint8_t *row, size_t row_len);
+
+/* The listing of 1 to 65,535 rows, their times and as many answers, at the front of `out`; its length: 18, 15 for an
+   answer above 3, 9. */
+dachsmond_told dachsmond_list(const uint32_t *times, size_t times_len, const uint8_t *answers, size_t answers_len,
+                              uint8_t *out, size_t out_len);
+
+/* The line of the table's heading at the front of `out`; its length: 9. */
+dachsmond_told dachsmond_table_heading(uint8_t *out, size_t out_len);
+
+/* The line of a pattern with such totals on n rows, where a byte of the pattern below 32 is shown as a space, at the
+   front of `out`; its length: 9. */
+dachsmond_told dachsmond_table_line(const uint8_t *pattern, size_t pattern_len, uint32_t yes, uint32_t unknown,
+                                    uint32_t no, uint32_t n, uint8_t *out, size_t out_len);
+
+/* The line of a pattern that was refused with a number at a place, at the front of `out`; its length: 9. */
+dachsmond_told dachsmond_table_refused(const uint8_t *pattern, size_t pattern_len, uint8_t number, size_t place,
+                                       uint8_t *out, size_t out_len);
+
+/* The line of the totals of so many patterns on a trace of so many events, at the front of `out`; its length: 9. */
+dachsmond_told dachsmond_table_total(uint64_t yes, uint64_t unknown, uint64_t no, uint64_t patterns, uint64_t events,
+                                     uint8_t *out, size_t out_len);
 
 #ifdef __cplusplus
 }

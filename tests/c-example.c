@@ -63,6 +63,56 @@ static void show_matching(void)
     show_answers("row 3 corrected", answers);
 }
 
+/* the two alternatives of a pattern, handed in again as lists; then with an edge code that is none */
+#define LISTS e.tree, e.len, steps, 2, tests, 2, edges, 2, operands, 2
+static void show_listed(void)
+{
+    static const uint8_t TEXT[] = "01 A | 10 B";
+    uint8_t steps[64], tests[1024], edges[4096], answers[6], pushed[6];
+    uint16_t operands[4096];
+    uint32_t tried[6];
+    dachsmond_expression e = dachsmond_read_expression(NAMES, sizeof NAMES, TEXT, 11, true);
+    dachsmond_told k = dachsmond_rewrite(3, e.tree, e.len, steps, 64, tests, 1024, edges, 4096, operands, 4096);
+    printf("01 A | 10 B: %zu alternatives, accepted %d\n", k.count, dachsmond_listed_fits(3, LISTS));
+    dachsmond_listed_match_all(3, 6, LISTS, STATES, sizeof STATES, answers, 6, tried, 6);
+    show_answers("by lists", answers);
+    printf("tried %u %u %u %u %u %u\n", tried[0], tried[1], tried[2], tried[3], tried[4], tried[5]);
+    dachsmond_matched m = dachsmond_listed_match_row(3, 6, LISTS, STATES, sizeof STATES, 4);
+    printf("row 4: answer %u, tried %u\n", m.answer, m.tries);
+    dachsmond_counted c = dachsmond_listed_totals(3, 6, LISTS, STATES, sizeof STATES);
+    printf("yes %u no %u unknown %u\n", c.yes, c.no, c.unknown);
+    dachsmond_queue queue = dachsmond_empty_queue();
+    for (int i = 0; i < 6; i++) {
+        dachsmond_pushed p = dachsmond_listed_push(3, LISTS, queue, STATES + 3 * i, 3);
+        pushed[i] = p.answer;
+        queue = p.queue;
+    }
+    show_answers("row by row", pushed);
+    edges[1] = 83;
+    c = dachsmond_listed_totals(3, 6, LISTS, STATES, sizeof STATES);
+    printf("edge 83: accepted %d, totals refused with %u at %zu\n", dachsmond_listed_fits(3, LISTS), c.number, c.place);
+}
+
+/* case 1's listing, and a table of two patterns on table T, the second of them refused */
+static void show_texts(void)
+{
+    static const uint8_t ANSWERS[] = {3, 1, 0, 0, 2, 0}, BAD[] = "01 A ->";
+    static const uint32_t TIMES[] = {0, 10, 20, 35, 40, 55};
+    uint8_t out[200];
+    dachsmond_told w = dachsmond_list(TIMES, 6, ANSWERS, 6, out, sizeof out);
+    printf("%.*s", (int)w.count, (const char *)out);
+    w = dachsmond_table_heading(out, sizeof out);
+    printf("%.*s", (int)w.count, (const char *)out);
+    w = dachsmond_table_line(BAD, 4, 1, 1, 3, 6, out, sizeof out);
+    printf("%.*s", (int)w.count, (const char *)out);
+    w = dachsmond_table_refused(BAD, 7, 5, 7, out, sizeof out);
+    printf("%.*s", (int)w.count, (const char *)out);
+    w = dachsmond_table_total(1, 1, 3, 1, 5, out, sizeof out);
+    printf("%.*s", (int)w.count, (const char *)out);
+    w = dachsmond_table_heading(out, 3);
+    printf("heading in 3 bytes: refused with %u at %zu\n", w.number, w.place);
+}
+
 int main(void)
 {
     uint8_t names[32], states[2], file[24];
@@ -77,6 +127,10 @@ int main(void)
     read_and_write("((01 A)->10 B)&&C", true);
     read_and_write("A?C:'bz", false);
     read_and_write("01 A -> B", true);
+    w = dachsmond_check_names(NAMES, sizeof NAMES);
+    printf("%zu names\n", w.count);
     show_changes();
     show_matching();
+    show_listed();
+    show_texts();
 }

@@ -2,3 +2,4 @@
 pub mod Handed
 pub mod Unique
 pub mod Theorems
+pub mod ListTheorems

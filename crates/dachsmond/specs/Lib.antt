@@ -1,3 +1,4 @@
 -- What the library for C tells.
 pub mod Handing
 pub mod Matching
+pub mod Listed

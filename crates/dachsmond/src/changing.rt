@@ -40,7 +40,7 @@ pub extern "C" fn dachsmond_empty_queue() -> Queue
     Queue { kept: 0, states }
 }
 
-fn queue_of(q: Queue) -> updates::queues::Queue
+pub fn queue_of(q: Queue) -> updates::queues::Queue
     ensures { λ r. ⌜ r ≡ queueOf q ⌝ }
 {
     let states = q.states;
@@ -50,7 +50,7 @@ fn queue_of(q: Queue) -> updates::queues::Queue
     }
 }
 
-fn tell_push(p: Pushing) -> Pushed
+pub fn tell_push(p: Pushing) -> Pushed
     ensures { λ r. ⌜ r ≡ toldPush p ⌝ }
 {
     let told = p.told;

@@ -1,9 +1,10 @@
 // The library for C: the public calls under plain names, `include/dachsmond.h` declares them. A call hands on to the
 // crate that has it and tells what came of it in numbers, since an enum cannot cross to C. Lent memory is a pointer
-// and a length. Number 0 is done; another is document 01's number of the refusal. The calls by alternatives that are
-// handed in and the listing are not among them yet.
+// and a length. Number 0 is done; another is document 01's number of the refusal.
 pub mod changing;
 pub mod files;
+pub mod listed;
+pub mod lists;
 pub mod matching;
 pub mod rows;
 pub mod texts;

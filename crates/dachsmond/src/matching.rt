@@ -41,7 +41,7 @@ pub fn tell_match(o: Matching) -> Matched
     }
 }
 
-fn tell_counts(o: Counting) -> Counted
+pub fn tell_counts(o: Counting) -> Counted
     ensures { λ r. ⌜ r ≡ toldCounts o ⌝ }
 {
     match o {

@@ -1,5 +1,9 @@
-// Expressions for C: reading and writing.
+// Names and expressions for C: a list of names checked, an expression read and written.
+ghost use Prim.Native.Nat.{_/_};
 ghost use mathlib.Core.Path.{_≡_};
+ghost use lib.ListN.{length};
+ghost use Rattle.alf.specs.Refusals.{Comes};
+ghost use Rattle.names.specs.Check.{namesOrder};
 ghost use Rattle.reader.specs.Reading.{Reading};
 ghost use Rattle.writer.specs.Writing.{Writes};
 ghost use Rattle.dachsmond.specs.Handing.{Hands, told, toldExpression, sortOf};
@@ -7,6 +11,7 @@ use crate::Expression;
 use crate::Told;
 use alf::Outcome;
 use alf::Sort;
+use names::check_names;
 use reader::Read;
 use reader::read_expression;
 use writer::write_expression;
@@ -45,6 +50,15 @@ fn sort_of(vector: bool) -> Sort
     ensures { λ r. ⌜ r ≡ sortOf vector ⌝ }
 {
     if vector { Sort::Vector } else { Sort::Boolean }
+}
+
+// How many names a list of names holds.
+#[no_mangle]
+pub extern "C" fn dachsmond_check_names(names: &[u8]) -> Told
+    ensures { λ r. ⌜ Hands (Comes (namesOrder (now (names .entry))) (λ k. k ≡ length (now (names .entry)) / 32))
+        told r ⌝ }
+{
+    tell(check_names(names))
 }
 
 // The expression that a text is, as a tree over a list of names.

@@ -1,0 +1,129 @@
+// Matching by alternatives that are handed in as lists, for C: whether they are accepted, a row, all rows, the totals,
+// the queue.
+ghost use mathlib.Core.Path.{_≡_};
+ghost use Rattle.limits.specs.Accepted.{Decides};
+ghost use Rattle.listed_calls.specs.Lists.{AcceptedAlternatives};
+ghost use Rattle.listed_calls.specs.Listed.{ListedMatch, ListedAll, ListedTotals};
+ghost use Rattle.dachsmond.specs.Handing.{Hands, told};
+ghost use Rattle.dachsmond.specs.Matching.{toldMatch, toldCounts, queueOf, toldPush};
+ghost use Rattle.dachsmond.specs.Listed.{ListedPushes};
+use crate::Counted;
+use crate::Matched;
+use crate::Pushed;
+use crate::Queue;
+use crate::Told;
+use crate::changing::queue_of;
+use crate::changing::tell_push;
+use crate::matching::tell_counts;
+use crate::matching::tell_match;
+use crate::texts::tell;
+use listed_calls::accepting::fits;
+use listed_calls::listed::match_all;
+use listed_calls::listed::match_row;
+use listed_calls::listed::push;
+use listed_calls::listed::totals;
+
+// Whether alternatives are accepted that are handed in.
+#[no_mangle]
+pub extern "C" fn dachsmond_listed_fits(
+    names: usize,
+    tree: &[u8],
+    steps: &[u8],
+    tests: &[u8],
+    edges: &[u8],
+    operands: &[u16],
+) -> bool
+    ensures { λ r. ⌜ Decides r (AcceptedAlternatives names (now (tree .entry)) (now (steps .entry))
+        (now (tests .entry)) (now (edges .entry)) (now (operands .entry))) ⌝ }
+{
+    fits(names, tree, steps, tests, edges, operands)
+}
+
+// Their answer at a row, and the number of them tried.
+#[no_mangle]
+pub extern "C" fn dachsmond_listed_match_row(
+    names: usize,
+    n: usize,
+    tree: &[u8],
+    steps: &[u8],
+    tests: &[u8],
+    edges: &[u8],
+    operands: &[u16],
+    states: &[u8],
+    row: usize,
+) -> Matched
+    ensures { λ r. ⌜ Hands (ListedMatch names n (now (tree .entry)) (now (steps .entry)) (now (tests .entry))
+        (now (edges .entry)) (now (operands .entry)) (now (states .entry)) row) toldMatch r ⌝ }
+{
+    tell_match(match_row(names, n, tree, steps, tests, edges, operands, states, row))
+}
+
+// The same for all rows, into lent lists.
+#[no_mangle]
+pub extern "C" fn dachsmond_listed_match_all(
+    names: usize,
+    n: usize,
+    tree: &[u8],
+    steps: &[u8],
+    tests: &[u8],
+    edges: &[u8],
+    operands: &[u16],
+    states: &[u8],
+    answers: &mut [u8],
+    tried: &mut [u32],
+) -> Told
+    ensures { λ r. ⌜ Hands (ListedAll names n (now (tree .entry)) (now (steps .entry)) (now (tests .entry))
+        (now (edges .entry)) (now (operands .entry)) (now (states .entry)) (now (answers .entry)) (now (tried .entry))
+        (now (answers .exit)) (now (tried .exit))) told r ⌝ }
+{
+    tell(match_all(
+        names,
+        n,
+        tree,
+        steps,
+        tests,
+        edges,
+        operands,
+        states,
+        answers,
+        tried,
+    ))
+}
+
+// How many of the rows answer yes, no and unknown.
+#[no_mangle]
+pub extern "C" fn dachsmond_listed_totals(
+    names: usize,
+    n: usize,
+    tree: &[u8],
+    steps: &[u8],
+    tests: &[u8],
+    edges: &[u8],
+    operands: &[u16],
+    states: &[u8],
+) -> Counted
+    ensures { λ r. ⌜ Hands (ListedTotals names n (now (tree .entry)) (now (steps .entry)) (now (tests .entry))
+        (now (edges .entry)) (now (operands .entry)) (now (states .entry))) toldCounts r ⌝ }
+{
+    tell_counts(totals(names, n, tree, steps, tests, edges, operands, states))
+}
+
+// One row more: its answer, the number tried, and the queue then.
+#[no_mangle]
+pub extern "C" fn dachsmond_listed_push(
+    names: usize,
+    tree: &[u8],
+    steps: &[u8],
+    tests: &[u8],
+    edges: &[u8],
+    operands: &[u16],
+    queue: Queue,
+    row: &[u8],
+) -> Pushed
+    ensures { λ r. ⌜ Hands (ListedPushes names (now (tree .entry)) (now (steps .entry)) (now (tests .entry))
+        (now (edges .entry)) (now (operands .entry)) (queueOf queue) (now (row .entry))) toldPush r ⌝ }
+{
+    let old = queue_of(queue);
+    let p = push(names, tree, steps, tests, edges, operands, old, row);
+    tell_push(p)
+}
