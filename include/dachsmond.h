@@ -126,6 +126,10 @@ dachsmond_told dachsmond_values(size_t names, size_t n, const uint8_t *tree, siz
 dachsmond_answered dachsmond_row_answer(size_t names, size_t n, const uint8_t *tree, size_t tree_len,
                                         const uint8_t *states, size_t states_len, size_t row);
 
+/* The answer of a vector tree on the window of rows a to b; a window without an event answers no: 18, 10, 15, 19. */
+dachsmond_answered dachsmond_window_answer(size_t names, size_t n, const uint8_t *tree, size_t tree_len,
+                                           const uint8_t *states, size_t states_len, size_t a, size_t b);
+
 /* The same answer by the tree's alternatives, and how many of them were tried: 18, 10, 15, 19. */
 dachsmond_matched dachsmond_match_row(size_t names, size_t n, const uint8_t *tree, size_t tree_len,
                                       const uint8_t *states, size_t states_len, size_t row);

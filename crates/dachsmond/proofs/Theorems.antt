@@ -16,6 +16,8 @@ use Rattle.changes.specs.Call.{Comes}
 use Rattle.changes.proofs.Unique.{changes-unique}
 use Rattle.calls.specs.declared.pushing.Pushing.{Pushing}
 use Rattle.calls.specs.Written.{RowState, RowValue, AllValues, RowAnswer}
+use Rattle.calls.specs.Windows.{WindowAnswer}
+use Rattle.calls.proofs.OnWindows.{window-unique}
 use Rattle.calls.specs.Matching.{RowMatch, AllMatched, RowTotals}
 use Rattle.calls.specs.Correcting.{Correction}
 use Rattle.calls.proofs.Unique.{state-unique, value-unique, values-unique, answer-unique, match-unique, all-unique}
@@ -90,6 +92,10 @@ module _ {names n : ℕ} {tree states : List ℕ} where
   pub row-answer-unique : {row : ℕ} {r s : Answered} → Hands (RowAnswer names n tree states row) toldAnswer r
       → Hands (RowAnswer names n tree states row) toldAnswer s → r ≡ s
   row-answer-unique x y = hands-unique (λ a b p q. answer-unique p q) x y
+
+  pub window-answer-unique : {from to : ℕ} {r s : Answered} → Hands (WindowAnswer names n tree states from to) toldAnswer r
+      → Hands (WindowAnswer names n tree states from to) toldAnswer s → r ≡ s
+  window-answer-unique x y = hands-unique (λ a b p q. window-unique p q) x y
 
   pub match-row-unique : {row : ℕ} {r s : Matched} → Hands (RowMatch names n tree states row) toldMatch r
       → Hands (RowMatch names n tree states row) toldMatch s → r ≡ s

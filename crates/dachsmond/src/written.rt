@@ -1,10 +1,12 @@
 // An expression at the rows of a trace, as it is written, for C.
 ghost use mathlib.Core.Path.{_≡_};
 ghost use Rattle.calls.specs.Written.{RowState, RowValue, AllValues, RowAnswer};
+ghost use Rattle.calls.specs.Windows.{WindowAnswer};
 ghost use Rattle.dachsmond.specs.Handing.{Hands, told, toldAnswer};
 use crate::Answered;
 use crate::Told;
 use crate::texts::tell;
+use calls::windows::window_answer;
 use calls::written::row_answer;
 use calls::written::row_state;
 use calls::written::row_value;
@@ -86,4 +88,19 @@ pub extern "C" fn dachsmond_row_answer(
     ensures { λ r. ⌜ Hands (RowAnswer names n (now (tree .entry)) (now (states .entry)) row) toldAnswer r ⌝ }
 {
     tell_answer(row_answer(names, n, tree, states, row))
+}
+
+// The answer of a vector expression on the window of rows a to b.
+#[no_mangle]
+pub extern "C" fn dachsmond_window_answer(
+    names: usize,
+    n: usize,
+    tree: &[u8],
+    states: &[u8],
+    a: usize,
+    b: usize,
+) -> Answered
+    ensures { λ r. ⌜ Hands (WindowAnswer names n (now (tree .entry)) (now (states .entry)) a b) toldAnswer r ⌝ }
+{
+    tell_answer(window_answer(names, n, tree, states, a, b))
 }
