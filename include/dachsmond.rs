@@ -1,0 +1,238 @@
+//! Dachsmond for Rust: each call of include/dachsmond.h with slices in place of pointers and lengths, so that lent
+//! memory is good memory, and what a call writes to overlaps nothing else. A `number` of 0 is done; another is
+//! document 01's number of the refusal, with its place; then all lent memory is as it was and the other fields are 0.
+//!
+//! Names are slots of 32 bytes, filled with zeros behind the name. States are codes 0 to 7 for 0 1 X H L W Z U, row by
+//! row. A tree is the bytes of an expression, one a node, operands before their operator.
+//!
+//! It is built beside libdachsmond.a (`rt staticlib dachsmond`, x86-64), as tests/rust-example does.
+
+/// What came of a call: done, with a count of what it made, or refused.
+#[repr(C)]
+#[derive(Clone, Copy, Debug)]
+pub struct Told {
+    pub number: u8,
+    pub place: usize,
+    pub count: usize,
+}
+
+/// The first `len` entries of `tree`, with zeros behind them, or refused.
+#[repr(C)]
+#[derive(Clone, Copy, Debug)]
+pub struct Expression {
+    pub number: u8,
+    pub place: usize,
+    pub len: usize,
+    pub tree: [u8; 256],
+}
+
+/// How many names and rows were read, or refused.
+#[repr(C)]
+#[derive(Clone, Copy, Debug)]
+pub struct Trace {
+    pub number: u8,
+    pub place: usize,
+    pub names: usize,
+    pub rows: usize,
+}
+
+/// The changed variables of a row, bit i for name i, and how many they are, or refused.
+#[repr(C)]
+#[derive(Clone, Copy, Debug)]
+pub struct Changed {
+    pub number: u8,
+    pub place: usize,
+    pub mask: u32,
+    pub many: u32,
+}
+
+/// The answer at a row, 0 no, 1 yes, 2 unknown, 3 no event, or refused.
+#[repr(C)]
+#[derive(Clone, Copy, Debug)]
+pub struct Answered {
+    pub number: u8,
+    pub place: usize,
+    pub answer: u8,
+}
+
+/// The same, and the number of alternatives tried.
+#[repr(C)]
+#[derive(Clone, Copy, Debug)]
+pub struct Matched {
+    pub number: u8,
+    pub place: usize,
+    pub answer: u8,
+    pub tries: u32,
+}
+
+/// How many rows answer yes, no and unknown, or refused.
+#[repr(C)]
+#[derive(Clone, Copy, Debug)]
+pub struct Counted {
+    pub number: u8,
+    pub place: usize,
+    pub yes: u32,
+    pub no: u32,
+    pub unknown: u32,
+}
+
+/// How many rows a queue keeps, and their states, oldest first, with zeros behind them.
+#[repr(C)]
+#[derive(Clone, Copy, Debug)]
+pub struct Queue {
+    pub kept: u32,
+    pub states: [u8; 512],
+}
+
+/// The answer of the row pushed and the number tried, or refused; and the queue then, refused the one handed in.
+#[repr(C)]
+#[derive(Clone, Copy, Debug)]
+pub struct Pushed {
+    pub number: u8,
+    pub place: usize,
+    pub answer: u8,
+    pub tries: u32,
+    pub queue: Queue,
+}
+
+#[link(name = "dachsmond", kind = "static")]
+extern "C" {}
+
+/// Declares the function of C and gives it with slices: a list is handed to C as its pointer and its length.
+macro_rules! calls {
+    ($($(#[$doc:meta])* $f:ident = $c:ident($($parameter:tt)*) -> $r:ty;)*) => {
+        $(calls!(@ [$(#[$doc])*] $f $c $r; [] [] []; $($parameter)*,);)*
+    };
+    (@ [$($doc:tt)*] $f:ident $c:ident $r:ty; [$($with:tt)*] [$($as_c:tt)*] [$($handed:tt)*]; $(,)?) => {
+        $($doc)*
+        pub fn $f($($with)*) -> $r {
+            extern "C" {
+                fn $c($($as_c)*) -> $r;
+            }
+            unsafe { $c($($handed)*) }
+        }
+    };
+    (@ $doc:tt $f:ident $c:ident $r:ty; [$($with:tt)*] [$($as_c:tt)*] [$($handed:tt)*];
+        $p:ident: &[$t:ty], $($more:tt)*) => {
+        calls!(@ $doc $f $c $r; [$($with)* $p: &[$t],] [$($as_c)* $p: *const $t, _: usize,]
+            [$($handed)* $p.as_ptr(), $p.len(),]; $($more)*);
+    };
+    (@ $doc:tt $f:ident $c:ident $r:ty; [$($with:tt)*] [$($as_c:tt)*] [$($handed:tt)*];
+        $p:ident: &mut [$t:ty], $($more:tt)*) => {
+        calls!(@ $doc $f $c $r; [$($with)* $p: &mut [$t],] [$($as_c)* $p: *mut $t, _: usize,]
+            [$($handed)* $p.as_mut_ptr(), $p.len(),]; $($more)*);
+    };
+    (@ $doc:tt $f:ident $c:ident $r:ty; [$($with:tt)*] [$($as_c:tt)*] [$($handed:tt)*];
+        $p:ident: $t:ty, $($more:tt)*) => {
+        calls!(@ $doc $f $c $r; [$($with)* $p: $t,] [$($as_c)* $p: $t,] [$($handed)* $p,]; $($more)*);
+    };
+}
+
+calls! {
+    /// How many names a list of names holds: 18, 12.
+    check_names = dachsmond_check_names(names: &[u8]) -> Told;
+
+    /// The expression that a text is, as a tree over a list of names, for the sort asked for: 18, 12, 1 to 8.
+    read_expression = dachsmond_read_expression(names: &[u8], text: &[u8], vector: bool) -> Expression;
+
+    /// The text of a tree, with only needed brackets, at the front of `out`; its length: 18, 12, 10, 1, 9.
+    write_expression = dachsmond_write_expression(names: &[u8], tree: &[u8], vector: bool, out: &mut [u8]) -> Told;
+
+    /// A trace file into three lists, names in slots, times, and states: 11 to 17, then 9 for the first short list.
+    read_trace = dachsmond_read_trace(file: &[u8], names: &mut [u8], times: &mut [u32], states: &mut [u8]) -> Trace;
+
+    /// The file of a trace of n rows at the front of `out`; its length: 18, 12, 13 and 15 row by row, 9.
+    write_trace = dachsmond_write_trace(names: &[u8], times: &[u32], states: &[u8], n: usize,
+        out: &mut [u8]) -> Told;
+
+    /// The changes of a row of a trace of n rows and so many names; row 0 has none: 18, 15, 19.
+    changes_at = dachsmond_changes_at(names: usize, n: usize, states: &[u8], row: usize) -> Changed;
+
+    /// The state of a boolean tree at a row, as the count told: 18, 10, 15, 19.
+    row_state = dachsmond_row_state(names: usize, n: usize, tree: &[u8], states: &[u8], row: usize) -> Told;
+
+    /// The value of a boolean tree at a row, as the count told: 18, 10, 15, 19.
+    row_value = dachsmond_row_value(names: usize, n: usize, tree: &[u8], states: &[u8], row: usize) -> Told;
+
+    /// The values of a boolean tree at all n rows into a list of exactly n; how many: 18, 10, 15.
+    values = dachsmond_values(names: usize, n: usize, tree: &[u8], states: &[u8], out: &mut [u8]) -> Told;
+
+    /// The answer of a vector tree at a row, the greatest over all windows that end there, which takes long far
+    /// from row 0: 18, 10, 15, 19.
+    row_answer = dachsmond_row_answer(names: usize, n: usize, tree: &[u8], states: &[u8], row: usize) -> Answered;
+
+    /// The answer of a vector tree on the window of rows a to b; a window without an event answers no: 18, 10, 15,
+    /// 19.
+    window_answer = dachsmond_window_answer(names: usize, n: usize, tree: &[u8], states: &[u8], a: usize,
+        b: usize) -> Answered;
+
+    /// The same answer by the tree's alternatives, and how many of them were tried: 18, 10, 15, 19.
+    match_row = dachsmond_match_row(names: usize, n: usize, tree: &[u8], states: &[u8], row: usize) -> Matched;
+
+    /// The answers of all n rows and the numbers tried into two lists of exactly n; how many: 18, 10, 15.
+    match_all = dachsmond_match_all(names: usize, n: usize, tree: &[u8], states: &[u8], answers: &mut [u8],
+        tried: &mut [u32]) -> Told;
+
+    /// How many of the n rows answer yes, no and unknown, together n - 1: 18, 10, 15.
+    totals = dachsmond_totals(names: usize, n: usize, tree: &[u8], states: &[u8]) -> Counted;
+
+    /// The alternatives of a vector tree into four lists: steps of each alternative, tests of each step, and for
+    /// each test its edge's number and where its operand ends in the tree; how many alternatives: 18, 10, 9.
+    rewrite = dachsmond_rewrite(names: usize, tree: &[u8], steps: &mut [u8], tests: &mut [u8], edges: &mut [u8],
+        operands: &mut [u16]) -> Told;
+
+    /// A flag for each alternative of a vector tree, 1 where it is contradictory, else 0; how many: 18, 10, 9.
+    contradictions = dachsmond_contradictions(names: usize, tree: &[u8], flags: &mut [u8]) -> Told;
+
+    /// The new states become the row, and the answers from it on that can depend on it are written anew: 18, 10,
+    /// 15, 19.
+    correct = dachsmond_correct(names: usize, n: usize, tree: &[u8], states: &mut [u8], answers: &mut [u8],
+        row: u32, new_states: &[u8]) -> Told;
+
+    /// A queue before the first push.
+    empty_queue = dachsmond_empty_queue() -> Queue;
+
+    /// One row more: its answer, how many alternatives were tried, and the queue with the row in it: 18, 10, 15.
+    push = dachsmond_push(names: usize, tree: &[u8], queue: Queue, row: &[u8]) -> Pushed;
+
+    /// Whether alternatives handed in, lists as `rewrite` writes them and of exactly as many entries as they say, over
+    /// the tree in which their operands end, are accepted; the calls below refuse others with 10.
+    listed_fits = dachsmond_listed_fits(names: usize, tree: &[u8], steps: &[u8], tests: &[u8], edges: &[u8],
+        operands: &[u16]) -> bool;
+
+    /// The answer of such lists at a row, and how many of them were tried: 18, 10, 15, 19.
+    listed_match_row = dachsmond_listed_match_row(names: usize, n: usize, tree: &[u8], steps: &[u8], tests: &[u8],
+        edges: &[u8], operands: &[u16], states: &[u8], row: usize) -> Matched;
+
+    /// The answers of such lists at all n rows and the numbers tried into two lists of exactly n; how many: 18, 10, 15.
+    listed_match_all = dachsmond_listed_match_all(names: usize, n: usize, tree: &[u8], steps: &[u8], tests: &[u8],
+        edges: &[u8], operands: &[u16], states: &[u8], answers: &mut [u8], tried: &mut [u32]) -> Told;
+
+    /// How many of the n rows such lists answer with yes, no and unknown, together n - 1: 18, 10, 15.
+    listed_totals = dachsmond_listed_totals(names: usize, n: usize, tree: &[u8], steps: &[u8], tests: &[u8],
+        edges: &[u8], operands: &[u16], states: &[u8]) -> Counted;
+
+    /// One row more for such lists: their answer, how many of them were tried, and the queue with the row in it: 18, 10, 15.
+    listed_push = dachsmond_listed_push(names: usize, tree: &[u8], steps: &[u8], tests: &[u8], edges: &[u8],
+        operands: &[u16], queue: Queue, row: &[u8]) -> Pushed;
+
+    /// The listing of 1 to 65,535 rows, their times and as many answers, at the front of `out`; its length: 18, 15
+    /// for an answer above 3, 9.
+    list = dachsmond_list(times: &[u32], answers: &[u8], out: &mut [u8]) -> Told;
+
+    /// The line of the table's heading at the front of `out`; its length: 9.
+    table_heading = dachsmond_table_heading(out: &mut [u8]) -> Told;
+
+    /// The line of a pattern with such totals on n rows, where a byte of the pattern below 32 is shown as a space,
+    /// at the front of `out`; its length: 9.
+    table_line = dachsmond_table_line(pattern: &[u8], yes: u32, unknown: u32, no: u32, n: u32,
+        out: &mut [u8]) -> Told;
+
+    /// The line of a pattern that was refused with a number at a place, at the front of `out`; its length: 9.
+    table_refused = dachsmond_table_refused(pattern: &[u8], number: u8, place: usize, out: &mut [u8]) -> Told;
+
+    /// The line of the totals of so many patterns on a trace of so many events, at the front of `out`; its length:
+    /// 9.
+    table_total = dachsmond_table_total(yes: u64, unknown: u64, no: u64, patterns: u64, events: u64,
+        out: &mut [u8]) -> Told;
+}
