@@ -40,16 +40,16 @@ use Rattle.calls.specs.Pushing.{RowFits, Handed, pushOrder, PushesTree, 
 use Rattle.calls.proofs.Theorems.{routes-taken}
 
 -- what is good is passed
-codes-never : (states : List ℕ) → Codes states → (p : ℕ) → bad-code states p → ⊥
+pub codes-never : (states : List ℕ) → Codes states → (p : ℕ) → bad-code states p → ⊥
 codes-never states s p a = omega (arith, s p (a .given .0), a .given .1)
 
-row-passed : {P Q : Type 0} (states : List ℕ) (n row : ℕ) → P → Q → Codes states → row < n
+pub row-passed : {P Q : Type 0} (states : List ℕ) (n row : ℕ) → P → Q → Codes states → row < n
     → Passed (order P Q (codesRow states n row))
 unfolding Passed
 row-passed states n row x y s h =
     (λ p a. a .given x, (λ p a. a .given y, (codes-never states s, (λ p a. omega (arith, h, a .given), tt))))
 
-codes-passed : {P Q : Type 0} (states : List ℕ) → P → Q → Codes states → Passed (order P Q (codes states))
+pub codes-passed : {P Q : Type 0} (states : List ℕ) → P → Q → Codes states → Passed (order P Q (codes states))
 unfolding Passed
 codes-passed states x y s = (λ p a. a .given x, (λ p a. a .given y, (codes-never states s, tt)))
 

@@ -1,4 +1,5 @@
--- What a text gives is accepted: gives-accepted. Each part of `Accepted` from the row of the table that was not given:
+-- What a text gives has its bytes as its tree (gives-decodes), and is accepted (gives-accepted). Each part of
+-- `Accepted` is from the row of the table that was not given:
 --   decodes    6: the expression is over the names of the list
 --   sorted     7
 --   tokens     4: the bytes are as many as the text's counted tokens
@@ -15,7 +16,7 @@ use Rattle.alf.specs.declared.Sort.{Sort}
 use Rattle.alf.specs.declared.Sort.the-variants as the-sort
 use Rattle.alf.specs.Expressions.{Expression, boolean, vector, ExpressionOver}
 use Rattle.alf.specs.Alternatives.{alternatives, overLimit}
-use Rattle.alf.specs.Bytes.{bytesOf}
+use Rattle.alf.specs.Bytes.{bytesOf, Decodes}
 use Rattle.alf.specs.Refusals.{Passed}
 use Rattle.alf.proofs.Encoding.{decode-bytes}
 use Rattle.names.specs.Check.{namesOrder}
@@ -105,11 +106,14 @@ module _ {names text : List ℕ} {sort : Sort} {x : Expression} (good : Passed (
         shallow-depth (g .read) (g .shallow),
       )
 
+  pub gives-decodes : Decodes (countOf names) (bytesOf x) x
+  gives-decodes = decode-bytes (countOf names) (names-few names good) x over
+
   pub gives-accepted : Accepted (countOf names) sort (bytesOf x)
   gives-accepted =
       record {
         expression = x;
-        decodes = decode-bytes (countOf names) (names-few names good) x over;
+        decodes = gives-decodes;
         sorted = fits .sort-is;
         tokens = few-bytes;
         brackets = few-brackets;

@@ -1,0 +1,14 @@
+-- Demand 1, of a call: its result and the contents of the memory lent to it follow from the input, refused or not, and
+-- refused, that memory is as it was. A call's contract is a relation: `allows` says which result (R) goes with which
+-- memory at exit (M). That a call ends, and ends as its contract says, is what the proof of its function says.
+--   Promised     of a call that is lent memory to write to
+--   One          of a call that is lent none
+use mathlib.Core.Path.{_≡_}
+use Rattle.alf.specs.declared.Refusal.{Refusal}
+
+pub record Promised {R M : Type 0} (refused : Refusal → R) (allows : R → M → Type 0) (before : M) : Type 0 where
+  pub one : (a b : R) (m n : M) → allows a m → allows b n → (a ≡ b) × (m ≡ n)
+  pub stays : (r : Refusal) (m : M) → allows (refused r) m → m ≡ before
+
+abbrev pub One : {R : Type 0} → (R → Type 0) → Type 0
+One {R} allows = (a b : R) → allows a → allows b → a ≡ b
