@@ -3,10 +3,12 @@
 
    Lent memory is a pointer and a length in entries; a pointer is not null, also where the length is 0, and lists that
    a call writes to overlap no other. A number of 0 is done. Another is document 01's number of the refusal, with its
-   place; then all lent memory is as it was and the other fields are 0.
+   place; then all lent memory is as it was and the other fields are 0, but a queue, which is the one handed in.
 
    Names are slots of 32 bytes, filled with zeros behind the name. States are codes 0 to 7 for 0 1 X H L W Z U, row by
-   row. A tree is the bytes of an expression, one a node, operands before their operator. */
+   row. A tree is the bytes of an expression, one a node, operands before their operator.
+
+   A call takes up to 2 MB of stack, which the proofs say nothing of; nothing is allocated and nothing is kept. */
 #ifndef DACHSMOND_H
 #define DACHSMOND_H
 #include <stdbool.h>
@@ -126,11 +128,12 @@ dachsmond_told dachsmond_values(size_t names, size_t n, const uint8_t *tree, siz
 dachsmond_answered dachsmond_row_answer(size_t names, size_t n, const uint8_t *tree, size_t tree_len,
                                         const uint8_t *states, size_t states_len, size_t row);
 
-/* The answer of a vector tree on the window of rows a to b; a window without an event answers no: 18, 10, 15, 19. */
+/* The answer of a vector tree on the window of rows a to b, which takes long where b is far from a; a window without an
+   event answers no: 18, 10, 15, 19. */
 dachsmond_answered dachsmond_window_answer(size_t names, size_t n, const uint8_t *tree, size_t tree_len,
                                            const uint8_t *states, size_t states_len, size_t a, size_t b);
 
-/* The same answer by the tree's alternatives, and how many of them were tried: 18, 10, 15, 19. */
+/* The answer of a vector tree at a row by its alternatives, and how many of them were tried: 18, 10, 15, 19. */
 dachsmond_matched dachsmond_match_row(size_t names, size_t n, const uint8_t *tree, size_t tree_len,
                                       const uint8_t *states, size_t states_len, size_t row);
 
@@ -168,7 +171,7 @@ dachsmond_pushed dachsmond_push(size_t names, const uint8_t *tree, size_t tree_l
 /* Alternatives handed in: lists as `dachsmond_rewrite` writes them, of exactly as many entries as they say, over the tree
    in which their operands end. Lists that are not accepted are refused with 10. */
 
-/* Whether such lists are accepted; nothing is refused. */
+/* Whether such lists are accepted, for 1 to 32 names; nothing is refused. */
 bool dachsmond_listed_fits(size_t names, const uint8_t *tree, size_t tree_len, const uint8_t *steps, size_t steps_len,
                            const uint8_t *tests, size_t tests_len, const uint8_t *edges, size_t edges_len,
                            const uint16_t *operands, size_t operands_len);
@@ -201,8 +204,8 @@ dachsmond_pushed dachsmond_listed_push(size_t names, const uint8_t *tree, size_t
                                        size_t edges_len, const uint16_t *operands, size_t operands_len,
                                        dachsmond_queue queue, const uint8_t *row, size_t row_len);
 
-/* The listing of 1 to 65,535 rows, their times and as many answers, at the front of `out`; its length: 18, 15 for an
-   answer above 3, 9. */
+/* The listing of 1 to 65,535 rows, their times and as many answers, at the front of `out`, whose last line counts the
+   answers handed in; its length: 18, 15 for an answer above 3, 9. */
 dachsmond_told dachsmond_list(const uint32_t *times, size_t times_len, const uint8_t *answers, size_t answers_len,
                               uint8_t *out, size_t out_len);
 

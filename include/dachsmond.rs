@@ -1,9 +1,11 @@
 //! Dachsmond for Rust: each call of include/dachsmond.h with slices in place of pointers and lengths, so that lent
 //! memory is good memory, and what a call writes to overlaps nothing else. A `number` of 0 is done; another is
-//! document 01's number of the refusal, with its place; then all lent memory is as it was and the other fields are 0.
+//! document 01's number of the refusal, with its place; then all lent memory is as it was and the other fields are 0,
+//! but a queue, which is the one handed in.
 //!
 //! Names are slots of 32 bytes, filled with zeros behind the name. States are codes 0 to 7 for 0 1 X H L W Z U, row by
-//! row. A tree is the bytes of an expression, one a node, operands before their operator.
+//! row. A tree is the bytes of an expression, one a node, operands before their operator. A call takes up to 2 MB of
+//! stack, which the proofs say nothing of.
 //!
 //! It is built beside libdachsmond.a (`rt staticlib dachsmond`, x86-64), as tests/rust-example does.
 
@@ -161,12 +163,12 @@ calls! {
     /// from row 0: 18, 10, 15, 19.
     row_answer = dachsmond_row_answer(names: usize, n: usize, tree: &[u8], states: &[u8], row: usize) -> Answered;
 
-    /// The answer of a vector tree on the window of rows a to b; a window without an event answers no: 18, 10, 15,
-    /// 19.
+    /// The answer of a vector tree on the window of rows a to b, which takes long where b is far from a; a window
+    /// without an event answers no: 18, 10, 15, 19.
     window_answer = dachsmond_window_answer(names: usize, n: usize, tree: &[u8], states: &[u8], a: usize,
         b: usize) -> Answered;
 
-    /// The same answer by the tree's alternatives, and how many of them were tried: 18, 10, 15, 19.
+    /// The answer of a vector tree at a row by its alternatives, and how many of them were tried: 18, 10, 15, 19.
     match_row = dachsmond_match_row(names: usize, n: usize, tree: &[u8], states: &[u8], row: usize) -> Matched;
 
     /// The answers of all n rows and the numbers tried into two lists of exactly n; how many: 18, 10, 15.
@@ -196,7 +198,7 @@ calls! {
     push = dachsmond_push(names: usize, tree: &[u8], queue: Queue, row: &[u8]) -> Pushed;
 
     /// Whether alternatives handed in, lists as `rewrite` writes them and of exactly as many entries as they say, over
-    /// the tree in which their operands end, are accepted; the calls below refuse others with 10.
+    /// the tree in which their operands end, are accepted, for 1 to 32 names; the calls below refuse others with 10.
     listed_fits = dachsmond_listed_fits(names: usize, tree: &[u8], steps: &[u8], tests: &[u8], edges: &[u8],
         operands: &[u16]) -> bool;
 
@@ -216,8 +218,8 @@ calls! {
     listed_push = dachsmond_listed_push(names: usize, tree: &[u8], steps: &[u8], tests: &[u8], edges: &[u8],
         operands: &[u16], queue: Queue, row: &[u8]) -> Pushed;
 
-    /// The listing of 1 to 65,535 rows, their times and as many answers, at the front of `out`; its length: 18, 15
-    /// for an answer above 3, 9.
+    /// The listing of 1 to 65,535 rows, their times and as many answers, at the front of `out`, whose last line
+    /// counts the answers handed in; its length: 18, 15 for an answer above 3, 9.
     list = dachsmond_list(times: &[u32], answers: &[u8], out: &mut [u8]) -> Told;
 
     /// The line of the table's heading at the front of `out`; its length: 9.
