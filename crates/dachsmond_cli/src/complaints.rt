@@ -32,17 +32,32 @@ fn reason(number: u8) {
     }
 }
 
-// A complaint in one line: what was refused, why, and its number and place.
-pub fn refused(what: &[u8], r: Refusal) {
+fn begin_refused(what: &[u8]) {
     complain();
     note(what);
     note(b" refused: ");
-    reason(r.number);
+}
+
+fn end_refused(r: Refusal) {
     note(b" (");
     note_number(r.number as usize);
     note(b" at ");
     note_number(r.place);
     note(b")\n");
+}
+
+// A complaint in one line: what was refused, why, and its number and place.
+pub fn refused(what: &[u8], r: Refusal) {
+    begin_refused(what);
+    reason(r.number);
+    end_refused(r);
+}
+
+// A new row that is not one state for each name.
+pub fn refused_row(r: Refusal) {
+    begin_refused(b"row");
+    note(b"a state for each name of the trace is wanted");
+    end_refused(r);
 }
 
 // A byte as a line shows it.
@@ -89,9 +104,23 @@ pub fn refused_text(what: &[u8], text: &[u8], r: Refusal) {
     note(b"\n");
 }
 
-// A call that cannot be understood.
-pub fn misused(why: &[u8]) {
-    complain();
-    note(why);
+fn see_help() {
     note(b"; dachsmond --help says what there is\n");
+}
+
+// A word that is no command.
+pub fn unknown(word: &[u8]) {
+    complain();
+    note(b"no such command: ");
+    note_text(word);
+    see_help();
+}
+
+// A command with other words than it expects.
+pub fn unfit(name: &[u8], words: &[u8]) {
+    complain();
+    note(name);
+    note(b": expects ");
+    note(words);
+    see_help();
 }

@@ -1,9 +1,10 @@
 // `correct`: the trace with one row's states replaced, written whole or not at all.
 ghost use Prim.Native.Nat.{_≤_};
 use crate::complaints::refused;
+use crate::complaints::refused_row;
 use crate::files::Loaded;
-use crate::files::failed;
 use crate::files::load;
+use crate::output::failed;
 use crate::output::put;
 use crate::output::put_all;
 use crate::output::say;
@@ -157,13 +158,10 @@ fn write_to(names: &[u8], times: &[u32], states: &[u8]) {
 // 18, 15, 19, or the row's new states.
 fn correct_row(names: &[u8], k: usize, times: &[u32], states: &mut [u8], row: usize, text: &[u8]) {
     if text.len() != k {
-        refused(
-            b"row",
-            Refusal {
-                number: 18,
-                place: 0,
-            },
-        );
+        refused_row(Refusal {
+            number: 18,
+            place: 0,
+        });
         return;
     }
     let bad = first_bad(text);

@@ -1,7 +1,11 @@
 // Reading a trace that an argument names; `-` is standard input.
+ghost use Prim.Native.Nat.{_≤_};
+ghost use lib.ListN.{length};
 ghost use Rattle.io.specs.Counts.{Counts};
 use crate::complaints::refused;
 use crate::output::complain;
+use crate::output::failed;
+use crate::output::note;
 use alf::Refusal;
 use traces::Reading;
 use traces::read::read_trace;
@@ -19,15 +23,53 @@ pub fn open(path: &[u8]) -> i32 {
     os::open_read(path)
 }
 
-// What a call of the system failed at.
-pub fn failed(path: &[u8]) {
-    complain();
-    os::fail(path);
+// What was read, to the end of the input or as much as there is room; or a read failed, and errno says why.
+pub enum Filled {
+    Bytes(usize),
+    Failed,
+}
+
+// One read behind the first `at` bytes: how many there are then, or more than there is room where it fails.
+fn read_on(fd: i32, buf: &mut [u8], at: usize) -> usize
+    requires { ⌜ at ≤ length (now buf) ⌝ }
+{
+    let part = &mut buf[at..];
+    let got = libc::read(fd, part);
+    if got < 0 {
+        return usize::MAX;
+    }
+    at + io::count(got, part)
+}
+
+pub fn fill(fd: i32, buf: &mut [u8]) -> Filled {
+    let mut done: usize = 0;
+    while done < buf.len() {
+        let next = read_on(fd, buf, done);
+        if buf.len() < next {
+            return Filled::Failed;
+        }
+        if next <= done {
+            return Filled::Bytes(done);
+        }
+        done = next;
+    }
+    Filled::Bytes(done)
+}
+
+// A file that cannot be read. Standard input is closed once it was read.
+pub fn unread(path: &[u8]) {
+    if os::errno() == libc::EBADF {
+        complain();
+        note(path);
+        note(b": standard input is closed, or was read already\n");
+        return;
+    }
+    failed(path);
 }
 
 // One byte more than the longest trace file has.
-fn fill(fd: i32, data: &mut [u8; 2491457]) -> usize {
-    io::read_full(fd, data)
+fn fill_trace(fd: i32, data: &mut [u8; 2491457]) -> Filled {
+    fill(fd, data)
 }
 
 fn parse(
@@ -70,18 +112,27 @@ fn load_path(
         return Loaded::Nothing;
     }
     let mut data = [0u8; 2491457];
-    let n = fill(fd, &mut data);
-    libc::close(fd);
-    told(path, parse(&data, n, names, times, states))
+    let filled = fill_trace(fd, &mut data);
+    match filled {
+        Filled::Failed => {
+            unread(path);
+            libc::close(fd);
+            Loaded::Nothing
+        }
+        Filled::Bytes(n) => {
+            libc::close(fd);
+            told(path, parse(&data, n, names, times, states))
+        }
+    }
 }
 
-// Argument i, of at most 65,536 bytes; where it cannot be had, errno says so, and it was complained of.
+// Argument i; of one over 65,536 bytes the front, which is refused as the whole would be.
 pub fn take_argument(i: usize, text: &mut [u8; 65536]) -> usize
     ensures { λ r. ⌜ Counts r (now (text .exit)) ⌝ }
 {
     let n = os::arg(i, text);
-    if os::errno() != 0 {
-        failed(b"an argument");
+    if os::errno() == libc::ENAMETOOLONG {
+        return io::count(65536, text);
     }
     n
 }

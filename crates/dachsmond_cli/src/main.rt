@@ -1,8 +1,11 @@
-// Dachsmond, the program: counts patterns of pin events in a trace. Each command stands in a file of its own.
+// Dachsmond, the program: counts patterns of pin events in a trace. Here stand the commands with the words that they
+// expect; each has a file of its own.
 mod alternatives;
 mod complaints;
 mod correct;
 mod files;
+mod help;
+mod lines;
 mod output;
 mod parts;
 mod patterns;
@@ -11,92 +14,116 @@ mod rows;
 mod show;
 mod table;
 
-use complaints::misused;
-use output::say;
+use complaints::unfit;
+use complaints::unknown;
 
-fn help() {
-    say(b"dachsmond counts how often patterns of pin events occur in a simulation trace.\n\n");
-    say(
-        b"  dachsmond                                the table of a small built-in trace, as a first look\n",
-    );
-    say(
-        b"  dachsmond table TRACE PATTERN..          times seen, share of all events, unknown, no\n",
-    );
-    say(
-        b"  dachsmond table TRACE -f FILE            the same for the patterns of a file, one a line\n",
-    );
-    say(b"  dachsmond list TRACE PATTERN             a pattern's answer at each row\n");
-    say(b"  dachsmond values TRACE EXPRESSION        a boolean expression's value at each row\n");
-    say(
-        b"  dachsmond rewrite TRACE PATTERN          a pattern's alternatives, contradictory ones marked\n",
-    );
-    say(
-        b"  dachsmond show TRACE                     the trace as a table, with the number of changed pins\n",
-    );
-    say(
-        b"  dachsmond correct TRACE ROW STATES OUT   the trace with one row replaced, written to OUT\n",
-    );
-    say(b"  dachsmond --help, dachsmond --version\n\n");
-    say(
-        b"rewrite writes `->` between steps, `&` between the tests of a step, and `( )` for an empty step.\n",
-    );
-    say(
-        b"`-` for a file is standard input or output. Data goes to standard output, complaints go to standard error.\n",
-    );
+enum Command {
+    Help,
+    Version,
+    Table,
+    List,
+    Values,
+    Rewrite,
+    Show,
+    Correct,
+    Unknown,
+}
+
+fn named(word: &[u8]) -> Command {
+    if check::same(word, b"table") {
+        return Command::Table;
+    }
+    if check::same(word, b"list") {
+        return Command::List;
+    }
+    if check::same(word, b"values") {
+        return Command::Values;
+    }
+    if check::same(word, b"rewrite") {
+        return Command::Rewrite;
+    }
+    if check::same(word, b"show") {
+        return Command::Show;
+    }
+    if check::same(word, b"correct") {
+        return Command::Correct;
+    }
+    if check::same(word, b"--version") {
+        return Command::Version;
+    }
+    asks_help(word)
+}
+
+fn asks_help(word: &[u8]) -> Command {
+    if check::same(word, b"--help") {
+        return Command::Help;
+    }
+    if check::same(word, b"-h") {
+        return Command::Help;
+    }
+    if check::same(word, b"help") {
+        return Command::Help;
+    }
+    Command::Unknown
+}
+
+// Whether so many words are enough and not too many; where not, it is complained of.
+fn expects(name: &[u8], words: &[u8], more: usize, least: usize, most: usize) -> bool {
+    if more < least {
+        unfit(name, words);
+        return false;
+    }
+    if most < more {
+        unfit(name, words);
+        return false;
+    }
+    true
+}
+
+// The table of the commands: what stands behind each, and how many words that is.
+fn fits(c: Command, word: &[u8], more: usize) -> bool {
+    match c {
+        Command::Table => expects(
+            word,
+            b"TRACE PATTERN.. or TRACE -f FILE",
+            more,
+            2,
+            usize::MAX,
+        ),
+        Command::List => expects(word, b"TRACE PATTERN", more, 2, 2),
+        Command::Values => expects(word, b"TRACE EXPRESSION", more, 2, 2),
+        Command::Rewrite => expects(word, b"TRACE PATTERN", more, 2, 2),
+        Command::Show => expects(word, b"TRACE", more, 1, 1),
+        Command::Correct => expects(word, b"TRACE ROW STATES OUT", more, 4, 4),
+        Command::Help => true,
+        Command::Version => true,
+        Command::Unknown => {
+            unknown(word);
+            false
+        }
+    }
+}
+
+fn start(c: Command) {
+    match c {
+        Command::Table => table::table(),
+        Command::List => rows::rows(true),
+        Command::Values => rows::rows(false),
+        Command::Rewrite => rewrite::alternatives(),
+        Command::Show => show::show(),
+        Command::Correct => correct::correct(),
+        Command::Help => help::help(),
+        Command::Version => help::version(),
+        Command::Unknown => {}
+    }
 }
 
 // The command, and how many words stand behind it.
-fn run(command: &[u8], more: usize) {
-    if check::same(command, b"--help") {
-        help();
-        return;
+fn run(word: &[u8], more: usize) {
+    let c = named(word);
+    if fits(c, word, more) {
+        start(c);
     }
-    if check::same(command, b"--version") {
-        say(b"dachsmond 1.0\n");
-        return;
-    }
-    if more == 0 {
-        misused(b"no trace");
-        return;
-    }
-    if check::same(command, b"show") {
-        show::show();
-        return;
-    }
-    if more == 1 {
-        misused(b"no such command, or too few words");
-        return;
-    }
-    if check::same(command, b"table") {
-        table::table();
-        return;
-    }
-    run_more(command, more);
-}
-
-// The commands of a fixed number of words.
-fn run_more(command: &[u8], more: usize) {
-    if more == 2 {
-        if check::same(command, b"list") {
-            rows::rows(true);
-            return;
-        }
-        if check::same(command, b"values") {
-            rows::rows(false);
-            return;
-        }
-        if check::same(command, b"rewrite") {
-            rewrite::alternatives();
-            return;
-        }
-    }
-    if more == 4 {
-        if check::same(command, b"correct") {
-            correct::correct();
-            return;
-        }
-    }
-    misused(b"no such command, or too few or too many words");
 }
 
 fn main() {

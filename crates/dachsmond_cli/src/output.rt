@@ -5,11 +5,24 @@ ghost use Prim.Native.Nat.{_≤_};
 ghost use lib.ListN.{length};
 
 pub fn say(text: &[u8]) {
-    io::write_all(STDOUT_FILENO, text);
+    if !io::write_all(STDOUT_FILENO, text) {
+        lost();
+    }
 }
 
 pub fn say_number(n: usize) {
-    io::print_decimal(STDOUT_FILENO, n as u64);
+    if !io::print_decimal(STDOUT_FILENO, n as u64) {
+        lost();
+    }
+}
+
+// Standard output took not all. That is complained of once: the descriptor is closed then, and what else would go there
+// fails with EBADF.
+fn lost() {
+    if os::errno() != libc::EBADF {
+        failed(b"standard output");
+        libc::close(STDOUT_FILENO);
+    }
 }
 
 pub fn note(text: &[u8]) {
@@ -20,10 +33,22 @@ pub fn note_number(n: usize) {
     io::print_decimal(STDERR_FILENO, n as u64);
 }
 
-// A complaint begins. Descriptor 3, where the caller opened one, is how it learns of it: a program has no exit status.
-pub fn complain() {
+// Descriptor 3, where the caller opened one, is how it learns of a complaint: a program has no exit status.
+fn mark() {
     io::write_all(3, b"1");
+}
+
+// A complaint begins.
+pub fn complain() {
+    mark();
     note(b"dachsmond: ");
+}
+
+// A call of the system that failed, in the system's words. The mark comes last, since it may change errno.
+pub fn failed(what: &[u8]) {
+    note(b"dachsmond: ");
+    os::fail(what);
+    mark();
 }
 
 // The first n bytes, or all.

@@ -175,9 +175,7 @@ fn of_text(names: &[u8], k: usize, text: &[u8]) {
 fn of_argument(names: &[u8], k: usize) {
     let mut text = io::large_buffer();
     let n = take_argument(3, &mut text);
-    if os::errno() == 0 {
-        of_text(names, k, &text[..n]);
-    }
+    of_text(names, k, &text[..n]);
 }
 
 // Of the trace only its names are asked.

@@ -187,9 +187,7 @@ fn of_text(which: bool, names: &[u8], k: usize, times: &[u32], states: &[u8], te
 fn of_argument(which: bool, names: &[u8], k: usize, times: &[u32], states: &[u8]) {
     let mut text = io::large_buffer();
     let n = take_argument(3, &mut text);
-    if os::errno() == 0 {
-        of_text(which, names, k, times, states, &text[..n]);
-    }
+    of_text(which, names, k, times, states, &text[..n]);
 }
 
 // Of the lists, what the trace fills.

@@ -1,12 +1,9 @@
 // `table`: the totals of patterns, a line for each, from arguments and from files.
-ghost use Prim.Native.Nat.{_≤_};
-ghost use lib.ListN.{length};
+use crate::complaints::unfit;
 use crate::files::Loaded;
-use crate::files::failed;
 use crate::files::load;
-use crate::files::open;
 use crate::files::take_argument;
-use crate::output::complain;
+use crate::lines::file;
 use crate::output::note;
 use crate::output::note_number;
 use crate::parts::codes_in;
@@ -15,90 +12,11 @@ use crate::patterns::end;
 use crate::patterns::pattern;
 use listing::table::Sums;
 
-// The first line end from `from` on, or the length.
-fn line_end(text: &[u8], from: usize) -> usize
-    requires { ⌜ from ≤ length (now text) ⌝ }
-    ensures { λ r. ⌜ (from ≤ r) × (r ≤ length (now (text .entry))) ⌝ }
-{
-    let mut i = from;
-    while i < text.len() {
-        if text[i] == b'\n' {
-            return i;
-        }
-        i += 1;
+// Whether argument i is `-f`; behind `-f` it is a file.
+fn is_option(i: usize, before: bool) -> bool {
+    if before {
+        return false;
     }
-    i
-}
-
-// A line of a file; an empty one is none. A longer one than an argument can be is refused by its front.
-fn line(names: &[u8], k: usize, n: usize, states: &[u8], text: &[u8], s: Sums) -> Sums {
-    if text.len() == 0 {
-        return s;
-    }
-    if 65536 < text.len() {
-        return pattern(names, k, n, states, &text[0..65536], s);
-    }
-    pattern(names, k, n, states, text, s)
-}
-
-fn lines(names: &[u8], k: usize, n: usize, states: &[u8], text: &[u8], s: Sums) -> Sums {
-    let mut sums = s;
-    let mut at: usize = 0;
-    while at < text.len() {
-        let end = line_end(text, at);
-        sums = line(names, k, n, states, &text[at..end], sums);
-        at = end + 1;
-    }
-    sums
-}
-
-// One byte more than a file of patterns may have.
-fn fill(fd: i32, data: &mut [u8; 1048577]) -> usize {
-    io::read_full(fd, data)
-}
-
-fn lines_of(
-    names: &[u8],
-    k: usize,
-    n: usize,
-    states: &[u8],
-    data: &[u8; 1048577],
-    m: usize,
-    s: Sums,
-) -> Sums {
-    let text: &[u8] = data;
-    if m <= text.len() {
-        lines(names, k, n, states, &text[0..m], s)
-    } else {
-        s
-    }
-}
-
-// A file that is not read to its end is not used at all.
-fn too_long(path: &[u8]) {
-    complain();
-    note(path);
-    note(b": a file of patterns has at most 1,048,576 bytes\n");
-}
-
-// The patterns of a file, one a line.
-fn file(names: &[u8], k: usize, n: usize, states: &[u8], path: &[u8], s: Sums) -> Sums {
-    let fd = open(path);
-    if fd < 0 {
-        failed(path);
-        return s;
-    }
-    let mut data = [0u8; 1048577];
-    let m = fill(fd, &mut data);
-    libc::close(fd);
-    if 1048576 < m {
-        too_long(path);
-        return s;
-    }
-    lines_of(names, k, n, states, &data, m, s)
-}
-
-fn is_option(i: usize) -> bool {
     let mut word = [0u8; 4];
     let n = os::arg(i, &mut word);
     check::same(&word[..n], b"-f")
@@ -120,26 +38,43 @@ fn argument(
     }
     let mut text = io::large_buffer();
     let m = take_argument(i, &mut text);
-    if os::errno() != 0 {
-        return s;
-    }
     if before {
         return file(names, k, n, states, &text[..m], s);
     }
     pattern(names, k, n, states, &text[..m], s)
 }
 
-// A line for long work, where standard error is a terminal.
-fn progress(i: usize, count: usize, n: usize) {
+// Whether it is told how far long work is: on a terminal, and where the table's lines go elsewhere.
+fn is_watched(n: usize) -> bool {
     if n < 10000 {
+        return false;
+    }
+    if libc::isatty(libc::STDOUT_FILENO) == 1 {
+        return false;
+    }
+    libc::isatty(libc::STDERR_FILENO) == 1
+}
+
+fn progress(i: usize, count: usize, n: usize) {
+    if count <= i {
         return;
     }
-    if libc::isatty(libc::STDERR_FILENO) == 1 {
+    if is_watched(n) {
         note(b"\rargument ");
         note_number(i);
         note(b" of ");
-        note_number(count);
+        note_number(count - 1);
         note(b"\r");
+    }
+}
+
+// The last argument was `-f` where `before`.
+fn finish(before: bool, n: usize) {
+    if is_watched(n) {
+        note(b"\r                              \r");
+    }
+    if before {
+        unfit(b"table: -f", b"FILE");
     }
 }
 
@@ -149,11 +84,12 @@ fn arguments(names: &[u8], k: usize, n: usize, states: &[u8], count: usize, s: S
     let mut i: usize = 3;
     while i < count {
         progress(i, count, n);
-        let option = is_option(i);
+        let option = is_option(i, before);
         sums = argument(names, k, n, states, i, option, before, sums);
         before = option;
         i += 1;
     }
+    finish(before, n);
     sums
 }
 

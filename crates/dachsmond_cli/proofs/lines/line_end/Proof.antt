@@ -2,8 +2,8 @@
 use Prim.Native.Nat.{_-_, _≤_}
 use lib.ListN.{length}
 use native.Mathlib.Omega.{arith}
-use Rattle.dachsmond_cli.proofs.table.line_end.Statement.{statement}
-use Rattle.dachsmond_cli.proofs.table.line_end.Tie as tie
+use Rattle.dachsmond_cli.proofs.lines.line_end.Statement.{statement}
+use Rattle.dachsmond_cli.proofs.lines.line_end.Tie as tie
 
 abbrev Inv-loop : tie.InvT-loop
 Inv-loop text from i₀ i = (from ≤ i) × (i ≤ length text)

@@ -3,8 +3,8 @@ use Prim.Native.Nat.{_+_, _-_, _≤_}
 use lib.ListN.{length}
 use borrow.Author.Needs.{needs}
 use native.Mathlib.Omega.{arith}
-use Rattle.dachsmond_cli.proofs.table.lines.Statement.{statement}
-use Rattle.dachsmond_cli.proofs.table.lines.Tie as tie
+use Rattle.dachsmond_cli.proofs.lines.lines.Statement.{statement}
+use Rattle.dachsmond_cli.proofs.lines.lines.Tie as tie
 
 abbrev Inv-loop : tie.InvT-loop
 Inv-loop names k n states text sums₀ at₀ sums at = at ≤ length text + 1
