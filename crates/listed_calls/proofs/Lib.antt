@@ -5,3 +5,4 @@ pub mod Alone
 pub mod Acceptance
 pub mod Calls
 pub mod Unique
+pub mod Theorems
