@@ -3,12 +3,12 @@
 --   accepted-short                   K is at most 16
 --   accepted-shape                   so the lists have the shape that matching asks for
 --   accepted-shaped, shaped-accepted
---   operand-long, operand-no, operand-start, operand-is    one operand
+--   operand-long, operand-no, operand-start, operand-is    one operand, of which the last 256 bytes tell
 -- Assumes nothing.
 use mathlib.Core.Path.{_≡_, refl, ap, sym, _∙_}
 use mathlib.Core.Bool.{Bool, true, false, _||_}
 use mathlib.Core.List.{List}
-use Prim.Native.Nat.{ℕ, _-_, _<_, _≤_}
+use Prim.Native.Nat.{ℕ, _+_, _-_, _<_, _≤_}
 use native.Mathlib.Omega.{arith}
 use lib.Dec.{ltb}
 use lib.ListN.{length, getD, take, drop}
@@ -30,6 +30,7 @@ use Rattle.updates.specs.Corrections.{longestOf}
 use Rattle.updates.proofs.Longest.{longest-is}
 use Rattle.calls.proofs.Deciding.{same-decided}
 use Rattle.listed_calls.specs.Lists.{Each, Operand, Known, AcceptedAlternatives, Stepped, Shaped}
+use Rattle.listed_calls.proofs.Alone.{part-length, alone, part-inside}
 use Rattle.listed_calls.proofs.Sums.{tests-are, greatest-each, each-greatest}
 
 or-left : (p q : Bool) → (p || q) ≡ false → p ≡ false
@@ -141,38 +142,51 @@ boolean-kind broken h = never h
 boolean-kind (push (boolean c) s) h = refl
 boolean-kind (push (vector p) s) h = never h
 
-kind-boolean : (s : Stack) → kindOf s ≡ 1 → isBoolean s ≡ true
-unfolding isBoolean kindOf
-kind-boolean empty h = absurd (omega arith)
-kind-boolean broken h = absurd (omega arith)
-kind-boolean (push (boolean c) s) h = refl
-kind-boolean (push (vector p) s) h = absurd (omega arith)
+pub operand-start : {t : List ℕ} {names end kind start : ℕ} → Ending t names end kind start → kind ≡ 1 → start < end
+operand-start e k = e .from (omega arith) .before
 
 module _ (tree : List ℕ) (names end : ℕ) where
   pub operand-long : length tree < end → Decides false (Operand tree names end)
   unfolding Decides
   operand-long h = λ o. omega (arith, h, o .ends .within)
 
-  module _ {kind start : ℕ} (e : Ending tree names end kind start) where
-    pub operand-no : (kind ≡ 1 → ⊥) → Decides false (Operand tree names end)
-    unfolding Decides
-    operand-no n = λ o. n (e .is ∙ boolean-kind _ (o .ends .whole))
+  -- an operand lies in the last 256 bytes before `end`, and is an operand there too
+  module _ {low : ℕ} (lower : low ≡ end - 256) (l : end ≤ length tree) where
+    abbrev tail : List ℕ
+    tail = take (end - low) (drop low tree)
 
-    pub operand-start : kind ≡ 1 → Start tree names end start
-    operand-start k = e .from (omega arith)
+    operand-near : (o : Operand tree names end) → low ≤ o .start
+    operand-near o =
+        let b = o .from .before in
+        omega (arith, o .accepted .tokens, part-length tree names end (o .start) l (omega arith))
 
-    pub operand-is : kind ≡ 1 → end ≤ length tree → (r : Bool)
-        → Decides r (Accepted names sort.Boolean (take (end - start) (drop start tree)))
-        → Decides r (Operand tree names end)
-    operand-is k l r d =
-        same-decided (Accepted names sort.Boolean (take (end - start) (drop start tree))) (Operand tree names end) r
-        (λ a. record {
-          ends = record { within = l; whole = kind-boolean _ (sym (e .is) ∙ k) };
-          start = start;
-          from = operand-start k;
-          accepted = a;
-        })
-        (λ o.
-        let q : o .start ≡ start = start-unique (o .from) (operand-start k) in
-        rw q at (o .accepted))
-        d
+    operand-inside : (o : Operand tree names end)
+        → EndsBoolean tail names (end - low) × Start tail names (end - low) (o .start - low)
+    operand-inside o =
+        let b = o .from .before in
+        let n = operand-near o in
+        alone tail names (end - low) (o .start - low)
+        (omega (arith, part-length tree names end low l (omega arith))) (omega arith)
+        (rw (part-inside tree end low (o .start) l n (omega arith)) (o .accepted))
+
+    module _ {kind start : ℕ} (e : Ending tail names (end - low) kind start) where
+      pub operand-no : (kind ≡ 1 → ⊥) → Decides false (Operand tree names end)
+      unfolding Decides
+      operand-no n = λ o. n (e .is ∙ boolean-kind _ (operand-inside o .0 .whole))
+
+      operand-same : kind ≡ 1 → (o : Operand tree names end) → o .start ≡ low + start
+      operand-same k o =
+          let q = start-unique (operand-inside o .1) (e .from (omega arith)) in
+          omega (arith, operand-near o)
+
+      pub operand-is : kind ≡ 1 → (r : Bool)
+          → Decides r (Accepted names sort.Boolean (take (end - (low + start)) (drop (low + start) tree)))
+          → Decides r (Operand tree names end)
+      operand-is k r =
+          same-decided (Accepted names sort.Boolean (take (end - (low + start)) (drop (low + start) tree)))
+          (Operand tree names end) r
+          (λ a.
+          let s = operand-start e k in
+          let (w, f) = alone tree names end (low + start) l (omega arith) a in
+          record { ends = w; start = low + start; from = f; accepted = a })
+          (λ o. rw (operand-same k o) at (o .accepted))

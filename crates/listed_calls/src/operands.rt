@@ -1,5 +1,6 @@
 // The tests of alternatives in lists: known edge codes, and operands that are boolean trees that a text gives.
 ghost use mathlib.Core.Path.{_≡_};
+ghost use Prim.Native.Nat.{_-_};
 ghost use Rattle.limits.specs.Accepted.{Decides};
 ghost use Rattle.listed_calls.specs.Lists.{Each, Known, Operand};
 use alf::Sort;
@@ -20,18 +21,30 @@ pub fn are_known(edges: &[u8]) -> bool
     true
 }
 
-// Whether the bytes before `end` end with a boolean tree that a text gives by itself.
+// The place `most` bytes before `end`, or the first.
+fn back(end: usize, most: usize) -> usize
+    ensures { λ r. ⌜ r ≡ end - most ⌝ }
+{
+    if end < most {
+        return 0;
+    }
+    end - most
+}
+
+// Whether the bytes before `end` end with a boolean tree that a text gives by itself. Such a tree has at most 256 bytes,
+// so no more are looked at, however long the list is.
 pub fn is_operand(tree: &[u8], names: usize, end: usize) -> bool
     ensures { λ r. ⌜ Decides r (Operand (now (tree .entry)) names end) ⌝ }
 {
     if tree.len() < end {
         return false;
     }
-    let part = part_of(tree, end, names);
+    let low = back(end, 256);
+    let part = part_of(&tree[low..end], end - low, names);
     if part.kind != 1 {
         return false;
     }
-    let start = part.start;
+    let start = low + part.start;
     accepts(&tree[start..end], names, Sort::Boolean)
 }
 

@@ -8,18 +8,39 @@ use Rattle.listed_calls.proofs.operands.is_operand.Tie as tie
 returns : tie.Need-returns
 returns c = operand-long _ _ _ (c .if1 .taken)
 
+back-requires : tie.Need-back-requires
+back-requires c κs = search needs
+
+sub-part-of : tie.Need-sub-part-of
+sub-part-of c = omega (arith, c .back .ensures)
+
+part-part-of-start : tie.Need-part-part-of-start
+part-part-of-start c = let e = c .back .ensures in search needs
+
+part-part-of-end : tie.Need-part-part-of-end
+part-part-of-end c = search needs
+
+sub-part-of-2 : tie.Need-sub-part-of-2
+sub-part-of-2 c = omega (arith, c .before .back .ensures)
+
 part-of-requires : tie.Need-part-of-requires
 part-of-requires c κs = search needs
 
 returns-2 : tie.Need-returns-2
-returns-2 c = operand-no _ _ _ (c .before .before .part-of .ensures) (c .if2 .taken)
+returns-2 c =
+    let c2 = c .before .before in
+    let c4 = c2 .before .before in
+    operand-no _ _ _ (c4 .back .ensures) (c4 .before .if1 .left) (c2 .part-of .ensures) (c .if2 .taken)
+
+add-start : tie.Need-add-start
+add-start c = omega (arith, operand-start (c .before .before .before .part-of .ensures) (c .before .if2 .left))
 
 sub-accepts : tie.Need-sub-accepts
-sub-accepts c = omega (arith, operand-start _ _ _ (c .before .before .part-of .ensures) (c .if2 .left) .before)
+sub-accepts c = omega (arith, operand-start (c .before .before .before .part-of .ensures) (c .before .if2 .left))
 
 part-accepts-start : tie.Need-part-accepts-start
 part-accepts-start c =
-    let l = operand-start _ _ _ (c .before .before .part-of .ensures) (c .if2 .left) .before in
+    let l = operand-start (c .before .before .before .part-of .ensures) (c .before .if2 .left) in
     search needs
 
 part-accepts-end : tie.Need-part-accepts-end
@@ -30,8 +51,10 @@ accepts-requires c κs = search needs
 
 returns-3 : tie.Need-returns-3
 returns-3 c =
-    let c4 = c .before .before .before .before in
-    operand-is _ _ _ (c4 .part-of .ensures) (c .before .before .if2 .left) (c4 .before .if1 .left) _
+    let c3 = c .before .before .before in
+    let c5 = c3 .before .before in
+    let c7 = c5 .before .before in
+    operand-is _ _ _ (c7 .back .ensures) (c7 .before .if1 .left) (c5 .part-of .ensures) (c3 .if2 .left) _
     (c .accepts .ensures)
 
 pub is-operand-spec : {M : Type 1} → statement M
@@ -39,8 +62,14 @@ is-operand-spec =
     tie.close
     (tie.spec
     returns
+    back-requires
+    sub-part-of
+    part-part-of-start
+    part-part-of-end
+    sub-part-of-2
     part-of-requires
     returns-2
+    add-start
     sub-accepts
     part-accepts-start
     part-accepts-end
