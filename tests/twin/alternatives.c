@@ -138,6 +138,17 @@ static int answer_of(const Alternative *a, const Trace *trace, long row)
     return least;
 }
 
+/* The greatest over the alternatives. */
+int best_at(const Alternatives *all, const Trace *trace, long row)
+{
+    int best = NO;
+    for (int i = 0; i < all->count; i++) {
+        int r = answer_of(all->list[i], trace, row);
+        if (r > best) best = r;
+    }
+    return best;
+}
+
 /* In order up to and including the first yes, or all; 0 at row 0. */
 long tries_at(const Alternatives *all, const Trace *trace, long row)
 {

@@ -5,20 +5,20 @@
 #include <stdlib.h>
 #include <string.h>
 
-static Buffer names, text, tree, states, times, file, old, fresh;
+static Buffer names, text, tree, states, times, file;
 
-static long fixed_rows;
+long fixed_rows;
 
 static const char SIGNS[] = "01?!-'bXxAB()&|<>=^~: ";
 
 /* Mostly small, now and then as large as may be. */
-static int any_size(void)
+int any_size(void)
 {
     if (fixed_rows) return 2 + (int)below(30);
     return 1 + (int)below(once_in(12) ? 260 : once_in(3) ? 40 : 10);
 }
 
-static long any_rows(long most)
+long any_rows(long most)
 {
     if (fixed_rows) return fixed_rows + once_in(4);
     return once_in(40) ? below(2) : once_in(20) ? 1 + below(16 * most) : 1 + below(most);
@@ -29,7 +29,7 @@ void make_states(Buffer *out, long n)
     int wild = (int)below(3);
     clear(out);
     for (long i = 0; i < n; i++) add(out, (int)below(wild == 0 || once_in(8) ? 8 : 1 + wild));
-    if (once_in(30) && n > 0) out->at[below(n)] = (uint8_t)(8 + below(248));
+    if (once_in(20) && n > 0) out->at[below(n)] = (uint8_t)(8 + below(248));
 }
 
 static void add_word(Buffer *out, uint32_t x)
@@ -74,7 +74,7 @@ void make_file(Buffer *out)
 }
 
 /* A length: mostly enough, else about the length needed. */
-static long room_for(long needed) { return once_in(3) ? needed + below(3) - (needed > 0) : needed + 8; }
+long room_for(long needed) { return once_in(3) ? needed + below(3) - (needed > 0) : needed + 8; }
 
 static void case_read(void)
 {
@@ -89,15 +89,6 @@ static void case_read(void)
     say(&names);
     printf(" %d", sort);
     say(&text);
-}
-
-/* Of a sort, now and then of the other one or damaged. */
-static void some_tree(long k, int sort, int size)
-{
-    clear(&tree);
-    make_tree(&tree, k, once_in(40) ? 1 - sort : sort, size);
-    if (once_in(20)) for (int i = 0; i < 8; i++) tree.at[below(tree.length)] = (uint8_t)below(256);
-    if (once_in(20)) damage(&tree, "\x01\x20\x28\x32\x38\x39\x3a\x3c\x40");
 }
 
 /* A text of about 4,096 bytes: 32 of a name, 3 of a sign and its blanks, and a few digits. */
@@ -116,7 +107,7 @@ static void case_write(void)
 {
     int sort = (int)below(2);
     if (sort == 0 && once_in(10)) some_long_text();
-    else some_tree(make_names(&names), sort, any_size());
+    else some_tree(&tree, make_names(&names), sort, any_size());
     printf("w");
     say(&names);
     printf(" %d", sort);
@@ -149,56 +140,22 @@ static void case_write_trace(void)
     printf(" %ld", room_for(needed));
 }
 
-/* Names and rows of a call over rows; the states fit unless it says otherwise. */
-static void some_rows(long *k, long *n)
+static void case_names(void)
 {
-    *k = once_in(40) ? below(35) : once_in(4) ? 1 + below(32) : 1 + below(4);
-    *n = any_rows(24);
-    make_states(&states, *k * *n + once_in(60));
+    make_names(&names);
+    printf("n");
+    say(&names);
 }
 
-static long some_row(long n) { return once_in(30) ? n + below(3) : below(n); }
-
-static void case_changes(void)
+/* A case of a call over rows, of one by lists, or of the listing and the table. */
+static void other_case(int letter)
 {
-    long k, n;
-    some_rows(&k, &n);
-    printf("c %ld %ld", k, n);
-    say(&states);
-    printf(" %ld", some_row(n));
-}
-
-static void case_rewrite(int letter)
-{
-    long k = once_in(40) ? below(35) : 1 + below(4);
-    some_tree(k, 1, any_size());
-    printf("%c %ld", letter, k);
-    say(&tree);
-    if (letter == 'x') printf(" %ld", once_in(3) ? 1 + below(8) : 64);
-    else if (once_in(3)) printf(" %ld %ld %ld %ld", 1 + below(8), 1 + below(16), 1 + below(30), 1 + below(40));
-    else printf(" 64 1024 4096 4096");
-}
-
-/* An answer as written goes through all windows: its cases are small. */
-static void case_pattern(int letter)
-{
-    long k, n, small = letter == 'a' && !fixed_rows;
-    some_rows(&k, &n);
-    if (small) make_states(&states, k * (n = 1 + below(8)) + once_in(60));
-    some_tree(k, letter == 'v' || letter == 's' ? 0 : 1, small ? 2 + (int)below(14) : any_size());
-    printf("%c %ld", letter, k);
-    if (letter != 'q') printf(" %ld", n);
-    say(&tree);
-    say(&states);
-    if (letter == 'v') printf(" %ld", n + once_in(40));
-    if (letter == 'm') printf(" %ld %ld", n + once_in(40), n + once_in(40));
-    if (strchr("ras", letter)) printf(" %ld", some_row(n));
-    if (letter != 'k') return;
-    make_states(&old, n + once_in(40));
-    make_states(&fresh, k + once_in(40));
-    say(&old);
-    printf(" %ld", some_row(n));
-    say(&fresh);
+    if (strchr("FRMTQ", letter)) case_listed(letter);
+    else if (strchr("LHIJK", letter)) case_listing(letter);
+    else if (letter == 'c') case_changes();
+    else if (letter == 'q') case_queue();
+    else if (letter == 'l' || letter == 'x') case_rewrite(letter);
+    else case_pattern(letter);
 }
 
 int main(int argc, char **argv)
@@ -209,13 +166,12 @@ int main(int argc, char **argv)
     seed(strtoull(argv[1], NULL, 10));
     for (long i = atol(argv[2]); i > 0; i--) {
         int letter = letters[below((long)strlen(letters))];
-        if (letter == 'e') case_read();
+        if (letter == 'n') case_names();
+        else if (letter == 'e') case_read();
         else if (letter == 'w') case_write();
         else if (letter == 'f') case_read_trace();
         else if (letter == 'g') case_write_trace();
-        else if (letter == 'c') case_changes();
-        else if (strchr("lx", letter)) case_rewrite(letter);
-        else case_pattern(letter);
+        else other_case(letter);
         putchar('\n');
     }
 }

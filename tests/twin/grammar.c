@@ -80,19 +80,27 @@ static Refusal check_grammar(const Token *t, int count, long length)
     return (Refusal){0, 0};
 }
 
+/* Each `(` gets as its code how far on its `)` stands. */
+void pair_brackets(Token *t, int count)
+{
+    int open[MAX_TEXT], n = 0;
+    for (int i = 0; i < count; i++) {
+        if (t[i].kind == OPEN) open[n++] = i;
+        if (t[i].kind == CLOSE && n > 0) { n--; t[open[n]].code = i - open[n]; }
+    }
+}
+
 /* The place of the weakest operator outside all brackets, where the tokens split: the last of its level, since binary
    ones group from the left, but the first `?`, since the ternary groups from the right. -1: a prefix or an operand. */
 static int split_at(const Token *t, int count)
 {
-    int open = 0, best = -1, level = 1;
+    int best = -1, level = 1;
     for (int i = 0, due = 1; i < count; i++) {
         Kind k = t[i].kind;
-        if (k == OPEN) open++;
-        if (k == CLOSE) open--;
-        if (open > 0 || k == OPEN || k == CLOSE) { due = 0; continue; }
         int l = level_of(k);
         if (l == 6) return i;
         if (!due && l >= 2 && l >= level) { best = i; level = l; }
+        if (k == OPEN) i += t[i].code;
         due = l != 0;
     }
     return best;
@@ -101,17 +109,14 @@ static int split_at(const Token *t, int count)
 /* Of the `:`s behind the `?` at i, outside all brackets, its own. */
 static int colon_of(const Token *t, int i)
 {
-    int open = 0, asked = 0;
-    for (;; i++) {
-        if (t[i].kind == OPEN) open++;
-        if (t[i].kind == CLOSE) open--;
-        if (open > 0) continue;
+    for (int asked = 0;; i++) {
+        if (t[i].kind == OPEN) i += t[i].code;
         if (t[i].kind == ASK) asked++;
         if (t[i].kind == COLON && --asked == 0) return i;
     }
 }
 
-/* The tree of tokens that are grammatical. */
+/* The tree of tokens that are grammatical and have their brackets paired. */
 Node *tree_of(const Token *t, int count)
 {
     int i = split_at(t, count);
@@ -173,6 +178,7 @@ Refusal read_text(const byte *names, long names_length, const byte *text, long l
     if ((r = check_counted(tokens, count)).number) return r;
     if ((r = check_grammar(tokens, count, length)).number) return r;
     if ((r = find_names(names, names_length / 32, text, tokens, count)).number) return r;
+    pair_brackets(tokens, count);
     *tree = tree_of(tokens, count);
     if (sort_fault(*tree, &place)) return (Refusal){7, place};
     if ((*tree)->sort != sort) return (Refusal){7, length};

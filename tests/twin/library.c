@@ -1,77 +1,75 @@
 /* The library's side: answers each case on standard input by the library for C. */
-#include "../../include/dachsmond.h"
-#include "lines.h"
+#include "library.h"
 
-/* rows.c: a case of a call over rows */
-void do_pattern(int letter);
+void begin_case(void) {}
 
-static void do_read(void)
+bool refused(unsigned number, size_t place, uint64_t others)
+{
+    if (number) say_refused((int)number, place);
+    if (number && others) printf(" and told more");
+    return number != 0;
+}
+
+void do_names(void)
+{
+    Bytes names = take_bytes();
+    dachsmond_told r = dachsmond_check_names(names.at, names.length);
+    if (!refused(r.number, r.place, r.count)) printf("names %zu", r.count);
+    end_line(0);
+}
+
+void do_read(void)
 {
     Bytes names = take_bytes();
     bool vector = take_number();
     Bytes text = take_bytes();
     dachsmond_expression r = dachsmond_read_expression(names.at, names.length, text.at, text.length, vector);
-    if (r.number) say_refused(r.number, r.place);
-    else {
+    if (!refused(r.number, r.place, r.len)) {
         printf("tree");
         say_bytes(r.tree, r.len);
     }
-    end_line(0);
+    end_line(sum_of(0, r.tree, sizeof r.tree));
 }
 
-static void do_write(void)
+void do_write(void)
 {
     Bytes names = take_bytes();
     bool vector = take_number();
     Bytes tree = take_bytes(), out = lend(take_number());
     dachsmond_told r =
         dachsmond_write_expression(names.at, names.length, tree.at, tree.length, vector, out.at, out.length);
-    if (r.number) say_refused(r.number, r.place);
-    else printf("text %zu %.*s", r.count, (int)r.count, (char *)out.at);
+    if (!refused(r.number, r.place, r.count)) printf("text %zu %.*s", r.count, (int)r.count, (char *)out.at);
     end_line(sum_of(0, out.at, out.length));
 }
 
-static void do_read_trace(void)
+void do_read_trace(void)
 {
     Bytes file = take_bytes(), names = lend(take_number());
     Bytes times = lend(4 * take_number()), states = lend(take_number());
     dachsmond_trace r = dachsmond_read_trace(file.at, file.length, names.at, names.length, (uint32_t *)times.at,
                                              times.length / 4, states.at, states.length);
-    if (r.number) say_refused(r.number, r.place);
-    else printf("read %zu %zu", r.names, r.rows);
+    if (!refused(r.number, r.place, r.names | r.rows)) printf("read %zu %zu", r.names, r.rows);
     end_line(sum_of(sum_of(sum_of(0, names.at, names.length), times.at, times.length), states.at, states.length));
 }
 
-static void do_write_trace(void)
+void do_write_trace(void)
 {
     Bytes names = take_bytes(), times = take_bytes(), states = take_bytes();
     long n = take_number();
     Bytes out = lend(take_number());
     dachsmond_told r = dachsmond_write_trace(names.at, names.length, (const uint32_t *)times.at, times.length / 4,
                                              states.at, states.length, n, out.at, out.length);
-    if (r.number) say_refused(r.number, r.place);
-    else printf("wrote %zu", r.count);
+    if (!refused(r.number, r.place, r.count)) printf("wrote %zu", r.count);
     end_line(sum_of(0, out.at, out.length));
 }
 
-static void do_changes(void)
+void do_changes(void)
 {
     long names = take_number(), n = take_number();
     Bytes states = take_bytes();
     dachsmond_changed r = dachsmond_changes_at(names, n, states.at, states.length, take_number());
-    if (r.number) say_refused(r.number, r.place);
-    else printf("changed %u %u", r.mask, r.many);
+    if (!refused(r.number, r.place, r.mask | r.many)) printf("changed %u %u", r.mask, r.many);
     end_line(0);
 }
 
-int main(void)
-{
-    for (int c; (c = next_line()) != EOF;) {
-        if (c == 'e') do_read();
-        else if (c == 'w') do_write();
-        else if (c == 'f') do_read_trace();
-        else if (c == 'g') do_write_trace();
-        else if (c == 'c') do_changes();
-        else do_pattern(c);
-    }
-}
+int main(void) { return answer_cases(); }

@@ -18,6 +18,7 @@ int next_line(void)
 }
 
 long take_number(void) { return strtol(rest, &rest, 10); }
+uint64_t take_wide(void) { return strtoull(rest, &rest, 10); }
 
 /* A block of exactly this size, so that a tool that watches memory sees a step past it. */
 static uint8_t *hold(long length)

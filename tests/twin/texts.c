@@ -23,6 +23,7 @@ long make_names(Buffer *out)
     }
     if (once_in(40)) damage(out, "AB_0\x01");
     else if (once_in(40)) out->at[below(out->length)] = (uint8_t)"AB0_ "[below(5)];
+    else if (once_in(40)) memmove(out->at + 32 * below(n), out->at + 32 * below(n), 32);
     else if (once_in(80)) out->length = 32 * below(2);
     else if (once_in(80)) while (out->length < 33 * 32) add(out, 'A');
     return n;
@@ -150,7 +151,7 @@ void make_edge_text(Buffer *out)
     case 4: add_text(out, "01 A"); repeat(out, " | 10 A", 61 + more); break;
     case 5: add_text(out, "01 A"); repeat(out, " -> 10 A", 13 + more); break;
     case 6: add_text(out, "01 A"); repeat(out, " & 10 A", 61 + more); break;
-    case 7: repeat(out, "a", 30 + more); break;
+    case 7: repeat(out, "a", 31 + more % 3); break;
     default:
         add_text(out, "( 01 A");
         repeat(out, " -> ?0 A", 12 + more);
@@ -158,6 +159,12 @@ void make_edge_text(Buffer *out)
         repeat(out, " & A", below(5));
     }
     if (once_in(6)) damage(out, "A01?()! ");
+}
+
+/* An edge's number: mostly of digits. */
+int make_edge(void)
+{
+    return once_in(8) ? 81 + (int)below(2) : once_in(4) ? (int)below(81) : 9 * (int)below(3) + (int)below(3);
 }
 
 /* The bytes of a random tree, operands before operators. */
@@ -180,11 +187,47 @@ void make_tree(Buffer *out, long names, int sort, int size)
         add(out, 40 + (int)below(10));
     } else if (size <= 4 || once_in(8)) {
         make_tree(out, names, BOOLEAN, size < 2 ? 1 : size - 1);
-        add(out, once_in(4) ? 64 + (int)below(83) : 64 + 9 * (int)below(3) + (int)below(3));
+        add(out, 64 + make_edge());
     } else {
         int which = (int)below(9), op = which < 6 ? 50 + which : which == 8 ? 50 : 50 + which;
         make_tree(out, names, op == 57 ? BOOLEAN : VECTOR, a);
         make_tree(out, names, op == 56 ? BOOLEAN : VECTOR, size - 1 - a);
         add(out, op);
+    }
+}
+
+static void add_many(Buffer *out, int byte, long n) { while (n-- > 0) add(out, byte); }
+
+/* Near a limit: brackets 30 to 34 deep, or 254 to 258 nodes. */
+static void make_edge_boolean(Buffer *out, long names)
+{
+    long n = below(5);
+    if (once_in(40)) {
+        add(out, (int)below(names));
+        add_many(out, 147, 253 + n);
+    } else {
+        add_many(out, (int)below(names), 32 + n);
+        add_many(out, 42 + (int)below(8), 31 + n);
+    }
+}
+
+/* Near a limit: 63 to 65 alternatives or tests, or 15 to 17 steps, of a row of edges; 2 to 4 joins of three
+   alternatives each; one to four conditions on 15 to 17 steps; else an edge on a boolean near a limit. */
+void make_edge_tree(Buffer *out, long names, int sort)
+{
+    static const int joins[] = {55, 54, 50, 53, 50}, first[] = {62, 62, 14, 2, 14};
+    long which = below(6), n;
+    if (sort == BOOLEAN || which == 5) make_edge_boolean(out, names);
+    if (sort == BOOLEAN) return;
+    if (which == 5) { add(out, 64 + 14); return; }
+    n = first[which] + below(3);
+    for (long i = 0; i <= n; i++) {
+        add(out, (int)below(names));
+        add(out, 64 + 9 * (int)below(3) + (int)below(3));
+        if (i > 0) add(out, joins[which]);
+    }
+    for (long i = below(4); i >= 0 && which == 4; i--) {
+        add(out, (int)below(names));
+        add(out, 56);
     }
 }

@@ -1,7 +1,7 @@
 /* A tree as bytes and as text, and refusal 10. A bracket is needed where the text without it reads as another tree:
    that is tried, bracket by bracket, and no rule of levels is used. */
 #include "twin.h"
-#include <stdio.h>
+#include <stdlib.h>
 #include <string.h>
 
 static Node pool[8192];
@@ -9,11 +9,13 @@ static int used;
 
 Node *new_node(Kind kind, int place, int code, Node *a, Node *b, Node *c)
 {
-    pool[used] = (Node){kind, place, code, BOOLEAN, used, a, b, c};
+    pool[used] = (Node){kind, place, code, BOOLEAN, used, 0, a, b, c};
     return &pool[used++];
 }
 
 void free_nodes(void) { used = 0; }
+
+static int size_of(const Node *n) { return n ? 1 + size_of(n->a) + size_of(n->b) + size_of(n->c) : 0; }
 
 static int byte_of(const Node *n)
 {
@@ -59,23 +61,33 @@ static int node_from(int b, int names, Kind *kind, int *code, int *operands)
     return 1;
 }
 
-/* The tree of bytes, or NULL: a byte that no node has, operands missing, left over or of another sort. */
-Node *tree_from(const byte *bytes, long length, int names)
+/* The part that ends with each byte; NULL for a byte that no node has, or with operands missing or of another sort.
+   No part goes on over such a byte. How many parts are left side by side. */
+int parts_of(const byte *bytes, long length, int names, Node **parts)
 {
-    Node *stack[MAX_NODES], *part[3];
+    Node **stack = malloc(sizeof(Node *) * (size_t)(length + 1)), *part[3];
     int height = 0, code, operands, place;
-    if (length > MAX_NODES) return NULL;
     for (long i = 0; i < length; i++) {
         Kind kind;
-        if (!node_from(bytes[i], names, &kind, &code, &operands) || height < operands) return NULL;
-        part[0] = part[1] = part[2] = NULL;
-        height -= operands;
-        for (int k = 0; k < operands; k++) part[k] = stack[height + k];
-        Node *n = new_node(kind, 0, code, part[0], part[1], part[2]);
-        if (sort_fault(n, &place) || byte_of(n) != bytes[i]) return NULL;
-        stack[height++] = n;
+        parts[i] = NULL;
+        int ok = node_from(bytes[i], names, &kind, &code, &operands) && height >= operands;
+        for (int k = 0; k < 3; k++) part[k] = ok && k < operands ? stack[height - operands + k] : NULL;
+        Node *n = ok ? new_node(kind, 0, code, part[0], part[1], part[2]) : NULL;
+        ok = ok && !sort_fault(n, &place) && byte_of(n) == bytes[i];
+        height = ok ? height - operands : 0;
+        if (ok) parts[i] = stack[height++] = n;
     }
-    return height == 1 ? stack[0] : NULL;
+    free(stack);
+    return height;
+}
+
+/* The tree of bytes, or NULL. */
+static Node *tree_from(const byte *bytes, long length, int names)
+{
+    Node *parts[MAX_NODES], *n = NULL;
+    if (length < 1 || length > MAX_NODES || parts_of(bytes, length, names, parts) != 1) return NULL;
+    n = parts[length - 1];
+    return n && size_of(n) == length ? n : NULL;
 }
 
 typedef struct { Token t[2048]; int count; } Line;
@@ -110,16 +122,16 @@ static int same(const Node *m, const Node *n)
 /* The line without the bracket at i and its partner. */
 static void without(const Line *line, int i, Line *out)
 {
-    int open = 0, j = i;
-    do open += (line->t[j].kind == OPEN) - (line->t[j].kind == CLOSE); while (open > 0 && ++j);
     out->count = 0;
     for (int k = 0; k < line->count; k++)
-        if (k != i && k != j) out->t[out->count++] = line->t[k];
+        if (k != i && k != i + line->t[i].code) out->t[out->count++] = line->t[k];
+    pair_brackets(out->t, out->count);
 }
 
 static void drop_brackets(Line *line, const Node *tree)
 {
     static Line shorter;
+    pair_brackets(line->t, line->count);
     for (int i = 0; i < line->count;) {
         if (line->t[i].kind != OPEN) { i++; continue; }
         without(line, i, &shorter);
@@ -161,17 +173,26 @@ long text_of(const Node *tree, const byte *names, char *out, int *deepest)
     return size;
 }
 
-/* 10: a tree that no text gives. */
-Refusal check_tree(const byte *bytes, long length, int names, int sort, Node **tree)
+/* Whether some text gives the expression by itself: limits 3, 4 and 8. Needed brackets nest no deeper than there are
+   nodes. */
+int given_by_text(Node *n)
 {
     static char text[40000];
     static const byte blank[32 * 32];
-    int deepest;
-    Node *n = tree_from(bytes, length, names);
-    if (n == NULL || n->sort != sort) return (Refusal){10, 0};
-    text_of(n, blank, text, &deepest);
-    if (deepest > MAX_OPEN || (sort == VECTOR && alternatives_of(n) == NULL)) return (Refusal){10, 0};
-    *tree = n;
+    int deepest = 0;
+    if (n->given == 0) {
+        n->given = size_of(n) <= MAX_NODES && (n->sort == BOOLEAN || alternatives_of(n)) ? 1 : -1;
+        if (n->given == 1 && size_of(n) > MAX_OPEN) text_of(n, blank, text, &deepest);
+        if (deepest > MAX_OPEN) n->given = -1;
+    }
+    return n->given == 1;
+}
+
+/* 10: a tree that no text gives. */
+Refusal check_tree(const byte *bytes, long length, int names, int sort, Node **tree)
+{
+    *tree = tree_from(bytes, length, names);
+    if (*tree == NULL || (*tree)->sort != sort || !given_by_text(*tree)) return (Refusal){10, 0};
     return (Refusal){0, 0};
 }
 

@@ -3,13 +3,13 @@
    bytes in which a tree is handed over (crates/alf/specs/Bytes.antt). */
 #ifndef TWIN_H
 #define TWIN_H
-#include <stddef.h>
-#include <stdint.h>
+#include "lines.h"
 
 typedef unsigned char byte;
 
 /* number 0: not refused */
 typedef struct { int number; long place; } Refusal;
+int refused(Refusal r);           /* says it, where it is one */
 
 enum { MAX_TEXT = 4096, MAX_OPEN = 32, MAX_NODES = 256, MAX_ALTS = 64, MAX_STEPS = 16, MAX_TESTS = 64 };
 enum { BOOLEAN, VECTOR };
@@ -25,11 +25,13 @@ typedef enum {
     ASK, COLON, OPEN, CLOSE
 } Kind;
 
-/* code: a literal's state, an edge's number (9 f + t with halves ? 0 1 X H L W Z U; 81 is ?! and 82 is ?-) */
+/* code: a literal's state, how far on the partner of a `(` stands, an edge's number (9 f + t with halves
+   ? 0 1 X H L W Z U; 81 is ?! and 82 is ?-) */
 typedef struct { Kind kind; int place, length, code; } Token;
 
 typedef struct Node Node;
-struct Node { Kind kind; int place, code, sort, id; Node *a, *b, *c; };
+/* given: whether some text gives it by itself, 1 yes, -1 no, 0 not asked yet */
+struct Node { Kind kind; int place, code, sort, id, given; Node *a, *b, *c; };
 
 typedef struct { int edge; Node *operand; } Test;
 /* tests[j] of the tests belong to step j, one step after the other */
@@ -46,6 +48,7 @@ Refusal take_tokens(const byte *text, long length, Token *tokens, int *count);
 
 /* grammar.c: refusals 18 and 12, then 1 to 8; `names` are slots of 32 bytes */
 Refusal check_names(const byte *names, long length);
+void pair_brackets(Token *tokens, int count);
 Node *tree_of(const Token *tokens, int count);
 int sort_fault(Node *node, int *place);
 Refusal read_text(const byte *names, long names_length, const byte *text, long length, int sort, Node **tree);
@@ -54,7 +57,8 @@ Refusal read_text(const byte *names, long names_length, const byte *text, long l
 Node *new_node(Kind kind, int place, int code, Node *a, Node *b, Node *c);
 void free_nodes(void);
 int tree_bytes(const Node *node, byte *out, int at);
-Node *tree_from(const byte *bytes, long length, int names);
+int parts_of(const byte *bytes, long length, int names, Node **parts);
+int given_by_text(Node *node);
 Refusal check_tree(const byte *bytes, long length, int names, int sort, Node **tree);
 long text_of(const Node *node, const byte *names, char *out, int *deepest);
 Refusal write_text(const byte *names, long names_length, const byte *tree, long length, int sort, long room,
@@ -63,6 +67,7 @@ Refusal write_text(const byte *names, long names_length, const byte *tree, long 
 /* alternatives.c: NULL where over limit 8 */
 Alternatives *alternatives_of(const Node *node);
 int contradictory(const Alternative *alternative);
+int best_at(const Alternatives *all, const Trace *trace, long row);
 long tries_at(const Alternatives *all, const Trace *trace, long row);
 
 /* windows.c */
@@ -71,7 +76,7 @@ int value_at(const Node *node, const Trace *trace, long row);
 int state_at(const Node *node, const Trace *trace, long row);
 int edge_answer(int edge, int from, int to);
 int answer_on(const Node *node, const Trace *trace, long a, long b);
-int row_answer(const Node *node, const Trace *trace, long row);
+int row_answer(const Node *node, const Trace *trace, long row, long longest);
 void forget_windows(void);
 
 /* traces.c */
@@ -82,6 +87,10 @@ Refusal write_file(const byte *names, long names_length, const uint32_t *times, 
 Refusal check_rows(long names, long n, long states_length);
 Refusal first_code(const byte *states, long length);
 
-/* patterns.c: a case of a call over rows */
-void do_pattern(int letter);
+/* asked.c: the pattern of a call over rows: a tree, or alternatives handed in as lists over one */
+typedef struct { int listed, longest; Bytes tree, lists[4]; Node *node; const Alternatives *all; } Pattern;
+Pattern take_pattern(int listed);
+Refusal check_pattern(Pattern *pattern, long names, int sort);
+int number_of(int answer);
+int number_at(const Pattern *pattern, const Trace *trace, long row);
 #endif

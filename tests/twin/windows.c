@@ -132,7 +132,8 @@ static int window(const Node *n, const Trace *t, long a, long b)
 }
 
 /* What was found for a node on the window of a length that ends at a row. */
-static struct { uint64_t when; int answer; } kept[MAX_NODES][32][MAX_STEPS + 1];
+enum { KEPT = 64 };
+static struct { uint64_t when; int answer; } kept[MAX_NODES][KEPT][KEPT];
 static uint64_t now = 1;
 
 void forget_windows(void) { now += 1 << 20; }
@@ -140,19 +141,22 @@ void forget_windows(void) { now += 1 << 20; }
 int answer_on(const Node *n, const Trace *t, long a, long b)
 {
     uint64_t when = now + (uint64_t)b;
-    if (kept[n->id][b % 32][b - a].when != when) {
+    if (b <= a) return NO;
+    if (b - a >= KEPT) return window(n, t, a, b);
+    if (kept[n->id][b % KEPT][b - a].when != when) {
         int answer = window(n, t, a, b);
-        kept[n->id][b % 32][b - a].when = when;
-        kept[n->id][b % 32][b - a].answer = answer;
+        kept[n->id][b % KEPT][b - a].when = when;
+        kept[n->id][b % KEPT][b - a].answer = answer;
     }
-    return kept[n->id][b % 32][b - a].answer;
+    return kept[n->id][b % KEPT][b - a].answer;
 }
 
-/* The greatest over the windows that end at the row. Longer ones than 16 events answer no where limit 8 is kept. */
-int row_answer(const Node *n, const Trace *t, long row)
+/* The greatest over the windows that end at the row, of at most so many events: a pattern within limit 8 answers no on
+   windows of more than 16. */
+int row_answer(const Node *n, const Trace *t, long row, long longest)
 {
     int best = NO;
-    for (long a = row; a >= 0 && a >= row - MAX_STEPS && best < YES; a--)
+    for (long a = row; a >= 0 && a >= row - longest && best < YES; a--)
         best = greater(best, answer_on(n, t, a, row));
     return best;
 }

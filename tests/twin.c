@@ -1,36 +1,48 @@
-/* The twin's side: answers each case on standard input by document 01. */
-#include "lines.h"
-#include "twin.h"
+/* The twin: answers each case on standard input (tests/twin/lines.h) by document 01, in plain C, with nothing of the
+   library. Here are its answers for texts and trace files; its chapters are in tests/twin. */
+#include "twin/calls.h"
+#include "twin/twin.h"
 #include <stdlib.h>
 #include <string.h>
 
 enum { MAX_CELLS = 65535 * 32 };
 
-static void do_read(void)
+void begin_case(void)
+{
+    free_nodes();
+    forget_windows();
+}
+
+void do_names(void)
+{
+    Bytes names = take_bytes();
+    if (!refused(check_names(names.at, names.length))) printf("names %ld", names.length / 32);
+    end_line(0);
+}
+
+void do_read(void)
 {
     Bytes names = take_bytes();
     int sort = (int)take_number();
     Bytes text = take_bytes();
     Node *tree;
-    byte bytes[MAX_NODES];
+    byte bytes[MAX_NODES] = {0};
     Refusal r = read_text(names.at, names.length, text.at, text.length, sort, &tree);
-    if (r.number) say_refused(r.number, (unsigned long)r.place);
-    else {
+    if (!refused(r)) {
         printf("tree");
         say_bytes(bytes, tree_bytes(tree, bytes, 0));
     }
-    end_line(0);
+    end_line(sum_of(0, bytes, MAX_NODES));
 }
 
-static void do_write(void)
+void do_write(void)
 {
     Bytes names = take_bytes();
     int sort = (int)take_number();
     Bytes tree = take_bytes(), out = lend(take_number());
     long size = 0;
     Refusal r = write_text(names.at, names.length, tree.at, tree.length, sort, out.length, (char *)out.at, &size);
-    if (r.number) say_refused(r.number, (unsigned long)r.place);
-    else printf("text %ld %.*s", size, (int)size, (char *)out.at);
+    if (!refused(r)) printf("text %ld %.*s", size, (int)size, (char *)out.at);
     end_line(sum_of(0, out.at, out.length));
 }
 
@@ -47,7 +59,7 @@ static Refusal hand_over(const File *file, Bytes names, Bytes times, Bytes state
     return (Refusal){0, 0};
 }
 
-static void do_read_trace(void)
+void do_read_trace(void)
 {
     static File file;
     if (!file.times) {
@@ -58,24 +70,22 @@ static void do_read_trace(void)
     Bytes times = lend(4 * take_number()), states = lend(take_number());
     Refusal r = read_file(bytes.at, bytes.length, &file);
     if (!r.number) r = hand_over(&file, names, times, states);
-    if (r.number) say_refused(r.number, (unsigned long)r.place);
-    else printf("read %d %ld", file.names, file.rows);
+    if (!refused(r)) printf("read %d %ld", file.names, file.rows);
     end_line(sum_of(sum_of(sum_of(0, names.at, names.length), times.at, times.length), states.at, states.length));
 }
 
-static void do_write_trace(void)
+void do_write_trace(void)
 {
     Bytes names = take_bytes(), times = take_bytes(), states = take_bytes();
     long n = take_number(), size = 0;
     Bytes out = lend(take_number());
     Refusal r = write_file(names.at, names.length, (const uint32_t *)times.at, times.length / 4, states.at,
                            states.length, n, out.length, out.at, &size);
-    if (r.number) say_refused(r.number, (unsigned long)r.place);
-    else printf("wrote %ld", size);
+    if (!refused(r)) printf("wrote %ld", size);
     end_line(sum_of(0, out.at, out.length));
 }
 
-static void do_changes(void)
+void do_changes(void)
 {
     long names = take_number(), n = take_number();
     Bytes states = take_bytes();
@@ -83,8 +93,7 @@ static void do_changes(void)
     Refusal r = check_rows(names, n, states.length);
     if (!r.number) r = first_code(states.at, states.length);
     if (!r.number && row >= n) r = (Refusal){19, 0};
-    if (r.number) say_refused(r.number, (unsigned long)r.place);
-    else {
+    if (!refused(r)) {
         uint32_t mask = 0;
         int many = 0;
         for (long i = 0; i < names && row > 0; i++)
@@ -94,16 +103,4 @@ static void do_changes(void)
     end_line(0);
 }
 
-int main(void)
-{
-    for (int c; (c = next_line()) != EOF;) {
-        free_nodes();
-        forget_windows();
-        if (c == 'e') do_read();
-        else if (c == 'w') do_write();
-        else if (c == 'f') do_read_trace();
-        else if (c == 'g') do_write_trace();
-        else if (c == 'c') do_changes();
-        else do_pattern(c);
-    }
-}
+int main(void) { return answer_cases(); }

@@ -1,0 +1,10 @@
+/* What the files of the library's side share. */
+#ifndef LIBRARY_H
+#define LIBRARY_H
+#include "../../include/dachsmond.h"
+#include "calls.h"
+#include "lines.h"
+
+/* Whether a call was refused, which is said; the other fields of what it tells are 0 then. */
+bool refused(unsigned number, size_t place, uint64_t others);
+#endif
