@@ -18,7 +18,7 @@ use Rattle.alf.specs.Expressions.{Half, Edge, pair, changes, stays}
 use Rattle.alf.specs.Windows.{asked, edgeOn}
 use Rattle.alf.specs.Alternatives.{Test, test, Step, Alternative, testAt, stepAt, stepsFrom, atRow}
 use Rattle.alf.specs.Alternatives.{isName, halves, first, second, literalsAt, possible, contradictory}
-use Rattle.alf.proofs.Bools.{never, and-left, and-right, equal?, below?}
+use Rattle.alf.proofs.Bools.{never, and-left, and-right, or-yes, equal?, below?}
 use Rattle.alf.proofs.Extremes.{leastOf-small}
 use Rattle.alf.proofs.Steps.{asked-small, step-small, steps-small}
 use Rattle.alf.proofs.RowsAreAlternatives.{row-on, row-off}
@@ -29,12 +29,8 @@ unfolding some
 some-at zero i p l h = absurd (omega arith)
 some-at (suc n) i p l h = go (some-at n i p) (equal? i n)
   where
-    or-right : (q : Bool) → (q || true) ≡ true
-    or-right true = refl
-    or-right false = refl
-
     go : (i < n → p i ≡ true → some n p ≡ true) → (i ≡ n) ⊎ (i ≡ n → ⊥) → (some n p || p n) ≡ true
-    go r (inl e) = ap (λ (q : Bool). some n p || q) (ap p (sym e) ∙ h) ∙ or-right (some n p)
+    go r (inl e) = ap (λ (q : Bool). some n p || q) (ap p (sym e) ∙ h) ∙ or-yes (some n p)
     go r (inr d) = rw (r (omega arith) h) refl
 
 some-none : (n : ℕ) (p : ℕ → Bool) → ((i : ℕ) → i < n → p i ≡ false) → some n p ≡ false

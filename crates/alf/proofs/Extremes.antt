@@ -1,4 +1,5 @@
 -- Laws of the greatest and the least, over a range and over a list.
+--   min-max-left                  the least goes through the greater
 --   greatest-same, least-same     of equal entries
 --   greatest-zero, greatest-one   of entries that are no, and all but one
 --   greatest-max                  of the greater of two
@@ -13,6 +14,9 @@ use Prim.Native.Nat.{ℕ, zero, suc, _+_, _<_, _≤_, min, max}
 use native.Mathlib.Omega.{arith}
 use Rattle.alf.specs.Words.{greatest, least, greatestOf, leastOf}
 use Rattle.alf.proofs.Bools.{equal?}
+
+pub min-max-left : (x y z : ℕ) → min (max x y) z ≡ max (min x z) (min y z)
+min-max-left x y z = omega arith
 
 pub greatest-same : (n : ℕ) (f g : ℕ → ℕ) → ((i : ℕ) → i < n → f i ≡ g i) → greatest n f ≡ greatest n g
 unfolding greatest

@@ -12,18 +12,15 @@ use Rattle.alf.specs.Expressions.{Boolean}
 use Rattle.alf.specs.Windows.{Window, either, together}
 use Rattle.alf.specs.Alternatives.{Alternative, overlaid, stepsFrom}
 use Rattle.alf.proofs.Bools.{equal?, below?}
-use Rattle.alf.proofs.Extremes.{greatest-same, greatest-zero, greatest-one, greatest-max}
+use Rattle.alf.proofs.Extremes.{min-max-left, greatest-same, greatest-zero, greatest-one, greatest-max}
 use Rattle.alf.proofs.Steps.{steps-overlaid, overlaid-length}
 use Rattle.alf.proofs.Lifting.{win, win-on, win-off, Lifts}
 
 -- the two ways in which one of P, P′ and Q may lie over each other
 spread : (p p′ q r r′ s : ℕ)
     → max (min (max p p′) q) (min (max r r′) s) ≡ max (max (min p q) (min r s)) (max (min p′ q) (min r′ s))
-spread p p′ q r r′ s = ap₂′ (through p p′ q) (through r r′ s) ∙ swap (min p q) (min p′ q) (min r s) (min r′ s)
+spread p p′ q r r′ s = ap₂′ (min-max-left p p′ q) (min-max-left r r′ s) ∙ swap (min p q) (min p′ q) (min r s) (min r′ s)
   where
-    through : (x y z : ℕ) → min (max x y) z ≡ max (min x z) (min y z)
-    through x y z = omega arith
-
     ap₂′ : {x y z w : ℕ} → x ≡ y → z ≡ w → max x z ≡ max y w
     ap₂′ e f = rw (e, f) refl
 

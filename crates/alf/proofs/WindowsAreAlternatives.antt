@@ -22,8 +22,7 @@ use Rattle.alf.specs.Alternatives.{Alternative, test, chained, overlappe
 use Rattle.alf.specs.Alternatives.{alternatives, testAt, stepAt, stepsFrom, onWindow, atRow, bestOf, answerOf}
 use Rattle.alf.proofs.Bools.{equal?, below?}
 use Rattle.alf.proofs.Lists.{All, none, more, all-append, all-map, all-each}
-use Rattle.alf.proofs.Extremes.{greatest-same, greatest-zero, greatest-one, greatestOf-append, greatestOf-map}
-use Rattle.alf.proofs.Extremes.{greatestOf-swap, greatestOf-same}
+use Rattle.alf.proofs.Extremes.{min-max-left, greatestOf-append}
 use Rattle.alf.proofs.Steps.{overlaid-length, conditioned-length, steps-conditioned, edge-small}
 use Rattle.alf.proofs.Lifting.{Steps, win, most, win-on, win-off, lift}
 use Rattle.alf.proofs.Joins.{chain-lifts}
@@ -113,10 +112,7 @@ module _ (st : Boolean → ℕ → ℕ) where
   means-while c P (x ∷ xs) (more h s) p a b =
       let i = means-while c (most st xs) xs s (λ a′ b′. refl) a b in
       let w = win-conditioned c x a b h in
-      rw (p a b, w) (spread (win st x a b) (most st xs a b) (held (st c) a b) ∙ ap (max _) i)
-    where
-      spread : (u v h : ℕ) → min (max u v) h ≡ max (min u h) (min v h)
-      spread u v h = omega arith
+      rw (p a b, w) (min-max-left (win st x a b) (most st xs a b) (held (st c) a b) ∙ ap (max _) i)
 
   -- an edge is one step of one test
   lone : Edge → Boolean → Alternative

@@ -6,8 +6,8 @@
 --   tree-matches, tree-fills, tree-totals, tree-corrects, tree-pushes
 --   longest-steps                 the longest alternative has K steps
 -- Assumes nothing.
-use mathlib.Core.Path.{_≡_, refl, ap, ap₂, sym, _∙_, fun-ext}
-use mathlib.Core.List.{List, [], _∷_, _++_}
+use mathlib.Core.Path.{_≡_, ap, ap₂, sym, _∙_, fun-ext}
+use mathlib.Core.List.{List, _++_, append-nil}
 use Prim.Native.Nat.{ℕ, zero, suc, _+_, _-_, _<_, _≤_}
 use native.Mathlib.Omega.{arith}
 use lib.ListN.{length, getD, take, drop, drop-of-length-le}
@@ -40,14 +40,10 @@ front-within l e h = omega arith
 pub front-length : {n m : ℕ} (l : List ℕ) → length l ≡ m → n ≤ m → n ≡ length (take n l)
 front-length {n} l e h = sym (length-take-le n l (omega arith))
 
-append-empty : (l : List ℕ) → l ++ [] ≡ l
-append-empty [] = refl
-append-empty (x ∷ l) = ap (λ (k : List ℕ). x ∷ k) (append-empty l)
-
 pub written-whole : (n : ℕ) (f : ℕ → ℕ) (l : List ℕ) → length l ≡ n → written l 0 n f ≡ listed 0 n f
 unfolding written
 written-whole n f l e =
-    ap (λ (k : List ℕ). listed 0 n f ++ k) (drop-of-length-le l {i = 0 + n} (omega arith)) ∙ append-empty _
+    ap (λ (k : List ℕ). listed 0 n f ++ k) (drop-of-length-le l {i = 0 + n} (omega arith)) ∙ append-nil _
 
 pub answers-on : (names : ℕ) (tree states : List ℕ)
     → numberAt (stateAt names states) (alternatives (expression tree names)) ≡ answersOn names tree states

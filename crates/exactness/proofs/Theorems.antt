@@ -7,20 +7,18 @@
 --   gives-any      which names they are does not matter
 -- Assumes nothing.
 use Prim.Native.Nat.{ℕ}
-use mathlib.Core.Path.{_≡_, sym, ap, subst, _∙_}
+use mathlib.Core.Path.{_≡_, sym, subst}
 use mathlib.Core.Bool.{Bool, true, false}
 use mathlib.Core.List.{List}
 use lib.ListN.{length}
 use Rattle.alf.specs.declared.Sort.{Sort}
-use Rattle.alf.specs.Bytes.{bytesOf}
 use Rattle.alf.specs.Refusals.{Passed, NameCount, cannot-be}
-use Rattle.alf.proofs.Decoding.{bytes-decode}
 use Rattle.names.specs.Check.{namesOrder}
 use Rattle.trees.specs.Parts.{expressionAt}
 use Rattle.limits.specs.Accepted.{Accepted, Decides}
+use Rattle.limits.proofs.Acceptance.{accepted-bytes}
 use Rattle.reader.specs.Lookup.{countOf}
 use Rattle.writer.specs.Writing.{textAt}
-use Rattle.writer.proofs.Calls.{decoded}
 use Rattle.round_trip.proofs.Given.{written-gives}
 use Rattle.exactness.specs.Given.{TextFor, SomeText, Exactly}
 use Rattle.exactness.proofs.Sound.{gives-accepted}
@@ -35,12 +33,6 @@ text-accepted {names} {tree} {sort} good t =
 pub given-accepted : {n : ℕ} {sort : Sort} {tree : List ℕ} → SomeText n sort tree → Accepted n sort tree
 given-accepted {n} {sort} {tree} s =
     subst (λ (k : ℕ). Accepted k sort tree) (s .counted) (text-accepted (s .good) (s .given))
-
--- the expression that an accepted tree is has its bytes
-accepted-bytes : {n : ℕ} {sort : Sort} {tree : List ℕ} → Accepted n sort tree
-    → bytesOf (expressionAt tree n (length tree)) ≡ tree
-accepted-bytes {n} {tree = tree} a =
-    ap bytesOf (decoded n tree (a .expression) (a .decodes)) ∙ bytes-decode n tree (a .expression) (a .decodes)
 
 -- an accepted tree is given by its written text
 pub accepted-text : {names tree : List ℕ} {sort : Sort} → Passed (namesOrder names)

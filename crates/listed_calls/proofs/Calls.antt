@@ -33,7 +33,7 @@ use Rattle.calls.specs.Orders.{Rows, Judged, JudgesTrace, JudgesRow}
 use Rattle.calls.specs.Written.{after}
 use Rattle.calls.specs.Matching.{Finds, Counts}
 use Rattle.calls.specs.Pushing.{RowFits, Keeps}
-use Rattle.calls.proofs.Deciding.{told, tells, same-decided}
+use Rattle.limits.proofs.Deciding.{told, tells, same-decided}
 use Rattle.calls.proofs.Verdicts.{judged-as, judged-good, judged-not, lists-as}
 use Rattle.calls.proofs.ByAlternatives.{written-whole}
 use Rattle.calls.proofs.Matches.{rows-asked}

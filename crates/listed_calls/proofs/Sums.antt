@@ -19,7 +19,7 @@ use Rattle.alf.specs.Alternatives.{Test, Alternative, tests}
 use Rattle.matcher.specs.Shapes.{cut, sum}
 use Rattle.matcher.proofs.Cuts.{cut-at, sum-next, sum-nil, part, part-last}
 use Rattle.limits.specs.Accepted.{Decides}
-use Rattle.calls.proofs.Deciding.{same-decided, eqb-decides}
+use Rattle.limits.proofs.Deciding.{same-decided, eqb-decides}
 use Rattle.listed_calls.specs.Lists.{Light}
 
 -- the sum of the lengths of some pieces

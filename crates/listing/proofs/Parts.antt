@@ -9,7 +9,6 @@ use Prim.Native.Nat.{ℕ, zero, suc, _+_, _-_, _/_, _%_, _<_, _≤_}
 use native.Mathlib.Omega.{arith}
 use native.Mathlib.Numerals.{add-one}
 use mathlib.Core.Path.{_≡_, refl, sym, ap, _∙_}
-use mathlib.Core.Bool.{Bool, true, false}
 use mathlib.Core.List.{List, [], _∷_, _++_, map}
 use lib.Dec.{eqb}
 use mathlib.Core.Logic.{_⊎_, inl, inr}
@@ -20,9 +19,9 @@ use Rattle.writer.specs.Inner.{Put, Room}
 use Rattle.writer.proofs.Going.{sets-append, put-length}
 use Rattle.writer.proofs.Steps.{copy-more}
 use Rattle.writer.proofs.Spelling.{put-as}
-use Rattle.matcher.proofs.Filling.{one-small}
 use Rattle.listing.specs.Numbers.{digits}
 use Rattle.alf.proofs.Bools.{below?}
+use Rattle.alf.proofs.Counts.{count-next, count-small}
 use Rattle.listing.specs.Listing.{line, lines, howMany}
 use Rattle.listing.specs.Table.{plain}
 use Rattle.listing.proofs.Digits.{digits-length}
@@ -67,15 +66,6 @@ module _ {k : ℕ} (n : ℕ) (out : List ℕ) (at : ℕ) (some : k ≡ 0 → ⊥
     digits-put e u = rw (digits-step k n some) (put-then h (rw e at u))
 
 -- counting
-count-next : (n : ℕ) (p : ℕ → Bool) → count (n + 1) p ≡ count n p + (if p n then 1 else 0)
-unfolding count
-count-next n p = rw add-one refl
-
-pub count-small : (n : ℕ) (p : ℕ → Bool) → count n p ≤ n
-unfolding count
-count-small zero p = omega arith
-count-small (suc n) p = let e = count-small n p in let f = one-small (p n) in omega arith
-
 -- of the first i answers, k have the number a
 pub record Counting (answers : List ℕ) (a k i : ℕ) : Type 0 where
   pub within : i ≤ length answers

@@ -4,10 +4,8 @@
 --   Counting, counting-first, -next        the totals
 -- Assumes nothing.
 use mathlib.Core.Path.{_≡_, refl, ap, _∙_}
-use mathlib.Core.Bool.{Bool, true, false}
 use mathlib.Core.List.{List}
-use Prim.Native.Nat.{ℕ, zero, suc, _+_, _<_, _≤_}
-use native.Mathlib.Numerals.{add-one}
+use Prim.Native.Nat.{ℕ, _+_, _<_, _≤_}
 use native.Mathlib.Nat.{zero-add, suc-mul, mul-le-mul-right}
 use native.Mathlib.Omega.{arith}
 use lib.Dec.{eqb}
@@ -19,6 +17,7 @@ use Rattle.alf.specs.Expressions.{Boolean}
 use Rattle.alf.specs.Windows.{numberOf}
 use Rattle.alf.specs.Alternatives.{Alternative}
 use Rattle.alf.specs.Alternatives as alternatives
+use Rattle.alf.proofs.Counts.{count-next, count-small}
 use Rattle.evaluator.specs.Rows.{Within}
 use Rattle.matcher.specs.Answers.{RowAsked, Matches}
 use Rattle.matcher.specs.Tables.{Rows, RowsAsked, numberAt, written, Filled, totalOf, Totals}
@@ -87,19 +86,6 @@ module _ {st : Boolean → ℕ → ℕ} {xs : List Alternative} {n : ℕ} {answe
     filling-end h =
         let e : i ≡ n = omega (arith, g .within) in
         record { answered = rw e at (g .answered); counted = rw e at (g .counted) }
-
-count-next : (n : ℕ) (p : ℕ → Bool) → count (n + 1) p ≡ count n p + (if p n then 1 else 0)
-unfolding count
-count-next n p = rw add-one refl
-
-pub one-small : (b : Bool) → (if b then 1 else 0) ≤ 1
-one-small true = omega arith
-one-small false = omega arith
-
-count-small : (n : ℕ) (p : ℕ → Bool) → count n p ≤ n
-unfolding count
-count-small zero p = omega arith
-count-small (suc n) p = let e = count-small n p in let f = one-small (p n) in omega arith
 
 -- the totals of the rows before i
 pub record Counting (st : Boolean → ℕ → ℕ) (xs : List Alternative) (n yes no unknown i : ℕ) : Type 0 where

@@ -6,7 +6,7 @@ use Prim.Native.Nat.{ℕ, zero, suc, _+_, _*_, _<_, _≤_, min}
 use native.Mathlib.Omega.{arith}
 use native.Mathlib.Nat.{suc-mul}
 use mathlib.Core.Path.{_≡_, refl, ap, sym, _∙_}
-use mathlib.Core.Bool.{Bool, true, false, _||_}
+use mathlib.Core.Bool.{Bool, true, false}
 use mathlib.Core.List.{List, [], _∷_, map}
 use lib.Dec.{ltb}
 use lib.ListN.{length, getD, length-append, length-map}
@@ -17,7 +17,7 @@ use Rattle.alf.specs.Bytes.{topVector, Decodes}
 use Rattle.alf.specs.Alternatives.{Test, Alternative, alternatives, tests, numberOfAlternatives, stepsOf, overLimit}
 use Rattle.alf.specs.declared.Sort.{Sort}
 use Rattle.alf.specs.declared.Sort.the-variants as sort
-use Rattle.alf.proofs.Bools.{never}
+use Rattle.alf.proofs.Bools.{never, or-left, or-right}
 use Rattle.trees.specs.Parts.{vectorAt}
 use Rattle.limits.specs.Accepted.{sortOf, overSize, Accepted, Limited}
 use Rattle.limits.specs.Sizes.{alternativeAt, Chosen, Shaped}
@@ -46,14 +46,6 @@ unfolding greatestOf
 greatest-at f z [] t = omega arith
 greatest-at f z (x ∷ xs) zero = omega arith
 greatest-at f z (x ∷ xs) (suc t) = let e = greatest-at f z xs t in omega arith
-
-or-left : (p q : Bool) → (p || q) ≡ false → p ≡ false
-or-left true q h = h
-or-left false q h = refl
-
-or-right : (p q : Bool) → (p || q) ≡ false → q ≡ false
-or-right true q h = never (sym h)
-or-right false q h = h
 
 tests-joined : (x : Alternative) → tests x ≡ length (joined x)
 unfolding tests sumOf joined

@@ -9,11 +9,7 @@ use mathlib.Core.Path.{_≡_, refl, ap, sym, _∙_}
 use mathlib.Core.Bool.{Bool, true, false, _||_}
 use mathlib.Core.Logic.{_⊎_, inl, inr}
 use Rattle.alf.specs.Words.{some}
-use Rattle.alf.proofs.Bools.{equal?}
-
-or-yes : (b : Bool) → (b || true) ≡ true
-or-yes true = refl
-or-yes false = refl
+use Rattle.alf.proofs.Bools.{equal?, or-yes}
 
 module _ (p : ℕ → Bool) where
   pub some-none : some 0 p ≡ false

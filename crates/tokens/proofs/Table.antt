@@ -17,7 +17,7 @@ use Rattle.alf.proofs.Bools.{and-left, and-right}
 use Rattle.tokens.specs.Spelling.{Spelling, _means_, spellings}
 use Rattle.tokens.specs.Steps.{starts, firstOf, step, none}
 use Rattle.tokens.specs.Inner.{wordOf}
-use Rattle.tokens.proofs.Ranges.{all-from-law}
+use Rattle.alf.proofs.Ranges.{all-from-law}
 
 abbrev pub rows : List Spelling → List (List ℕ)
 rows [] = []

@@ -1,11 +1,11 @@
 -- What the call and its parts are proved by.
 -- Main names: held, delivered-long, delivered-short, delivered, refused-names, refused-tree, laid, lined, wrote,
--- names-named, names-new, decoded.
+-- names-named, names-new.
 -- Assumes nothing.
 use Prim.Native.Nat.{ℕ, _+_, _*_, _/_, _<_, _≤_}
 use native.Mathlib.Omega.{arith}
 use mathlib.Core.Path.{_≡_, refl, sym, ap, _∙_, subst}
-use mathlib.Core.Bool.{Bool, true, false, not}
+use mathlib.Core.Bool.{Bool, true, false}
 use mathlib.Core.Logic.{_⊎_, inl, inr}
 use mathlib.Core.List.{List, [], _∷_, _++_, map}
 use lib.Dec.{leb}
@@ -23,10 +23,11 @@ use Rattle.alf.proofs.Bools.{never}
 use Rattle.alf.proofs.Decoding.{bytes-decode, decode-over}
 use Rattle.alf.specs.Refusals.{At, RefusedWith, Passed, Comes}
 use Rattle.grammar.specs.Written.{written}
-use Rattle.trees.specs.Parts.{Ends, isWhole, top, expressionAt}
+use Rattle.trees.specs.Parts.{Ends, isWhole, expressionAt}
 use Rattle.names.specs.Check.{namesOrder}
 use Rattle.names.proofs.Orders.{none-first}
-use Rattle.limits.specs.Accepted.{Accepted, Decides}
+use Rattle.limits.specs.Accepted.{Accepted}
+use Rattle.limits.proofs.Acceptance.{decoded}
 use Rattle.writer.specs.Trees.{treeOf}
 use Rattle.writer.specs.Spelled.{text}
 use Rattle.writer.specs.Signs.{sign, signs, treeAt, lineFrom}
@@ -151,22 +152,6 @@ pub names-passed : {names : List ℕ} (made : ℕ → Type 0) {k : ℕ} {o : Out
     → o ≡ Done k → Named names
 unfolding Comes
 names-passed made x e = record { passed = (rw e at x) .0 }
-
--- what a test says
-pub decided-no : {P : Type 0} (b : Bool) → Decides b P → not b ≡ true → P → ⊥
-unfolding Decides
-decided-no true d e = never e
-decided-no false d e = d
-
-pub decided-yes : {P : Type 0} (b : Bool) → Decides b P → not b ≡ false → P
-unfolding Decides
-decided-yes true d e = d
-decided-yes false d e = never (sym e)
-
--- the expression that an accepted tree is
-pub decoded : (n : ℕ) (tree : List ℕ) (e : Expression) → Decodes n tree e → expressionAt tree n (length tree) ≡ e
-unfolding Decodes top
-decoded n tree e h = ap top h
 
 module _ {names tree : List ℕ} {sort : Sort} (h : Named names) (a : Accepted (countOf names) sort tree) where
   abbrev e : Expression

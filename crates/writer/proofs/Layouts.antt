@@ -22,7 +22,7 @@ use Rattle.grammar.specs.Grammar.{Tree, leaf, one, two, three}
 use Rattle.grammar.specs.Written.{made, levelOf, fitted, written}
 use Rattle.grammar.proofs.Table.{binary-level}
 use Rattle.grammar.proofs.Written.{written-leaf, written-one, written-two, written-three}
-use Rattle.tokens.proofs.Ranges.{all-from, all-from-law}
+use Rattle.alf.proofs.Ranges.{all-from, all-from-law}
 use Rattle.trees.specs.Parts.{Ends, Start, isWhole, top}
 use Rattle.trees.proofs.Starts.{ends-pos}
 use Rattle.writer.specs.Trees.{named, treeOf}

@@ -10,7 +10,7 @@ use lib.ListN.{length, getD, take, drop, length-append, length-take}
 use borrow.Author.Tests.{ltb-true, lt-ltb, le-ltb, ne-eqb}
 use Rattle.alf.specs.Words.{if_then_else_}
 use Rattle.alf.specs.Names.{untilZero, slot, nameAt}
-use Rattle.tokens.proofs.Ranges.{all-from, all-from-law}
+use Rattle.alf.proofs.Ranges.{all-from, all-from-law}
 use Rattle.grammar.specs.declared.Token.{Token}
 use Rattle.writer.specs.Spelled.{halfByte, literalSpelled, pairSpelled, operators, marks, prefixes, signSpelled}
 use Rattle.writer.specs.Spelled.{spelled, following, textOf}

@@ -17,7 +17,7 @@ use Rattle.alf.proofs.Made.{Made, a-name, a-literal, a-negation, a-binary, a-ch
 use Rattle.alf.proofs.Made.{a-condition, a-condition-before, nothing}
 use Rattle.grammar.specs.Grammar.{Tree, leaf, one, two, three}
 use Rattle.grammar.specs.Written.{made}
-use Rattle.tokens.proofs.Ranges.{all-from, all-from-law}
+use Rattle.alf.proofs.Ranges.{all-from, all-from-law}
 use Rattle.trees.specs.Parts.{isWhole, top}
 use Rattle.writer.specs.Trees.{named, joinCode, booleanTree, vectorTree, treeOf}
 use Rattle.writer.specs.Signs.{codeAt}

@@ -16,7 +16,7 @@ use Rattle.tokens.specs.Spelling.{IsToken, spellings}
 use Rattle.tokens.specs.Taking.{Taken}
 use Rattle.tokens.specs.Texts.{Reads, tokenAt}
 use Rattle.tokens.specs.Texts as texts
-use Rattle.tokens.proofs.Ranges.{all-from, all-from-law}
+use Rattle.alf.proofs.Ranges.{all-from, all-from-law}
 use Rattle.tokens.proofs.Bytes.{contrary}
 use Rattle.tokens.proofs.Search.{all-in, in-all}
 use Rattle.tokens.proofs.Shapes.{token-size}

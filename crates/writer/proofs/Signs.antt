@@ -19,7 +19,7 @@ use Rattle.tokens.specs.Classes.{halfOf}
 use Rattle.tokens.specs.Spelling.{spellings}
 use Rattle.tokens.specs.Taking.{nameBytes, Taken}
 use Rattle.tokens.specs.Steps.{starts, none, firstOf, nameStep, halfAt, basedStep, plainStep, stepOf}
-use Rattle.tokens.proofs.Ranges.{all-from, all-from-law}
+use Rattle.alf.proofs.Ranges.{all-from, all-from-law}
 use Rattle.tokens.proofs.Right.{Right}
 use Rattle.tokens.proofs.Taking.{right}
 use Rattle.writer.specs.Spelled.{halfByte, literalSpelled, pairSpelled, operators, marks, prefixes, signSpelled}

@@ -16,7 +16,7 @@ use Rattle.names.specs.Check.{NameLength}
 use Rattle.names.proofs.Slots.{slot-part}
 use Rattle.tokens.specs.Spelling.{based}
 use Rattle.tokens.specs.Inner.{wordOf}
-use Rattle.tokens.proofs.Ranges.{all-from, all-from-law}
+use Rattle.alf.proofs.Ranges.{all-from, all-from-law}
 use Rattle.tokens.proofs.Table.{same, same-law}
 use Rattle.writer.specs.Spelled.{halfByte, literalSpelled, pairSpelled, operators, marks, prefixes, signSpelled}
 use Rattle.writer.specs.Signs.{word, markAt}

@@ -9,7 +9,7 @@ use lib.Dec.{eqb, leb}
 use lib.ListN.{getD}
 use borrow.Author.Tests.{eqb-true, le-leb, lt-leb}
 use Rattle.grammar.specs.Tokens.{table, kindIn, kind}
-use Rattle.tokens.proofs.Ranges.{all-from, all-from-law}
+use Rattle.alf.proofs.Ranges.{all-from, all-from-law}
 use Rattle.writer.specs.Signs.{codeAt, levelAt, opener, closer}
 
 -- the tables in the code

@@ -11,6 +11,7 @@ use borrow.Author.Tests.{eqb-true, ltb-true, ne-eqb, le-leb}
 use Rattle.alf.specs.Words.{if_then_else_, all}
 use Rattle.alf.specs.Names.{isLetter, isDecimal, startsName, goesOnName, isName, nameAt}
 use Rattle.alf.proofs.Bools.{never, and-left, and-right}
+use Rattle.alf.proofs.NameBytes.{starts-goes-on}
 use Rattle.tokens.specs.Taking.{nameBytes, Taken}
 use Rattle.tokens.specs.Steps.{nameStep, stepOf, step}
 use Rattle.grammar.specs.declared.Token.{Token}
@@ -30,15 +31,11 @@ all-bytes [] b h = behind-none b
 all-bytes (x ∷ w) b h =
     rw (and-left (goesOnName x) _ h, all-bytes w b (and-right (goesOnName x) _ h))
 
-starts-on : (b : ℕ) → startsName b ≡ true → goesOnName b ≡ true
-unfolding goesOnName
-starts-on b h = rw h
-
 pub name-bytes : (b : ℕ) (w : List ℕ) {rest : List ℕ} → Behind rest → isName (b ∷ w) ≡ true
     → nameBytes (b ∷ (w ++ rest)) ≡ suc (length w)
 unfolding isName all
 name-bytes b w k h =
-    let s = starts-on b (and-left (startsName b) _ h) in
+    let s = starts-goes-on b (and-left (startsName b) _ h) in
     all-bytes (b ∷ w) k (rw s (and-left (all goesOnName w) _ (and-right (startsName b) _ h)))
 
 name-size : (b : ℕ) (w : List ℕ) → isName (b ∷ w) ≡ true → length w < 32
