@@ -48,7 +48,8 @@ added names b (a-condition-before k e) h = record { sound = rw e h; bytes = rw (
 added names b nothing h = absurd h
 
 -- what the stack holds is what was read
-read : (t : List ℕ) (names n : ℕ) → n ≤ length t → Sound (stackAt t names n) → held (stackAt t names n) ≡ take n t
+read : (t : List ℕ) (names n : ℕ) → n ≤ length t → Sound (stackAt t names n)
+    → held (stackAt t names n) ≡ take n t
 unfolding stackAt held
 read t names zero l h = refl
 read t names (suc n) l h =
@@ -76,6 +77,7 @@ top empty d = d
 top broken d = d
 top (push e s) d = e
 
-pub decode-unique : (names : ℕ) (t : List ℕ) (e f : Expression) → Decodes names t e → Decodes names t f → e ≡ f
+pub decode-unique : (names : ℕ) (t : List ℕ) (e f : Expression) → Decodes names t e → Decodes names t f
+    → e ≡ f
 unfolding Decodes top
 decode-unique names t e f h k = ap (λ (s : Stack). top s e) (sym h ∙ k)

@@ -12,7 +12,8 @@ abbrev pub all-from : (ℕ → Bool) → ℕ → ℕ → Bool
 all-from p lo zero = true
 all-from p lo (suc n) = p lo && all-from p (suc lo) n
 
-pub all-from-law : (p : ℕ → Bool) (lo n b : ℕ) → all-from p lo n ≡ true → lo ≤ b → b < lo + n → p b ≡ true
+pub all-from-law : (p : ℕ → Bool) (lo n b : ℕ) → all-from p lo n ≡ true → lo ≤ b → b < lo + n
+    → p b ≡ true
 all-from-law p lo zero b t h k = absurd (omega arith)
 all-from-law p lo (suc n) b t h k =
     go (eqb b lo) refl

@@ -56,7 +56,8 @@ module _ (st : Boolean → ℕ → ℕ) where
   abbrev Means : Window → List Alternative → Type 0
   Means P xs = (a b : ℕ) → P a b ≡ most st xs a b
 
-  means-either : (P Q : Window) (xs ys : List Alternative) → Means P xs → Means Q ys → Means (either P Q) (xs ++ ys)
+  means-either : (P Q : Window) (xs ys : List Alternative) → Means P xs → Means Q ys
+      → Means (either P Q) (xs ++ ys)
   unfolding either
   means-either P Q xs ys p q a b =
       let e = greatestOf-append (onWindow st a b) xs ys in
@@ -72,7 +73,8 @@ module _ (st : Boolean → ℕ → ℕ) where
     means-overlapped : Means (together P Q) (overlapped xs ys)
     means-overlapped = lift st (overlay-lifts st) P Q xs ys s t p q
 
-  means-joined : (j : Join) (P Q : Window) (xs ys : List Alternative) → Steps xs → Steps ys → Means P xs → Means Q ys
+  means-joined : (j : Join) (P Q : Window) (xs ys : List Alternative) → Steps xs → Steps ys → Means P xs
+      → Means Q ys
       → Means (joined j P Q) (rewritten j xs ys)
   unfolding joined rewritten
   means-joined followed-by P Q xs ys s t p q = means-chained P Q xs ys s t p q

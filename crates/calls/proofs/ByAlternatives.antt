@@ -61,7 +61,8 @@ module _ {names : ℕ} {tree : List ℕ} {a : Alternatives} (h : Holds tree name
       alternativesOf tree names (take (a .count) (a .steps)) (take (a .«step_count») (a .tests))
       (take (a .«test_count») (a .edges)) (take (a .«test_count») (a .operands))
 
-  pub tree-matches : {states : List ℕ} {row t : ℕ} {answer : Answer} → Matches (stateAt names states) xs row answer t
+  pub tree-matches : {states : List ℕ} {row t : ℕ} {answer : Answer}
+      → Matches (stateAt names states) xs row answer t
       → MatchesTree names tree states row answer t
   tree-matches {states} {row} m =
       record {
@@ -73,7 +74,8 @@ module _ {names : ℕ} {tree : List ℕ} {a : Alternatives} (h : Holds tree name
   numbers-on states =
       ap (λ (ys : List Alternative). numberAt (stateAt names states) ys) (h .stands) ∙ answers-on names tree states
 
-  pub tree-fills : {states answers tried answers′ tried′ : List ℕ} {n : ℕ} → length answers ≡ n → length tried ≡ n
+  pub tree-fills : {states answers tried answers′ tried′ : List ℕ} {n : ℕ} → length answers ≡ n
+      → length tried ≡ n
       → Filled (stateAt names states) xs n answers tried answers′ tried′
       → FillsTree names n tree states answers′ tried′
   tree-fills {states} {answers} {tried} {n = n} e d f =
@@ -108,6 +110,7 @@ module _ {names : ℕ} {tree : List ℕ} {a : Alternatives} (h : Holds tree name
             ∙ same-rewritten answers n r steps-are (numbers-on (corrected names states r new));
       }
 
-  pub tree-pushes : {q q′ : Queue} {row : List ℕ} {t : ℕ} {answer : Answer} → Pushes names xs q row answer t q′
+  pub tree-pushes : {q q′ : Queue} {row : List ℕ} {t : ℕ} {answer : Answer}
+      → Pushes names xs q row answer t q′
       → PushesTree names tree q row answer t q′
   tree-pushes p = rw (h .stands) at p

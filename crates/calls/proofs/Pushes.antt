@@ -111,7 +111,8 @@ module _ (names : ℕ) (tree : List ℕ) (q : Queue) where
       }
 
 -- a tree, a queue and a row that fit, as the queue asks for them
-pub push-asked : {names : ℕ} {tree : List ℕ} {q : Queue} {row : List ℕ} {a : Alternatives} → TreePush names tree q row
+pub push-asked : {names : ℕ} {tree : List ℕ} {q : Queue} {row : List ℕ} {a : Alternatives}
+    → TreePush names tree q row
     → Holds tree names a
     → PushAsked tree names (take (a .count) (a .steps)) (take (a .«step_count») (a .tests))
     (take (a .«test_count») (a .edges)) (take (a .«test_count») (a .operands)) q row
@@ -146,7 +147,8 @@ module _ {names : ℕ} {tree : List ℕ} {q : Queue} {row : List ℕ} {fits good
   unfolding Takes
   push-refused e = record { comes = (judged-not as-push e, refl) }
 
-  pub push-told : {m : Matched} {q′ : Queue} → v ≡ Good → PushesTree names tree q row (m .answer) (m .tries) q′
+  pub push-told : {m : Matched} {q′ : Queue} → v ≡ Good
+      → PushesTree names tree q row (m .answer) (m .tries) q′
       → Push names tree q row (matching.Found m) q′
   unfolding Takes
   push-told e p = record { comes = (judged-good as-push e .0, p) }

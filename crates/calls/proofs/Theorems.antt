@@ -81,7 +81,8 @@ expression-over : (names : ℕ) (tree : List ℕ) → Accepted names sort.Vector
 unfolding Decodes topVector sortOf isVectorSort ExpressionOver
 expression-over names tree a = go (a .expression) (a .decodes) (a .sorted)
   where
-    go : (e : Expression) → Decodes names tree e → sortOf e ≡ sort.Vector → VectorOver names (expression tree names)
+    go : (e : Expression) → Decodes names tree e → sortOf e ≡ sort.Vector
+        → VectorOver names (expression tree names)
     go (boolean c) d k = never (ap isVectorSort k)
     go (vector p) d k = rw d (decode-over names tree (vector p) d)
 
@@ -154,7 +155,8 @@ module _ {names n : ℕ} {tree states answers : List ℕ} {r : ℕ} {new states�
   answered = c .answers-memory
 
   -- an answer that is rewritten is the corrected trace's, whatever stood there
-  pub correction-reaches : (i : ℕ) → r ≤ i → i ≤ last → getD answers′ i 0 ≡ answersOn names tree states′ i
+  pub correction-reaches : (i : ℕ) → r ≤ i → i ≤ last
+      → getD answers′ i 0 ≡ answersOn names tree states′ i
   correction-reaches i a b =
       let e : r + (i - r) ≡ i = omega arith in
       let f = answersOn names tree (corrected names states r new) in
@@ -189,7 +191,8 @@ module _ {names n : ℕ} {tree states answers : List ℕ} {r : ℕ} {new states�
       → (i : ℕ) → i < n → getD answers′ i 0 ≡ answersOn names tree states′ i
   correction-keeps-right right i l = go (below? i r) (below? last i)
     where
-      go : (i < r) ⊎ (r ≤ i) → (last < i) ⊎ (i ≤ last) → getD answers′ i 0 ≡ answersOn names tree states′ i
+      go : (i < r) ⊎ (r ≤ i) → (last < i) ⊎ (i ≤ last)
+          → getD answers′ i 0 ≡ answersOn names tree states′ i
       go (inl a) b = correction-stays i (inl a) ∙ right i l ∙ stays-right i (inl a)
       go (inr a) (inl b) = correction-stays i (inr b) ∙ right i l ∙ stays-right i (inr (beyond i l b))
       go (inr a) (inr b) = correction-reaches i a b

@@ -85,7 +85,8 @@ module _ {fits good : Bool} (rest : Order) {facts : Type 0} where
   unfolding RefusedWith
   judge-18 h e = rw e (refuses (inl (refl, record { given = h; there = refl })))
 
-  pub judge-10 : {r : Verdict} → fits ≡ true → (good ≡ true → ⊥) → r ≡ Refused (record { number = 10; place = 0 })
+  pub judge-10 : {r : Verdict} → fits ≡ true → (good ≡ true → ⊥)
+      → r ≡ Refused (record { number = 10; place = 0 })
       → Judges fits good rest facts r
   unfolding RefusedWith
   judge-10 f h e = rw e (refuses (inr (λ p a. a .given f, inl (refl, record { given = h; there = refl }))))

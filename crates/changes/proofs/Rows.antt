@@ -38,7 +38,8 @@ bound n names h k = mul-le-mul h k
 both-rows : (x y names : ℕ) → x ≡ names → y ≡ names → names ≤ 32 → compared x y ≡ names
 both-rows x y names e f h = omega arith
 
-pub row-set : (names : ℕ) (states : List ℕ) (r set many : ℕ) → names ≤ 32 → suc r * names + names ≤ length states
+pub row-set : (names : ℕ) (states : List ℕ) (r set many : ℕ) → names ≤ 32
+    → suc r * names + names ≤ length states
     → Compared (take names (drop (r * names) states)) (take names (drop (suc r * names) states)) set many
     → RowSet names states (suc r) set many
 unfolding changeMask changeCount changed

@@ -45,7 +45,8 @@ accepted-text {names} {tree} good a =
       bytes = accepted-bytes a;
     }
 
-pub accepted-given : {n : ℕ} {sort : Sort} {tree : List ℕ} → NameCount n → Accepted n sort tree → SomeText n sort tree
+pub accepted-given : {n : ℕ} {sort : Sort} {tree : List ℕ} → NameCount n → Accepted n sort tree
+    → SomeText n sort tree
 accepted-given {n} {sort} {tree} (l, h) a =
     record {
       names = someNames n;
@@ -77,7 +78,8 @@ module _ {n : ℕ} (count : NameCount n) {sort : Sort} {tree : List ℕ} where
   exact-none = ((λ f s. f (given-accepted s)), (λ f a. f (accepted-given count a)))
 
 -- so what the code answers about a tree is whether some text gives it
-pub accepts-exact : {n : ℕ} → NameCount n → (sort : Sort) (tree : List ℕ) (b : Bool) → Decides b (Accepted n sort tree)
+pub accepts-exact : {n : ℕ} → NameCount n → (sort : Sort) (tree : List ℕ) (b : Bool)
+    → Decides b (Accepted n sort tree)
     → Decides b (SomeText n sort tree)
 unfolding Decides
 accepts-exact count sort tree true d = accepted-given count d

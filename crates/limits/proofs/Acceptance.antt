@@ -63,7 +63,8 @@ isVectorSort sort.Boolean = false
 isVectorSort sort.Vector = true
 
 -- the expression that a tree is, at its end
-pub decoded : (n : ℕ) (tree : List ℕ) (e : Expression) → Decodes n tree e → expressionAt tree n (length tree) ≡ e
+pub decoded : (n : ℕ) (tree : List ℕ) (e : Expression) → Decodes n tree e
+    → expressionAt tree n (length tree) ≡ e
 unfolding Decodes top
 decoded n tree e h = ap top h
 

@@ -50,7 +50,8 @@ module _ (xs : List Alternative) where
   light-of h =
       ltb-false 64 _ (or-right (ltb 16 (greatestOf length xs)) _ (or-right (ltb 64 (length xs)) _ h))
 
-  within-of : length xs ≤ 64 → greatestOf length xs ≤ 16 → greatestOf alternatives.tests xs ≤ 64 → overLimit xs ≡ false
+  within-of : length xs ≤ 64 → greatestOf length xs ≤ 16 → greatestOf alternatives.tests xs ≤ 64
+      → overLimit xs ≡ false
   unfolding overLimit
   within-of a b c = or-both _ _ (le-ltb _ _ a) (or-both _ _ (le-ltb _ _ b) (le-ltb _ _ c))
 

@@ -125,7 +125,8 @@ module _ {names n : ℕ} {tree steps tests edges operands states : List ℕ} {go
     all-refused e = record { comes = judged-not as-lists e; answers-memory = refl; tried-memory = refl }
 
     pub all-told : {answers′ tried′ : List ℕ} → v ≡ Good
-        → Filled (stateAt names states) (alternativesOf tree names steps tests edges operands) n answers tried answers′
+        → Filled (stateAt names states) (alternativesOf tree names steps tests edges operands) n answers tried
+        answers′
         tried′
         → ListedAll names n tree steps tests edges operands states answers tried answers′ tried′ (outcome.Done n)
     unfolding Comes after

@@ -47,7 +47,8 @@ unfolding digits
 digits-step zero n f = absurd (f refl)
 digits-step (suc k) n f = let e : suc k - 1 ≡ k = omega arith in rw e refl
 
-module _ {k : ℕ} (n : ℕ) (out : List ℕ) (at : ℕ) (some : k ≡ 0 → ⊥) (room : Room out at (digits k n)) where
+module _ {k : ℕ} (n : ℕ) (out : List ℕ) (at : ℕ) (some : k ≡ 0 → ⊥)
+    (room : Room out at (digits k n)) where
   pub digits-room : Room out at (digits (k - 1) (n / 10))
   digits-room = omega (arith, digits-length k n, digits-length (k - 1) (n / 10))
 
@@ -86,7 +87,8 @@ counting-next {answers} {a} {k} {i} {r} g l e =
       is = omega (arith, g .is, e, count-next i (λ j. eqb (getD answers j 0) a));
     }
 
-pub counting-end : {answers : List ℕ} {a k i : ℕ} → Counting answers a k i → length answers ≤ i → k ≡ howMany answers a
+pub counting-end : {answers : List ℕ} {a k i : ℕ} → Counting answers a k i → length answers ≤ i
+    → k ≡ howMany answers a
 unfolding howMany
 counting-end {answers} {i = i} g l = let e : i ≡ length answers = omega (arith, g .within) in rw e at (g .is)
 
@@ -107,7 +109,8 @@ pub last-number : {a : ℕ} → a ≤ 3 → (a ≡ 0 → ⊥) → (a ≡ 1 → �
 last-number h f g k = omega (arith, f, g, k)
 
 -- one answer more is at most 3
-pub good-more : (s : List ℕ) (i : ℕ) → ((j : ℕ) → j < i → getD s j 0 ≤ 3) → getD s i 0 ≤ 3 → (j : ℕ) → j < i + 1
+pub good-more : (s : List ℕ) (i : ℕ) → ((j : ℕ) → j < i → getD s j 0 ≤ 3) → getD s i 0 ≤ 3
+    → (j : ℕ) → j < i + 1
     → getD s j 0 ≤ 3
 good-more s i h k j l = go (below? j i)
   where
@@ -126,7 +129,8 @@ unfolding plain
 shown-at xs i h =
     getD-any (map plain xs) i 0 32 (rw (length-map xs plain) h) ∙ List·getD-map plain xs i 0
 
-pub plain-more : (xs : List ℕ) (i : ℕ) {out₀ out : List ℕ} {at v : ℕ} → i < length xs → v ≡ plain (getD xs i 0)
+pub plain-more : (xs : List ℕ) (i : ℕ) {out₀ out : List ℕ} {at v : ℕ} → i < length xs
+    → v ≡ plain (getD xs i 0)
     → Put out₀ at (take i (map plain xs)) out (at + i)
     → Put out₀ at (take (i + 1) (map plain xs)) (set out (at + i) v) (at + (i + 1))
 plain-more xs i h e p =

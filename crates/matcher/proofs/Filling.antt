@@ -23,7 +23,8 @@ use Rattle.matcher.specs.Answers.{RowAsked, Matches}
 use Rattle.matcher.specs.Tables.{Rows, RowsAsked, numberAt, written, Filled, totalOf, Totals}
 use Rattle.matcher.proofs.Written.{written-none, written-more, written-length}
 
-pub row-within : {states : List ℕ} {names n : ℕ} (i : ℕ) → Rows states names n → i < n → Within states names i
+pub row-within : {states : List ℕ} {names n : ℕ} (i : ℕ) → Rows states names n → i < n
+    → Within states names i
 row-within {states} {names} {n} i r h =
     let e = mul-le-mul-right names h in
     let f = suc-mul i names in
@@ -49,7 +50,8 @@ module _ (st : Boolean → ℕ → ℕ) (xs : List Alternative) where
     pub counted : tried ≡ written tried₀ 0 i (alternatives.tries st xs)
 
 module _ {st : Boolean → ℕ → ℕ} {xs : List Alternative} {n : ℕ} {answers₀ tried₀ : List ℕ} where
-  pub filling-first : n ≤ length answers₀ → n ≤ length tried₀ → Filling st xs n answers₀ tried₀ answers₀ tried₀ 0
+  pub filling-first : n ≤ length answers₀ → n ≤ length tried₀
+      → Filling st xs n answers₀ tried₀ answers₀ tried₀ 0
   filling-first a t =
       record {
         within = omega arith;
@@ -78,7 +80,8 @@ module _ {st : Boolean → ℕ → ℕ} {xs : List Alternative} {n : ℕ} {answe
           counted = one tried₀ tried (alternatives.tries st xs) (g .counted) (omega (arith, g .space)) k (m .count);
         }
       where
-        one : (l₀ l : List ℕ) (f : ℕ → ℕ) → l ≡ written l₀ 0 i f → i < length l₀ → (v : ℕ) → v ≡ f i
+        one : (l₀ l : List ℕ) (f : ℕ → ℕ) → l ≡ written l₀ 0 i f → i < length l₀ → (v : ℕ)
+            → v ≡ f i
             → set l i v ≡ written l₀ 0 (i + 1) f
         one l₀ l f w h v e = rw (w, e) (rw zero-add at (written-more l₀ 0 f i (omega arith)))
 
@@ -116,7 +119,8 @@ module _ {st : Boolean → ℕ → ℕ} {xs : List Alternative} {n : ℕ} where
       omega (arith, g .unknowns, total-small st xs i Unknown),
     )
 
-    pub counting-next : {y f u : ℕ} (v : ℕ) → i < n → v ≡ numberAt st xs i → y ≡ (if eqb v 1 then 1 else 0)
+    pub counting-next : {y f u : ℕ} (v : ℕ) → i < n → v ≡ numberAt st xs i
+        → y ≡ (if eqb v 1 then 1 else 0)
         → f ≡ (if eqb v 0 then 1 else 0) → u ≡ (if eqb v 2 then 1 else 0)
         → Counting st xs n (y₀ + y) (f₀ + f) (u₀ + u) (i + 1)
     unfolding numberOf

@@ -33,7 +33,8 @@ name-start [] h = refl
 name-start (b ∷ bs) h = rw h
 
 pub name-rest :
-    (s : List ℕ) → 0 < length s → length s ≤ 32 → startsName (getD s 0 0) ≡ true → isName s ≡ all goesOnName (drop 1 s)
+    (s : List ℕ) → 0 < length s → length s ≤ 32 → startsName (getD s 0 0) ≡ true →
+    isName s ≡ all goesOnName (drop 1 s)
 unfolding isName
 name-rest [] p q h = absurd (omega arith)
 name-rest (b ∷ bs) p q h = simp (h, lt-ltb (length bs) 32 (omega arith), and-true)

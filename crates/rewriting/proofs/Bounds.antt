@@ -36,12 +36,14 @@ pub accepted-limited : (t : List ℕ) (names : ℕ) → Accepted names sort.Vect
 unfolding Decodes topVector sortOf overSize isVectorSort
 accepted-limited t names a = go (a .expression) (a .decodes) (a .sorted) (a .sized)
   where
-    go : (e : Expression) → Decodes names t e → sortOf e ≡ sort.Vector → overSize e ≡ false → Limited t names
+    go : (e : Expression) → Decodes names t e → sortOf e ≡ sort.Vector → overSize e ≡ false
+        → Limited t names
     go (boolean c) d k l = never (ap isVectorSort k)
     go (vector p) d k l = rw d l
 
 -- no alternative exceeds the greatest
-greatest-at : (f : Alternative → ℕ) → f [] ≡ 0 → (xs : List Alternative) (t : ℕ) → f (getD xs t []) ≤ greatestOf f xs
+greatest-at : (f : Alternative → ℕ) → f [] ≡ 0 → (xs : List Alternative) (t : ℕ)
+    → f (getD xs t []) ≤ greatestOf f xs
 unfolding greatestOf
 greatest-at f z [] t = omega arith
 greatest-at f z (x ∷ xs) zero = omega arith
@@ -80,7 +82,8 @@ module _ (ys : List Alternative) (h : overLimit ys ≡ false) where
   light-of =
       ltb-false 64 _ (or-right (ltb 16 (greatestOf length ys)) _ (or-right (ltb 64 (length ys)) _ h))
 
-exchanged-bounded : (h : Test → Test) (xs : List Alternative) → overLimit (map (map (map h)) xs) ≡ false → Bounded xs
+exchanged-bounded : (h : Test → Test) (xs : List Alternative) → overLimit (map (map (map h)) xs) ≡ false
+    → Bounded xs
 unfolding tests sumOf
 exchanged-bounded h xs e =
     let f = few-of (map (map (map h)) xs) e in
@@ -136,7 +139,8 @@ module _ (tree : List ℕ) (names : ℕ) (a : Accepted names sort.Vector tree) w
   pub shape-exact : (t : ℕ) {s n : ℕ} → Shaped (alternativeAt tree names (length tree) t) s n
       → (s ≡ length (alternativeOf tree names t)) × (n ≡ length (joined (alternativeOf tree names t)))
   shape-exact t g =
-      let e = ap (λ (ys : List Alternative). getD ys t []) (sym back) ∙ exchanged-at h (alternativesAt tree names) t in
+      let e =
+      ap (λ (ys : List Alternative). getD ys t []) (sym back) ∙ exchanged-at h (alternativesAt tree names) t in
       let u = ap length e ∙ length-map (alternativeOf tree names t) (map h) in
       let v = ap tests e ∙ exchanged-tests h (alternativeOf tree names t) in
       let k = accepted-bounded in

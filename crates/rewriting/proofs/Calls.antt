@@ -124,7 +124,8 @@ module _ {xs : List Alternative} (steps tests edges operands : List ℕ) {n m k 
 
 -- room for the lists of an accepted tree
 pub enough : {tree : List ℕ} {names : ℕ} {steps tests edges operands : List ℕ} {n m k : ℕ}
-    → Accepted names Vector tree → Long (alternativesAt tree names) n m k → n ≤ length steps → m ≤ length tests
+    → Accepted names Vector tree → Long (alternativesAt tree names) n m k → n ≤ length steps
+    → m ≤ length tests
     → k ≤ length edges → k ≤ length operands → Fillable tree names steps tests edges operands
 enough a l b c d e =
     record {
@@ -165,7 +166,8 @@ module _ (names : ℕ) (tree steps tests edges operands : List ℕ) where
   abbrev Stays : Outcome → Type 0
   Stays r = Rewrites names tree steps tests edges operands steps tests edges operands r
 
-  pub refused-18 : {r : Outcome} → (NameCount names → ⊥) → r ≡ Refused (record { number = 18; place = 0 }) → Stays r
+  pub refused-18 : {r : Outcome} → (NameCount names → ⊥) → r ≡ Refused (record { number = 18; place = 0 })
+      → Stays r
   refused-18 f e = rw e (record { outcome = comes-18 names tree _ _ f; memory = stay })
 
   pub refused-10 : {r : Outcome} → NameCount names → (Accepted names Vector tree → ⊥)

@@ -28,7 +28,8 @@ module _ (p : ℕ → Bool) where
   some-found zero i l h = absurd (omega arith)
   some-found (suc n) i l h = go (some-found n i) (equal? i n)
     where
-      go : (i < n → p i ≡ true → some n p ≡ true) → (i ≡ n) ⊎ (i ≡ n → ⊥) → (some n p || p n) ≡ true
+      go : (i < n → p i ≡ true → some n p ≡ true) → (i ≡ n) ⊎ (i ≡ n → ⊥)
+          → (some n p || p n) ≡ true
       go r (inl e) = ap (λ (q : Bool). some n p || q) (ap p (sym e) ∙ h) ∙ or-yes (some n p)
       go r (inr f) = rw (r (omega arith) h) refl
 

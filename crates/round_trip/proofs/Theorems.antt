@@ -128,7 +128,8 @@ tree-of x = front (bytesOf x)
 
 pub read-again : {names bytes : List ℕ} {sort : Sort} {q r : Read} {out out′ : List ℕ} {k : ℕ}
     → Reading names bytes sort q → q .refused ≡ false
-    → Writes names (take (q .len) (q .tree)) sort out out′ (Done k) → Reading names (take k out′) sort r → r ≡ q
+    → Writes names (take (q .len) (q .tree)) sort out out′ (Done k) → Reading names (take k out′) sort r
+    → r ≡ q
 read-again {q = q} u n w v =
     let s = read-sound u n in
     let a = read-write w v in

@@ -89,7 +89,8 @@ pub ranged :
 ranged f x lo n kss t b r h k =
     eqb-true x (f b) (not-key kss (Unit {0}) b (eqb x (f b)) r (all-from-law _ lo n b t h k))
 
-pub keyed : (f : ℕ → ℕ) (x : ℕ) (ks : List ℕ) (b : ℕ) → all-of (λ k. eqb x (f k)) ks ≡ true → OneOf ks b → x ≡ f b
+pub keyed : (f : ℕ → ℕ) (x : ℕ) (ks : List ℕ) (b : ℕ) → all-of (λ k. eqb x (f k)) ks ≡ true
+    → OneOf ks b → x ≡ f b
 keyed f x [] b t o = absurd o
 keyed f x (k ∷ []) b t o = rw o (eqb-true x (f k) (and-left _ _ t))
 keyed f x (k ∷ (j ∷ ks)) b t (inl o) = rw o (eqb-true x (f k) (and-left _ _ t))

@@ -104,7 +104,8 @@ module _ (bs : List ℕ) (i : ℕ) (inv : firstOf (drop i spellings) bs ≡ firs
       let k = entry i h in
       rw (k .code, e, k .bytes) (sym (first-hit _ _ bs (rw (k .bytes) at (sym s))) ∙ next h)
 
-  pub find-miss : i < 26 → false ≡ starts (word i) bs → firstOf (drop (i + 1) spellings) bs ≡ firstOf spellings bs
+  pub find-miss : i < 26 → false ≡ starts (word i) bs
+      → firstOf (drop (i + 1) spellings) bs ≡ firstOf spellings bs
   find-miss h s =
       let k = entry i h in
       rw add-one (sym (first-miss _ _ bs (rw (k .bytes) at (sym s))) ∙ next h)

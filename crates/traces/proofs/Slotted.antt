@@ -89,5 +89,6 @@ module _ (file : List ℕ) where
           let l : j < k = omega (arith, eqb-false j k e) in
           earlier k j l ∙ ih l
 
-  pub name-of-names : (k j : ℕ) → j < k → isName (nameIn file j) ≡ true → nameAt (namesOf file k) j ≡ nameIn file j
+  pub name-of-names : (k j : ℕ) → j < k → isName (nameIn file j) ≡ true
+      → nameAt (namesOf file k) j ≡ nameIn file j
   name-of-names k j h e = ap untilZero (slot-of-names k j h) ∙ until-name (nameIn file j) e

@@ -54,7 +54,8 @@ tests-ask tree names (k ∷ edges) (e ∷ ends) h =
     (tests-ask tree names edges ends (λ i l. h (suc i) (omega arith)))
 
 pub lists-ask : {tree : List ℕ} {names : ℕ} {edges operands : List ℕ} (steps tests : List ℕ)
-    → Tests tree names edges operands → All (Asks (Over names)) (alternativesOf tree names steps tests edges operands)
+    → Tests tree names edges operands
+    → All (Asks (Over names)) (alternativesOf tree names steps tests edges operands)
 unfolding alternativesOf
 lists-ask {tree} {names} {edges} {operands} steps tests t =
     all-cut steps (all-cut tests (tests-ask tree names edges operands (t .boolean)))

@@ -102,7 +102,8 @@ module _ {names : List ℕ} (h : Named names) where
       go true e = e
       go false e = absurd (none-first _ (h .passed .1 .0) i (l, λ g. never (sym e ∙ g .named)))
 
-  pub names-new : (i : ℕ) → i < length names / 32 → (j : ℕ) → j < i → nameAt names j ≡ nameAt names i → ⊥
+  pub names-new : (i : ℕ) → i < length names / 32 → (j : ℕ) → j < i → nameAt names j ≡ nameAt names i
+      → ⊥
   unfolding Passed
   names-new i l j k e = none-first _ (h .passed .1 .0) i (l, λ g. g .new j k e)
 
@@ -135,20 +136,23 @@ module _ (names tree : List ℕ) (sort : Sort) (room : ℕ) where
   comes-end h a (Refused q) x = inr (h .passed .0, inr (h .passed .1 .0, inr ((λ p y. y .given a), x)))
 
 -- refused before the text is made
-pub refused-names : {names tree : List ℕ} {sort : Sort} {out : List ℕ} (made : ℕ → Type 0) {r : Refusal} {o : Outcome}
+pub refused-names : {names tree : List ℕ} {sort : Sort} {out : List ℕ} (made : ℕ → Type 0) {r : Refusal}
+    {o : Outcome}
     → Comes (namesOrder names) made o → o ≡ Refused r → Writes names tree sort out out (Refused r)
 unfolding after
 refused-names {names} {tree} {sort} {out} made {r} x e =
     record { outcome = comes-names names tree sort (length out) made r (rw e at x); memory = refl }
 
 pub refused-tree : {names tree : List ℕ} {sort : Sort} {out : List ℕ} {o : Outcome}
-    → Named names → (Accepted (countOf names) sort tree → ⊥) → o ≡ Refused (record { number = 10; place = 0 })
+    → Named names → (Accepted (countOf names) sort tree → ⊥)
+    → o ≡ Refused (record { number = 10; place = 0 })
     → Writes names tree sort out out o
 unfolding after
 refused-tree {names} {tree} {sort} {out} h f e =
     rw e (record { outcome = comes-ten names tree sort (length out) h f; memory = refl })
 
-pub names-passed : {names : List ℕ} (made : ℕ → Type 0) {k : ℕ} {o : Outcome} → Comes (namesOrder names) made o
+pub names-passed : {names : List ℕ} (made : ℕ → Type 0) {k : ℕ} {o : Outcome}
+    → Comes (namesOrder names) made o
     → o ≡ Done k → Named names
 unfolding Comes
 names-passed made x e = record { passed = (rw e at x) .0 }

@@ -104,7 +104,8 @@ spelled-short {names} {t} (a-name e l h) = rw (spelled-name names t e) (name-sho
 spelled-short {names} {t} (a-sign s) =
     rw (spelled-sign names t s) (sign-short (t .code) (sign-large s) (sign-small s))
 
-following-short : {names : List ℕ} {ts : List Token} → AllKnown names ts → length (following names ts) ≤ 33 * length ts
+following-short : {names : List ℕ} {ts : List Token} → AllKnown names ts
+    → length (following names ts) ≤ 33 * length ts
 unfolding following
 following-short none = omega arith
 following-short {names} (more {t = t} {ts = ts} k a) =
@@ -115,7 +116,8 @@ following-short {names} (more {t = t} {ts = ts} k a) =
       following-short a,
     )
 
-pub text-short : {names : List ℕ} {ts : List Token} → AllKnown names ts → length (textOf names ts) ≤ 33 * length ts
+pub text-short : {names : List ℕ} {ts : List Token} → AllKnown names ts
+    → length (textOf names ts) ≤ 33 * length ts
 unfolding textOf
 text-short none = omega arith
 text-short {names} (more {t = t} {ts = ts} k a) =

@@ -108,7 +108,8 @@ following-reads p {names} (more {t = t} {ts = ts} k a) =
     Reads.blank space
     (taken-reads (spelled names t) (spelled-taken k (following-behind names ts)) (following-reads _ a))
 
-pub text-reads : {names : List ℕ} {ts : List Token} → AllKnown names ts → Reads 0 (textOf names ts) (placed names 0 ts)
+pub text-reads : {names : List ℕ} {ts : List Token} → AllKnown names ts
+    → Reads 0 (textOf names ts) (placed names 0 ts)
 unfolding textOf placed
 text-reads none = Reads.done
 text-reads {names} (more {t = t} {ts = ts} k a) =

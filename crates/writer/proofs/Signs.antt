@@ -87,7 +87,8 @@ pub sign-small : {c : ℕ} → Sign c → c < 148
 sign-small (low l u) = omega arith
 sign-small (high l u) = u
 
-pub sign-taken : {rest : List ℕ} {c : ℕ} → Behind rest → Sign c → Taken (signSpelled c ++ rest) (signSpelled c) c rest
+pub sign-taken : {rest : List ℕ} {c : ℕ} → Behind rest → Sign c
+    → Taken (signSpelled c ++ rest) (signSpelled c) c rest
 unfolding takes
 sign-taken {rest} {c} b s =
     let w = signSpelled c in

@@ -25,7 +25,8 @@ unfolding nameBytes goesOnName startsName isLetter isDecimal
 behind-none end = refl
 behind-none blank = refl
 
-all-bytes : (w : List ℕ) {rest : List ℕ} → Behind rest → all goesOnName w ≡ true → nameBytes (w ++ rest) ≡ length w
+all-bytes : (w : List ℕ) {rest : List ℕ} → Behind rest → all goesOnName w ≡ true
+    → nameBytes (w ++ rest) ≡ length w
 unfolding nameBytes all
 all-bytes [] b h = behind-none b
 all-bytes (x ∷ w) b h =
@@ -58,7 +59,8 @@ name-taken (x ∷ w) {rest} b h =
 
 -- a token that can be written: a name of the list, or a sign
 pub data Known (names : List ℕ) (t : Token) : Type 0 where
-  a-name : t .code ≡ 0 → t .place < length names / 32 → isName (nameAt names (t .place)) ≡ true → Known names t
+  a-name : t .code ≡ 0 → t .place < length names / 32 → isName (nameAt names (t .place)) ≡ true
+      → Known names t
   a-sign : Sign (t .code) → Known names t
 
 pub sign-positive : {c : ℕ} → Sign c → 0 < c
