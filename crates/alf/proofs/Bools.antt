@@ -1,7 +1,8 @@
--- Laws of tests. never: false is not true. and-left, and-right: what both say, each says.
+-- Laws of tests. never: false is not true. and-left, and-right: what both say, each says. or-left, or-right: what
+-- neither says, each does not say; or-yes: what one says.
 -- equal?, below?: two numbers by cases. Assumes nothing.
-use mathlib.Core.Path.{_≡_, refl}
-use mathlib.Core.Bool.{Bool, true, false, _&&_, false≢true}
+use mathlib.Core.Path.{_≡_, refl, sym}
+use mathlib.Core.Bool.{Bool, true, false, _&&_, _||_, false≢true}
 use mathlib.Core.Logic.{_⊎_, inl, inr}
 use Prim.Native.Nat.{ℕ, _<_, _≤_}
 use lib.Dec.{eqb, ltb}
@@ -17,6 +18,18 @@ and-left false q h = h
 pub and-right : (p q : Bool) → (p && q) ≡ true → q ≡ true
 and-right true q h = h
 and-right false q h = never h
+
+pub or-left : (p q : Bool) → (p || q) ≡ false → p ≡ false
+or-left true q h = h
+or-left false q h = refl
+
+pub or-right : (p q : Bool) → (p || q) ≡ false → q ≡ false
+or-right true q h = never (sym h)
+or-right false q h = h
+
+pub or-yes : (p : Bool) → (p || true) ≡ true
+or-yes true = refl
+or-yes false = refl
 
 -- two numbers are equal or not
 pub equal? : (m n : ℕ) → (m ≡ n) ⊎ (m ≡ n → ⊥)

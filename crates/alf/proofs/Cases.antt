@@ -9,7 +9,8 @@ use Rattle.alf.specs.Values.{operate, chosen, settled, state, value}
 use Rattle.alf.specs.Windows.{asked, digitAsked, letterAsked, edgeOn, followedBy, either, together, certainty}
 use Rattle.alf.specs.Windows.{held, joined}
 use Rattle.alf.specs.Windows.{answer, best, named, rowAnswer, numberOf}
-use Rattle.alf.specs.Alternatives.{each, padded, zipped, overlaid, conditioned, rewritten, alternatives, stepsOf}
+use Rattle.alf.specs.Alternatives.{each, padded, zipped, overlaid, conditioned, rewritten}
+use Rattle.alf.specs.Alternatives.{alternatives, stepsOf}
 use Rattle.alf.specs.Traces.{corrected, lastRewritten}
 use Rattle.alf.specs.TableT.{states, cases, same, holds, allHold}
 

@@ -21,7 +21,8 @@ use Rattle.alf.specs.Bytes.{leafAt, pairAt, threeAt, oneAt, operationAt}
 use Rattle.alf.proofs.Choices.{if-all, every, every-at}
 
 -- a function that is m + k at k, for every k below n
-computed : (m n : ℕ) (f : ℕ → ℕ) → every n (λ k. eqb (f k) (m + k)) ≡ true → (k : ℕ) → k < n → f k ≡ m + k
+computed : (m n : ℕ) (f : ℕ → ℕ) → every n (λ k. eqb (f k) (m + k)) ≡ true → (k : ℕ) → k < n
+    → f k ≡ m + k
 computed m n f h k l = eqb-true (f k) (m + k) (every-at n (λ k. eqb (f k) (m + k)) h k l)
 
 -- the byte of the operator at a byte

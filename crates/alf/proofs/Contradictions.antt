@@ -18,7 +18,7 @@ use Rattle.alf.specs.Expressions.{Half, Edge, pair, changes, stays}
 use Rattle.alf.specs.Windows.{asked, edgeOn}
 use Rattle.alf.specs.Alternatives.{Test, test, Step, Alternative, testAt, stepAt, stepsFrom, atRow}
 use Rattle.alf.specs.Alternatives.{isName, halves, first, second, literalsAt, possible, contradictory}
-use Rattle.alf.proofs.Bools.{never, and-left, and-right, equal?, below?}
+use Rattle.alf.proofs.Bools.{never, and-left, and-right, or-yes, equal?, below?}
 use Rattle.alf.proofs.Extremes.{leastOf-small}
 use Rattle.alf.proofs.Steps.{asked-small, step-small, steps-small}
 use Rattle.alf.proofs.RowsAreAlternatives.{row-on, row-off}
@@ -29,12 +29,9 @@ unfolding some
 some-at zero i p l h = absurd (omega arith)
 some-at (suc n) i p l h = go (some-at n i p) (equal? i n)
   where
-    or-right : (q : Bool) → (q || true) ≡ true
-    or-right true = refl
-    or-right false = refl
-
-    go : (i < n → p i ≡ true → some n p ≡ true) → (i ≡ n) ⊎ (i ≡ n → ⊥) → (some n p || p n) ≡ true
-    go r (inl e) = ap (λ (q : Bool). some n p || q) (ap p (sym e) ∙ h) ∙ or-right (some n p)
+    go : (i < n → p i ≡ true → some n p ≡ true) → (i ≡ n) ⊎ (i ≡ n → ⊥)
+        → (some n p || p n) ≡ true
+    go r (inl e) = ap (λ (q : Bool). some n p || q) (ap p (sym e) ∙ h) ∙ or-yes (some n p)
     go r (inr d) = rw (r (omega arith) h) refl
 
 some-none : (n : ℕ) (p : ℕ → Bool) → ((i : ℕ) → i < n → p i ≡ false) → some n p ≡ false
@@ -42,7 +39,8 @@ unfolding some
 some-none zero p h = refl
 some-none (suc n) p h = rw (some-none n p (λ i l. h i (omega arith)), h n (omega arith)) refl
 
-all-append : {A : Type 0} (p : A → Bool) (xs ys : List A) → all p xs ≡ true → all p ys ≡ true → all p (xs ++ ys) ≡ true
+all-append : {A : Type 0} (p : A → Bool) (xs ys : List A) → all p xs ≡ true → all p ys ≡ true
+    → all p (xs ++ ys) ≡ true
 unfolding all
 all-append p [] ys s t = t
 all-append p (x ∷ xs) ys s t = rw (and-left (p x) _ s) (all-append p xs ys (and-right (p x) _ s) t)
@@ -72,7 +70,8 @@ module _ (st : Boolean → ℕ → ℕ) (n : ℕ) where
   yes-append : (hs gs : List Half) (r : ℕ) → YesTo r hs → YesTo r gs → YesTo r (hs ++ gs)
   yes-append hs gs r s t = all-append _ hs gs s t
 
-  one-half : (h : Half) (c : Boolean) (r : ℕ) → asked h (st c r) ≡ 2 → YesTo r (if isName n c then h ∷ [] else [])
+  one-half : (h : Half) (c : Boolean) (r : ℕ) → asked h (st c r) ≡ 2
+      → YesTo r (if isName n c then h ∷ [] else [])
   one-half h c r y = go (isName n c) refl
     where
       go : (q : Bool) → isName n c ≡ q → YesTo r (if q then h ∷ [] else [])
@@ -127,11 +126,13 @@ module _ (st : Boolean → ℕ → ℕ) (n : ℕ) where
       rw e at (literals-yes x (a + 1) (suc j) (omega arith))
 
 -- what a state below 8 answers yes to is possible
-possible-yes : (hs : List Half) (s : ℕ) → s < 8 → all (λ h. eqb (asked h s) 2) hs ≡ true → possible hs ≡ true
+possible-yes : (hs : List Half) (s : ℕ) → s < 8 → all (λ h. eqb (asked h s) 2) hs ≡ true
+    → possible hs ≡ true
 unfolding possible
 possible-yes hs s l y = some-at 8 s _ l y
 
-module _ (st : Boolean → ℕ → ℕ) (names : ℕ) (codes : (n r : ℕ) → n < names → st (name n) r < 8) (x : Alternative) where
+module _ (st : Boolean → ℕ → ℕ) (names : ℕ) (codes : (n r : ℕ) → n < names → st (name n) r < 8)
+    (x : Alternative) where
   yes-not-contradictory : (a : ℕ) → stepsFrom st x a ≡ 2 → contradictory names x ≡ false
   unfolding contradictory
   yes-not-contradictory a y =

@@ -57,7 +57,8 @@ module _ (k : ℕ) (pos : 0 < k) where
   cut-greatest zero f = lt-leb k 0 pos
   cut-greatest (suc n) f = cut-max k (greatest n f) (f n) ∙ rw (cut-greatest n f) refl
 
-  pub cut-greatestOf : {A : Type 0} (f : A → ℕ) (xs : List A) → leb k (greatestOf f xs) ≡ any (λ x. leb k (f x)) xs
+  pub cut-greatestOf : {A : Type 0} (f : A → ℕ) (xs : List A)
+      → leb k (greatestOf f xs) ≡ any (λ x. leb k (f x)) xs
   unfolding greatestOf any
   cut-greatestOf f [] = lt-leb k 0 pos
   cut-greatestOf f (x ∷ xs) = cut-max k (f x) (greatestOf f xs) ∙ rw (cut-greatestOf f xs) refl
@@ -93,7 +94,8 @@ module _ (k : ℕ) (low : k ≤ 2) where
   cut-leastOf f [] = le-leb k 2 low
   cut-leastOf f (x ∷ xs) = cut-min k (f x) (leastOf f xs) ∙ rw (cut-leastOf f xs) refl
 
-  pub cut-held : (c : ℕ → ℕ) (a b : ℕ) → leb k (held c a b) ≡ every (b + 1 - a) (λ i. leb k (certainty (c (a + i))))
+  pub cut-held : (c : ℕ → ℕ) (a b : ℕ)
+      → leb k (held c a b) ≡ every (b + 1 - a) (λ i. leb k (certainty (c (a + i))))
   unfolding held
   cut-held c a b = cut-least (b + 1 - a) _
 
@@ -112,10 +114,12 @@ module _ (k : ℕ) (st : Boolean → ℕ → ℕ) where
     cut-steps [] a = le-leb k 2 low
     cut-steps (s ∷ x) a = cut-min k _ _ ∙ rw (cut-leastOf k low (testAt st a) s, cut-steps x (a + 1)) refl
 
-    cut-alternative : (x : Alternative) (i : ℕ) → leb k (atRow st i x) ≡ (leb (length x) i && runSteps x (i - length x))
+    cut-alternative : (x : Alternative) (i : ℕ)
+        → leb k (atRow st i x) ≡ (leb (length x) i && runSteps x (i - length x))
     cut-alternative x i = go (below? i (length x))
       where
-        go : (i < length x) ⊎ (length x ≤ i) → leb k (atRow st i x) ≡ (leb (length x) i && runSteps x (i - length x))
+        go : (i < length x) ⊎ (length x ≤ i)
+            → leb k (atRow st i x) ≡ (leb (length x) i && runSteps x (i - length x))
         go (inl h) = rw (row-off st i x h, lt-leb (length x) i h) (lt-leb k 0 pos)
         go (inr h) = rw (row-on st i x h, le-leb (length x) i h) (cut-steps x (i - length x))
 

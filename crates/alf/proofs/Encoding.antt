@@ -12,7 +12,8 @@ use Rattle.alf.specs.Expressions.{on-right, on-left, Expression, boolean
 use Rattle.alf.specs.Expressions.{Over, VectorOver, ExpressionOver}
 use Rattle.alf.specs.Bytes.{booleanBytes, vectorBytes, bytesOf, Stack, empty, push, operationAt, run}
 use Rattle.alf.specs.Bytes.{ifSo, isBoolean, isVector, topBoolean, topVector, under, stackAt, Decodes}
-use Rattle.alf.proofs.Codes.{name-operation, literal-operation, binary-operation, join-operation, edge-operation}
+use Rattle.alf.proofs.Codes.{name-operation, literal-operation, binary-operation}
+use Rattle.alf.proofs.Codes.{join-operation, edge-operation}
 use Rattle.alf.proofs.Codes.{negation-operation, choice-operation, right-operation, left-operation}
 
 -- the stack that a list of bytes makes of a stack
@@ -20,7 +21,8 @@ unfoldable pub runs : ℕ → List ℕ → Stack → Stack
 runs names [] s = s
 runs names (b ∷ bs) s = runs names bs (run (operationAt names b) s)
 
-pub runs-append : (names : ℕ) (xs ys : List ℕ) (s : Stack) → runs names (xs ++ ys) s ≡ runs names ys (runs names xs s)
+pub runs-append : (names : ℕ) (xs ys : List ℕ) (s : Stack)
+    → runs names (xs ++ ys) s ≡ runs names ys (runs names xs s)
 unfolding runs
 runs-append names [] ys s = refl
 runs-append names (x ∷ xs) ys s = runs-append names xs ys (run (operationAt names x) s)
@@ -34,7 +36,8 @@ runs-stack t names (suc n) l =
 
 -- the bytes of an expression put it on the stack
 module _ (names : ℕ) (few : names ≤ 32) where
-  pub runs-boolean : (c : Boolean) → Over names c → (s : Stack) → runs names (booleanBytes c) s ≡ push (boolean c) s
+  pub runs-boolean : (c : Boolean) → Over names c → (s : Stack)
+      → runs names (booleanBytes c) s ≡ push (boolean c) s
   unfolding runs booleanBytes Over run ifSo isBoolean topBoolean under
   runs-boolean (name i) l s = rw (name-operation names i l few) refl
   runs-boolean (literal v) l s = rw (literal-operation names v l) refl
@@ -45,7 +48,8 @@ module _ (names : ℕ) (few : names ≤ 32) where
       rw (runs-append, runs-boolean c o s, runs-append, runs-boolean a p, runs-append, runs-boolean b q)
       (rw choice-operation refl)
 
-  pub runs-vector : (p : Vector) → VectorOver names p → (s : Stack) → runs names (vectorBytes p) s ≡ push (vector p) s
+  pub runs-vector : (p : Vector) → VectorOver names p → (s : Stack)
+      → runs names (vectorBytes p) s ≡ push (vector p) s
   unfolding runs vectorBytes VectorOver run ifSo isBoolean isVector topBoolean topVector under
   runs-vector (edge e c) (k, o) s = rw (runs-append, runs-boolean c o s, edge-operation names e k) refl
   runs-vector (join j p q) (o, u) s =

@@ -1,4 +1,5 @@
 -- Laws of the greatest and the least, over a range and over a list.
+--   min-max-left                  the least goes through the greater
 --   greatest-same, least-same     of equal entries
 --   greatest-zero, greatest-one   of entries that are no, and all but one
 --   greatest-max                  of the greater of two
@@ -14,7 +15,11 @@ use native.Mathlib.Omega.{arith}
 use Rattle.alf.specs.Words.{greatest, least, greatestOf, leastOf}
 use Rattle.alf.proofs.Bools.{equal?}
 
-pub greatest-same : (n : ℕ) (f g : ℕ → ℕ) → ((i : ℕ) → i < n → f i ≡ g i) → greatest n f ≡ greatest n g
+pub min-max-left : (x y z : ℕ) → min (max x y) z ≡ max (min x z) (min y z)
+min-max-left x y z = omega arith
+
+pub greatest-same : (n : ℕ) (f g : ℕ → ℕ) → ((i : ℕ) → i < n → f i ≡ g i)
+    → greatest n f ≡ greatest n g
 unfolding greatest
 greatest-same zero f g h = refl
 greatest-same (suc n) f g h =
@@ -38,12 +43,14 @@ greatest-zero (suc n) f h =
     let d = h n (omega arith) in
     omega arith
 
-pub greatest-max : (n : ℕ) (f g : ℕ → ℕ) → greatest n (λ i. max (f i) (g i)) ≡ max (greatest n f) (greatest n g)
+pub greatest-max : (n : ℕ) (f g : ℕ → ℕ)
+    → greatest n (λ i. max (f i) (g i)) ≡ max (greatest n f) (greatest n g)
 unfolding greatest
 greatest-max zero f g = refl
 greatest-max (suc n) f g = let e = greatest-max n f g in omega arith
 
-pub greatest-one : (n k : ℕ) (f : ℕ → ℕ) → k < n → ((i : ℕ) → i < n → (i ≡ k → ⊥) → f i ≡ 0) → greatest n f ≡ f k
+pub greatest-one : (n k : ℕ) (f : ℕ → ℕ) → k < n → ((i : ℕ) → i < n → (i ≡ k → ⊥) → f i ≡ 0)
+    → greatest n f ≡ f k
 unfolding greatest
 greatest-one zero k f l h = absurd (omega arith)
 greatest-one (suc n) k f l h = go (λ m g. greatest-one n k f m g) (equal? k n)
@@ -89,7 +96,8 @@ module _ {A : Type 0} where
   greatestOf-map f g [] = refl
   greatestOf-map f g (x ∷ xs) = let e = greatestOf-map f g xs in omega arith
 
-  pub greatestOf-same : (f g : A → ℕ) (xs : List A) → ((x : A) → f x ≡ g x) → greatestOf f xs ≡ greatestOf g xs
+  pub greatestOf-same : (f g : A → ℕ) (xs : List A) → ((x : A) → f x ≡ g x)
+      → greatestOf f xs ≡ greatestOf g xs
   unfolding greatestOf
   greatestOf-same f g [] h = refl
   greatestOf-same f g (x ∷ xs) h = let e = greatestOf-same f g xs h in let d = h x in omega arith

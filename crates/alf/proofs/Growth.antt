@@ -169,7 +169,8 @@ module _ {f : Alternative → Alternative → Alternative} (K : Keeps f) (xs ys 
       }
 
 -- the left operand, and the right one, within the whole
-rewritten-left : (j : Join) (xs ys : List Alternative) → 0 < length xs → 0 < length ys → Within xs (rewritten j xs ys)
+rewritten-left : (j : Join) (xs ys : List Alternative) → 0 < length xs → 0 < length ys
+    → Within xs (rewritten j xs ys)
 unfolding rewritten
 rewritten-left followed-by xs ys h k = left-within chain-keeps xs ys k
 rewritten-left either-order xs ys h k = within-trans (left-within chain-keeps xs ys k) (within-left _ _)
@@ -179,7 +180,8 @@ rewritten-left any-order xs ys h k =
 rewritten-left with xs ys h k = left-within overlay-keeps xs ys k
 rewritten-left or-else xs ys h k = within-left xs ys
 
-rewritten-right : (j : Join) (xs ys : List Alternative) → 0 < length xs → 0 < length ys → Within ys (rewritten j xs ys)
+rewritten-right : (j : Join) (xs ys : List Alternative) → 0 < length xs → 0 < length ys
+    → Within ys (rewritten j xs ys)
 unfolding rewritten
 rewritten-right followed-by xs ys h k = right-within chain-keeps xs ys h
 rewritten-right either-order xs ys h k = within-trans (right-within chain-keeps xs ys h) (within-left _ _)

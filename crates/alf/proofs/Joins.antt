@@ -1,24 +1,20 @@
--- `->` and `&` on windows, alternative by alternative: both lift (Lifting.antt).
--- Main names: chain-lifts (`->` with the steps in a row), overlay-lifts (`&` with empty steps before the shorter).
+-- `->` on windows, alternative by alternative: it lifts (Lifting.antt).
+-- Main name: chain-lifts (`->` with the steps in a row).
 -- Assumes nothing.
 use mathlib.Core.Path.{_≡_, refl, ap, sym, _∙_}
 use mathlib.Core.List.{_++_}
 use mathlib.Core.Logic.{_⊎_, inl, inr}
 use Prim.Native.Nat.{ℕ, zero, suc, _+_, _-_, _<_, _≤_, min, max}
-use native.Mathlib.Nat.{add-zero}
 use native.Mathlib.Omega.{arith}
 use lib.ListN.{length, length-append}
 use Rattle.alf.specs.Words.{greatest}
 use Rattle.alf.specs.Expressions.{Boolean}
-use Rattle.alf.specs.Windows.{Window, followedBy, either, together}
-use Rattle.alf.specs.Alternatives.{Alternative, overlaid, stepsFrom}
+use Rattle.alf.specs.Windows.{Window, followedBy, either}
+use Rattle.alf.specs.Alternatives.{Alternative, stepsFrom}
 use Rattle.alf.proofs.Bools.{equal?}
-use Rattle.alf.proofs.Extremes.{greatest-same, greatest-zero, greatest-one, greatest-max}
-use Rattle.alf.proofs.Steps.{steps-append, steps-overlaid, overlaid-length}
+use Rattle.alf.proofs.Extremes.{min-max-left, greatest-same, greatest-zero, greatest-one, greatest-max}
+use Rattle.alf.proofs.Steps.{steps-append}
 use Rattle.alf.proofs.Lifting.{win, win-on, win-off, Lifts}
-
-min-max-left : (x y z : ℕ) → min (max x y) z ≡ max (min x z) (min y z)
-min-max-left x y z = omega arith
 
 min-max-right : (x y z : ℕ) → min x (max y z) ≡ max (min x y) (min x z)
 min-max-right x y z = omega arith

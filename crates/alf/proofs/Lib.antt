@@ -1,5 +1,9 @@
 -- The laws of document 01's definitions.
 pub mod Bools
+pub mod Stable
+pub mod Ranges
+pub mod Counts
+pub mod NameBytes
 pub mod Extremes
 pub mod Steps
 pub mod Lists
@@ -27,6 +31,7 @@ pub mod Theorems
 pub mod Choices
 pub mod Made
 pub mod Codes
+pub mod Stacks
 pub mod Encoding
 pub mod Decoding
 pub mod Parts

@@ -38,13 +38,15 @@ module _ (st : Boolean → ℕ → ℕ) where
   win-off x a b n = rw (ne-eqb b (a + length x) n) refl
 
   pub record Lifts (Op : Window → Window → Window) (f : Alternative → Alternative → Alternative) : Type 0 where
-    pub same : (P P′ Q Q′ : Window) → ((a b : ℕ) → P a b ≡ P′ a b) → ((a b : ℕ) → Q a b ≡ Q′ a b)
+    pub same : (P P′ Q Q′ : Window) → ((a b : ℕ) → P a b ≡ P′ a b)
+        → ((a b : ℕ) → Q a b ≡ Q′ a b)
         → (a b : ℕ) → Op P Q a b ≡ Op P′ Q′ a b
     pub left : (P P′ Q : Window) (a b : ℕ) → Op (either P P′) Q a b ≡ max (Op P Q a b) (Op P′ Q a b)
     pub right : (P Q Q′ : Window) (a b : ℕ) → Op P (either Q Q′) a b ≡ max (Op P Q a b) (Op P Q′ a b)
     pub no-left : (Q : Window) (a b : ℕ) → Op (λ c d. 0) Q a b ≡ 0
     pub no-right : (P : Window) (a b : ℕ) → Op P (λ c d. 0) a b ≡ 0
-    pub one : (x y : Alternative) (a b : ℕ) → 0 < length x → 0 < length y → Op (win x) (win y) a b ≡ win (f x y) a b
+    pub one : (x y : Alternative) (a b : ℕ) → 0 < length x → 0 < length y
+        → Op (win x) (win y) a b ≡ win (f x y) a b
 
   module _ {Op : Window → Window → Window} {f : Alternative → Alternative → Alternative} (L : Lifts Op f) where
     one-all : (x : Alternative) (ys : List Alternative) (a b : ℕ) → 0 < length x → Steps ys

@@ -12,7 +12,8 @@ module _ {A : Type 0} where
   all-append none t = t
   all-append (more h s) t = more h (all-append s t)
 
-  pub all-map : {P Q : A → Type 0} {xs : List A} (f : A → A) → ((x : A) → P x → Q (f x)) → All P xs → All Q (map f xs)
+  pub all-map : {P Q : A → Type 0} {xs : List A} (f : A → A) → ((x : A) → P x → Q (f x)) → All P xs
+      → All Q (map f xs)
   all-map f h none = none
   all-map f h (more {x = x} k s) = more (h x k) (all-map f h s)
 
@@ -20,7 +21,8 @@ module _ {A : Type 0} where
   all-weaken h none = none
   all-weaken h (more {x = x} k s) = more (h x k) (all-weaken h s)
 
-pub all-each : {P Q R : Alternative → Type 0} {xs ys : List Alternative} (f : Alternative → Alternative → Alternative)
+pub all-each : {P Q R : Alternative → Type 0} {xs ys : List Alternative}
+    (f : Alternative → Alternative → Alternative)
     → ((x y : Alternative) → P x → Q y → R (f x y)) → All P xs → All Q ys → All R (each f xs ys)
 unfolding each
 all-each f h none t = none

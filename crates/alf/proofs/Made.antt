@@ -8,7 +8,8 @@ use borrow.Author.Tests.{ltb-true, ltb-false, eqb-true}
 use Rattle.alf.specs.Expressions.{Boolean, name, literal, negated, binary, choice, Vector, edge, join, while}
 use Rattle.alf.specs.Expressions.{on-right, on-left, Expression, boolean, vector}
 use Rattle.alf.specs.Bytes.{Stack, empty, broken, push, Operation, of-one, of-two, of-three, of-vectors}
-use Rattle.alf.specs.Bytes.{of-side, wrong, binaryAt, joinAt, edgeAt, leafAt, pairAt, threeAt, oneAt, operationAt}
+use Rattle.alf.specs.Bytes.{of-side, wrong, binaryAt, joinAt, edgeAt, leafAt, pairAt}
+use Rattle.alf.specs.Bytes.{threeAt, oneAt, operationAt}
 use Rattle.alf.specs.Bytes.{isBoolean, isVector, topBoolean, topVector, under, ifSo, run}
 use Rattle.alf.proofs.Choices.{if-all}
 
@@ -20,7 +21,8 @@ pub data Made (names b : ℕ) (s : Stack) : Stack → Type 0 where
       → Made names b s (push (boolean (negated a)) r)
   a-binary : {a c : Boolean} {r : Stack} → 40 ≤ b → b < 50 → s ≡ push (boolean c) (push (boolean a) r)
       → Made names b s (push (boolean (binary (binaryAt (b - 40)) a c)) r)
-  a-choice : {f a c : Boolean} {r : Stack} → b ≡ 60 → s ≡ push (boolean c) (push (boolean a) (push (boolean f) r))
+  a-choice : {f a c : Boolean} {r : Stack} → b ≡ 60
+      → s ≡ push (boolean c) (push (boolean a) (push (boolean f) r))
       → Made names b s (push (boolean (choice f a c)) r)
   an-edge : {a : Boolean} {r : Stack} → 64 ≤ b → b < 147 → s ≡ push (boolean a) r
       → Made names b s (push (vector (edge (edgeAt (b - 64)) a)) r)
@@ -28,7 +30,8 @@ pub data Made (names b : ℕ) (s : Stack) : Stack → Type 0 where
       → Made names b s (push (vector (join (joinAt (b - 50)) p q)) r)
   a-condition : {p : Vector} {c : Boolean} {r : Stack} → b ≡ 56 → s ≡ push (boolean c) (push (vector p) r)
       → Made names b s (push (vector (while on-right p c)) r)
-  a-condition-before : {p : Vector} {c : Boolean} {r : Stack} → b ≡ 57 → s ≡ push (vector p) (push (boolean c) r)
+  a-condition-before : {p : Vector} {c : Boolean} {r : Stack} → b ≡ 57
+      → s ≡ push (vector p) (push (boolean c) r)
       → Made names b s (push (vector (while on-left p c)) r)
   nothing : Made names b s broken
 
@@ -51,7 +54,8 @@ by-vector (push (vector p) r) other made-of = made-of p r refl
 
 -- what an operation leaves: broken, or what it makes of its operands
 module _ (P : Stack → Type 0) (none : P broken) (s : Stack) where
-  run-one : (f : Boolean → Expression) → ((a : Boolean) (r : Stack) → s ≡ push (boolean a) r → P (push (f a) r))
+  run-one : (f : Boolean → Expression)
+      → ((a : Boolean) (r : Stack) → s ≡ push (boolean a) r → P (push (f a) r))
       → P (run (of-one f) s)
   unfolding run ifSo isBoolean topBoolean under
   run-one f made-of = by-boolean s (λ e. rw e none) (λ a r e. rw e (made-of a r e))
@@ -133,7 +137,8 @@ module _ (names b : ℕ) (s : Stack) where
   by-three : By (threeAt b)
   unfolding threeAt
   by-three =
-      if-all By (eqb b 60) (λ e. run-three Left nothing s _ (λ f a c r d. a-choice (eqb-true b 60 e) d)) (λ e. by-wrong)
+      if-all By (eqb b 60) (λ e. run-three Left nothing s _ (λ f a c r d. a-choice (eqb-true b 60 e) d))
+      (λ e. by-wrong)
 
   by-one : 64 ≤ b → By (oneAt b)
   unfolding oneAt

@@ -69,7 +69,8 @@ bit-low : (n i x : ℕ) → i < n → x % 2 ^ n / 2 ^ i % 2 ≡ x / 2 ^ i % 2
 bit-low n i x h =
     let e : n ≡ (n - (1 + i)) + (1 + i) = omega arith in
     sym (field (x % 2 ^ n) 1 i)
-    ∙ ap (λ (y : ℕ). y / 2 ^ i) (ap (λ (m : ℕ). x % 2 ^ m % 2 ^ (1 + i)) e ∙ mod-mod-pow x (n - (1 + i)) (1 + i))
+    ∙ ap (λ (y : ℕ). y / 2 ^ i)
+    (ap (λ (m : ℕ). x % 2 ^ m % 2 ^ (1 + i)) e ∙ mod-mod-pow x (n - (1 + i)) (1 + i))
     ∙ field x 1 i
 
 bit-step : (n i : ℕ) (p : ℕ → Bool) → (i < n → mask n p / 2 ^ i % 2 ≡ bit (p i)) → (i ≡ n) ⊎ (i < n)
@@ -84,7 +85,8 @@ pub mask-bit : (n i : ℕ) (p : ℕ → Bool) → i < n → mask n p / 2 ^ i % 2
 mask-bit zero i p h = absurd (omega arith)
 mask-bit (suc n) i p h = rw mask-suc (bit-step n i p (mask-bit n i p) (eq-or-lt-of-le (le-of-suc-le-suc h)))
 
-pub mask-only : (n m : ℕ) (p : ℕ → Bool) → m < 2 ^ n → ((i : ℕ) → i < n → m / 2 ^ i % 2 ≡ bit (p i)) → m ≡ mask n p
+pub mask-only : (n m : ℕ) (p : ℕ → Bool) → m < 2 ^ n → ((i : ℕ) → i < n → m / 2 ^ i % 2 ≡ bit (p i))
+    → m ≡ mask n p
 mask-only zero m p h k = lt-one h ∙ sym (mask-none p)
 mask-only (suc n) m p h k =
     rw mask-suc
@@ -104,7 +106,8 @@ pub mask-keep : (i m : ℕ) (p : ℕ → Bool) → m ≡ mask i p → p i ≡ fa
 mask-keep i m p e t = rw (add-one, mask-suc, t) (e ∙ omega arith)
 
 -- The set of changed variables of a row: its ones are as many as the states that differ; row 0 has none.
-pub changes-ones : (names : ℕ) (states : List ℕ) (r : ℕ) → ones (changeMask names states r) ≡ changeCount names states r
+pub changes-ones : (names : ℕ) (states : List ℕ) (r : ℕ)
+    → ones (changeMask names states r) ≡ changeCount names states r
 unfolding changeMask changeCount
 changes-ones names states r = mask-ones names (changed names states r)
 

@@ -34,7 +34,8 @@ module _ (Q : Boolean → Type 0) (st st′ : Boolean → ℕ → ℕ) where
       let i = step-near s a b k g h in
       rw (g c q, h c q) (ap (min _) i)
 
-  pub steps-near : (x : Alternative) (a b : ℕ) → Asks Q x → ((k : ℕ) → k ≤ length x → Agree (a + k) (b + k))
+  pub steps-near : (x : Alternative) (a b : ℕ) → Asks Q x
+      → ((k : ℕ) → k ≤ length x → Agree (a + k) (b + k))
       → stepsFrom st x a ≡ stepsFrom st′ x b
   unfolding stepsFrom
   steps-near [] a b none g = refl

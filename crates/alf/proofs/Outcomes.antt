@@ -45,7 +45,8 @@ refused-passed (c ∷ cs) n p a (inl r) = a .0 p (r .1)
 refused-passed (c ∷ cs) n p a (inr r) = refused-passed cs n p (a .1) (r .1)
 
 pub refused-unique :
-    (o : Order) → AllFixed o → {n m p q : ℕ} → RefusedWith o n p → RefusedWith o m q → (n ≡ m) × (p ≡ q)
+    (o : Order) → AllFixed o → {n m p q : ℕ} → RefusedWith o n p → RefusedWith o m q →
+    (n ≡ m) × (p ≡ q)
 unfolding RefusedWith
 refused-unique [] f r s = absurd r
 refused-unique (c ∷ cs) f {n} {m} {p} {q} (inl r) (inl s) = (r .0 ∙ sym (s .0), f .0 p q (r .1) (s .1))

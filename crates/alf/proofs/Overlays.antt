@@ -12,18 +12,16 @@ use Rattle.alf.specs.Expressions.{Boolean}
 use Rattle.alf.specs.Windows.{Window, either, together}
 use Rattle.alf.specs.Alternatives.{Alternative, overlaid, stepsFrom}
 use Rattle.alf.proofs.Bools.{equal?, below?}
-use Rattle.alf.proofs.Extremes.{greatest-same, greatest-zero, greatest-one, greatest-max}
+use Rattle.alf.proofs.Extremes.{min-max-left, greatest-same, greatest-zero, greatest-one, greatest-max}
 use Rattle.alf.proofs.Steps.{steps-overlaid, overlaid-length}
 use Rattle.alf.proofs.Lifting.{win, win-on, win-off, Lifts}
 
 -- the two ways in which one of P, P′ and Q may lie over each other
 spread : (p p′ q r r′ s : ℕ)
     → max (min (max p p′) q) (min (max r r′) s) ≡ max (max (min p q) (min r s)) (max (min p′ q) (min r′ s))
-spread p p′ q r r′ s = ap₂′ (through p p′ q) (through r r′ s) ∙ swap (min p q) (min p′ q) (min r s) (min r′ s)
+spread p p′ q r r′ s =
+    ap₂′ (min-max-left p p′ q) (min-max-left r r′ s) ∙ swap (min p q) (min p′ q) (min r s) (min r′ s)
   where
-    through : (x y z : ℕ) → min (max x y) z ≡ max (min x z) (min y z)
-    through x y z = omega arith
-
     ap₂′ : {x y z w : ℕ} → x ≡ y → z ≡ w → max x z ≡ max y w
     ap₂′ e f = rw (e, f) refl
 
@@ -38,19 +36,23 @@ overlay-turn : (P Q : Window) (a b : ℕ) → together P Q a b ≡ together Q P 
 unfolding together
 overlay-turn P Q a b = greatest-same (b + 1 - a) _ _ (λ i l. turn (P a b) (Q (a + i) b) (P (a + i) b) (Q a b))
 
-overlay-left : (P P′ Q : Window) (a b : ℕ) → together (either P P′) Q a b ≡ max (together P Q a b) (together P′ Q a b)
+overlay-left : (P P′ Q : Window) (a b : ℕ)
+    → together (either P P′) Q a b ≡ max (together P Q a b) (together P′ Q a b)
 unfolding together either
 overlay-left P P′ Q a b =
-    greatest-same (b + 1 - a) _ _ (λ i l. spread (P a b) (P′ a b) (Q (a + i) b) (P (a + i) b) (P′ (a + i) b) (Q a b))
+    greatest-same (b + 1 - a) _ _
+    (λ i l. spread (P a b) (P′ a b) (Q (a + i) b) (P (a + i) b) (P′ (a + i) b) (Q a b))
     ∙ greatest-max (b + 1 - a) _ _
 
-overlay-right : (P Q Q′ : Window) (a b : ℕ) → together P (either Q Q′) a b ≡ max (together P Q a b) (together P Q′ a b)
+overlay-right : (P Q Q′ : Window) (a b : ℕ)
+    → together P (either Q Q′) a b ≡ max (together P Q a b) (together P Q′ a b)
 overlay-right P Q Q′ a b =
     overlay-turn P (either Q Q′) a b
     ∙ overlay-left Q Q′ P a b
     ∙ rw (overlay-turn Q P, overlay-turn Q′ P) refl
 
-overlay-same : (P P′ Q Q′ : Window) → ((a b : ℕ) → P a b ≡ P′ a b) → ((a b : ℕ) → Q a b ≡ Q′ a b)
+overlay-same : (P P′ Q Q′ : Window) → ((a b : ℕ) → P a b ≡ P′ a b)
+    → ((a b : ℕ) → Q a b ≡ Q′ a b)
     → (a b : ℕ) → together P Q a b ≡ together P′ Q′ a b
 unfolding together
 overlay-same P P′ Q Q′ p q a b =
@@ -72,11 +74,13 @@ min-right u v e = omega arith
 
 module _ (st : Boolean → ℕ → ℕ) (x y : Alternative) (a b : ℕ) where
   -- x from a and y from a + i, both to b: no unless their lengths fit
-  over-off : (i : ℕ) → (b ≡ a + max (length x) (length y) → i ≡ length x - length y → length y ≤ length x → ⊥)
+  over-off : (i : ℕ)
+      → (b ≡ a + max (length x) (length y) → i ≡ length x - length y → length y ≤ length x → ⊥)
       → min (win st x a b) (win st y (a + i) b) ≡ 0
   over-off i n = go (equal? b (a + length x)) (equal? b (a + i + length y))
     where
-      go : (b ≡ a + length x) ⊎ (b ≡ a + length x → ⊥) → (b ≡ a + i + length y) ⊎ (b ≡ a + i + length y → ⊥)
+      go : (b ≡ a + length x) ⊎ (b ≡ a + length x → ⊥)
+          → (b ≡ a + i + length y) ⊎ (b ≡ a + i + length y → ⊥)
           → min (win st x a b) (win st y (a + i) b) ≡ 0
       go (inl e) (inl f) = absurd (n (omega arith) (omega arith) (omega arith))
       go (inl e) (inr f) = min-right _ _ (win-off st y (a + i) b f)
@@ -140,7 +144,8 @@ module _ (st : Boolean → ℕ → ℕ) (x y : Alternative) (a b : ℕ) (l : len
   unfolding together over
   overlay-long = go (equal? b (a + length x))
     where
-      go : (b ≡ a + length x) ⊎ (b ≡ a + length x → ⊥) → greatest (b + 1 - a) over ≡ win st (overlaid x y) a b
+      go : (b ≡ a + length x) ⊎ (b ≡ a + length x → ⊥)
+          → greatest (b + 1 - a) over ≡ win st (overlaid x y) a b
       go (inl e) =
           greatest-one (b + 1 - a) (length x - length y) over (omega arith) (λ i m n. over-other i n)
           ∙ over-there e
@@ -150,7 +155,8 @@ module _ (st : Boolean → ℕ → ℕ) (x y : Alternative) (a b : ℕ) (l : len
           ∙ sym (win-off st (overlaid x y) a b (λ d. n (omega (arith, overlaid-length x y))))
 
 -- overlaid either way round, two alternatives answer the same
-win-turn : (st : Boolean → ℕ → ℕ) (x y : Alternative) (a b : ℕ) → win st (overlaid x y) a b ≡ win st (overlaid y x) a b
+win-turn : (st : Boolean → ℕ → ℕ) (x y : Alternative) (a b : ℕ)
+    → win st (overlaid x y) a b ≡ win st (overlaid y x) a b
 win-turn st x y a b = go (equal? b (a + max (length x) (length y)))
   where
     p : length (overlaid x y) ≡ max (length x) (length y)
@@ -178,8 +184,10 @@ overlay-one : (st : Boolean → ℕ → ℕ) (x y : Alternative) (a b : ℕ)
     → together (win st x) (win st y) a b ≡ win st (overlaid x y) a b
 overlay-one st x y a b = go (below? (length x) (length y))
   where
-    go : (length x < length y) ⊎ (length y ≤ length x) → together (win st x) (win st y) a b ≡ win st (overlaid x y) a b
-    go (inl l) = overlay-turn (win st x) (win st y) a b ∙ overlay-long st y x a b (omega arith) ∙ win-turn st y x a b
+    go : (length x < length y) ⊎ (length y ≤ length x)
+        → together (win st x) (win st y) a b ≡ win st (overlaid x y) a b
+    go (inl l) =
+        overlay-turn (win st x) (win st y) a b ∙ overlay-long st y x a b (omega arith) ∙ win-turn st y x a b
     go (inr l) = overlay-long st x y a b l
 
 pub overlay-lifts : (st : Boolean → ℕ → ℕ) → Lifts st together overlaid

@@ -71,7 +71,8 @@ pub record Has (n : ℕ) (s : Stack) (m : ℕ) (s′ : Stack) : Type 0 where
   pub less : size n s + 1 ≡ size m s′
 
 -- a byte that leaves an expression on the stack has taken its operands from it
-took : (names b n : ℕ) {s s′ : Stack} → Made names b s s′ → deep (suc n) s′ → Has (n + arityAt b) s (suc n) s′
+took : (names b n : ℕ) {s s′ : Stack} → Made names b s s′ → deep (suc n) s′
+    → Has (n + arityAt b) s (suc n) s′
 unfolding deep unders under size bytesOf booleanBytes vectorBytes
 took names b n (a-name l u) h =
     rw (arity-zero b (omega arith), add-zero) (record { has = h; same = refl; less = omega arith })

@@ -182,7 +182,8 @@ module _ (st : Boolean → ℕ → ℕ) where
       omega arith
 
   conditioned-steps : (c : Boolean) (s : Step) (x : Alternative) (a : ℕ)
-      → stepsFrom st (conditioned c (s ∷ x)) a ≡ min (stepsFrom st (s ∷ x) a) (heldFor c (suc (suc (length x))) a)
+      → stepsFrom st (conditioned c (s ∷ x)) a
+      ≡ min (stepsFrom st (s ∷ x) a) (heldFor c (suc (suc (length x))) a)
   unfolding stepsFrom conditioned
   conditioned-steps c s [] a =
       let e = step-conditioned c s a in

@@ -34,10 +34,12 @@ square g = listed 0 8 (λ x. table (g x))
 unfoldable pub codes : (ℕ → ℕ) → Bool
 codes g = every 8 (λ x. ltb (g x) 8)
 
-pub line-rule : (g : ℕ → ℕ) (d x : ℕ) → codes g ≡ true → x < 8 → (getD (table g) x d ≡ g x) × (getD (table g) x d < 8)
+pub line-rule : (g : ℕ → ℕ) (d x : ℕ) → codes g ≡ true → x < 8
+    → (getD (table g) x d ≡ g x) × (getD (table g) x d < 8)
 unfolding codes
 line-rule g d x t h = let e = listed-at 8 x g d h in (e, rw e (ltb-true (g x) 8 (every-at 8 _ t x h)))
 
-pub square-rule : (g : ℕ → ℕ → ℕ) (ds : List ℕ) (d x y : ℕ) → every 8 (λ u. codes (g u)) ≡ true → x < 8 → y < 8
+pub square-rule : (g : ℕ → ℕ → ℕ) (ds : List ℕ) (d x y : ℕ) → every 8 (λ u. codes (g u)) ≡ true
+    → x < 8 → y < 8
     → (getD (getD (square g) x ds) y d ≡ g x y) × (getD (getD (square g) x ds) y d < 8)
 square-rule g ds d x y t h k = rw (listed-at 8 x (λ u. table (g u)) ds h) (line-rule (g x) d y (every-at 8 _ t x h) k)

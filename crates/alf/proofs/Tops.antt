@@ -69,7 +69,8 @@ name-top names b (a-condition k e) h v = never h
 name-top names b (a-condition-before k e) h v = never h
 name-top names b nothing h v = never h
 
-pub literal-top : (names b : ℕ) {s s′ : Stack} → Made names b s s′ → isBoolean s′ ≡ true → 32 ≤ b → b < 40
+pub literal-top : (names b : ℕ) {s s′ : Stack} → Made names b s s′ → isBoolean s′ ≡ true → 32 ≤ b
+    → b < 40
     → topBoolean s′ ≡ literal (b - 32)
 unfolding isBoolean isVector topBoolean topVector under
 literal-top names b (a-name l u) h v w = absurd (omega arith)
@@ -97,7 +98,8 @@ negation-top names b (a-condition k e) h v = never h
 negation-top names b (a-condition-before k e) h v = never h
 negation-top names b nothing h v = never h
 
-pub binary-top : (names b : ℕ) {s s′ : Stack} → Made names b s s′ → isBoolean s′ ≡ true → 40 ≤ b → b < 60
+pub binary-top : (names b : ℕ) {s s′ : Stack} → Made names b s s′ → isBoolean s′ ≡ true → 40 ≤ b
+    → b < 60
     → BinaryTop b s s′
 unfolding isBoolean isVector topBoolean topVector under
 binary-top names b (a-name l u) h v w = absurd (omega arith)
@@ -111,7 +113,8 @@ binary-top names b (a-condition k e) h v w = never h
 binary-top names b (a-condition-before k e) h v w = never h
 binary-top names b nothing h v w = never h
 
-pub choice-top : (names b : ℕ) {s s′ : Stack} → Made names b s s′ → isBoolean s′ ≡ true → 60 ≤ b → b < 64
+pub choice-top : (names b : ℕ) {s s′ : Stack} → Made names b s s′ → isBoolean s′ ≡ true → 60 ≤ b
+    → b < 64
     → ChoiceTop s s′
 unfolding isBoolean isVector topBoolean topVector under
 choice-top names b (a-name l u) h v w = absurd (omega arith)
@@ -167,7 +170,8 @@ condition-top names b (a-condition k e) h v = rw e (record { is = refl; right = 
 condition-top names b (a-condition-before k e) h v = absurd (omega arith)
 condition-top names b nothing h v = never h
 
-pub condition-before-top : (names b : ℕ) {s s′ : Stack} → Made names b s s′ → isVector s′ ≡ true → b ≡ 57
+pub condition-before-top : (names b : ℕ) {s s′ : Stack} → Made names b s s′ → isVector s′ ≡ true
+    → b ≡ 57
     → ConditionBeforeTop s s′
 unfolding isBoolean isVector topBoolean topVector under
 condition-before-top names b (a-name l u) h v = never h

@@ -29,7 +29,8 @@ use Rattle.alf.proofs.Growth.{some-alternative}
 use Rattle.alf.proofs.Conditions.{Asks, alternatives-ask, over-asked}
 use Rattle.alf.proofs.Nearness.{Near, answers-near, tries-near}
 
-pub state-same : (n : ℕ) (row row′ : ℕ → ℕ) (c : Boolean) → Over n c → ((i : ℕ) → i < n → row i ≡ row′ i)
+pub state-same : (n : ℕ) (row row′ : ℕ → ℕ) (c : Boolean) → Over n c
+    → ((i : ℕ) → i < n → row i ≡ row′ i)
     → state row c ≡ state row′ c
 unfolding state Over
 state-same n row row′ (name i) o h = h i o
@@ -61,7 +62,8 @@ steps-pos p = first-steps (alternatives p) (some-alternative p) (every-has-steps
 
 pub record SameRows (names K : ℕ) (states states′ : List ℕ) (i j : ℕ) : Type 0 where
   pub room : min i K ≡ min j K
-  pub same : (d n : ℕ) → d ≤ K → d ≤ i → n < names → rowOf names states (i - d) n ≡ rowOf names states′ (j - d) n
+  pub same : (d n : ℕ) → d ≤ K → d ≤ i → n < names
+      → rowOf names states (i - d) n ≡ rowOf names states′ (j - d) n
 
 module _ (names : ℕ) (p : Vector) (over : VectorOver names p) (states states′ : List ℕ) (i j : ℕ)
     (s : SameRows names (stepsOf p) states states′ i j) where
@@ -90,11 +92,13 @@ module _ (names : ℕ) (states new : List ℕ) (r : ℕ)
   pub corrected-row : (n : ℕ) → n < names → rowOf names (corrected names states r new) r n ≡ getD new n 0
   unfolding corrected
   corrected-row n h =
-      ap (λ (k : ℕ). getD (take (r * names) states ++ (new ++ drop (r * names + names) states)) (k + n) 0) (sym front)
+      ap (λ (k : ℕ). getD (take (r * names) states ++ (new ++ drop (r * names + names) states)) (k + n) 0)
+      (sym front)
       ∙ getD-append-add (take (r * names) states) _ n 0
       ∙ List·getD-append new _ 0 n (omega arith)
 
-  before : (i n : ℕ) → i < r → n < names → rowOf names (corrected names states r new) i n ≡ rowOf names states i n
+  before : (i n : ℕ) → i < r → n < names
+      → rowOf names (corrected names states r new) i n ≡ rowOf names states i n
   unfolding corrected
   before i n l h =
       let m : suc i * names ≤ r * names = mul-le-mul-right names l in
@@ -102,7 +106,8 @@ module _ (names : ℕ) (states new : List ℕ) (r : ℕ)
       List·getD-append (take (r * names) states) _ 0 (i * names + n) (omega (arith, front))
       ∙ getD-take (r * names) states (i * names + n) 0 e
 
-  after : (i n : ℕ) → r < i → n < names → rowOf names (corrected names states r new) i n ≡ rowOf names states i n
+  after : (i n : ℕ) → r < i → n < names
+      → rowOf names (corrected names states r new) i n ≡ rowOf names states i n
   unfolding corrected
   after i n l h =
       let m : suc r * names ≤ i * names = mul-le-mul-right names l in

@@ -22,8 +22,7 @@ use Rattle.alf.specs.Alternatives.{Alternative, test, chained, overlappe
 use Rattle.alf.specs.Alternatives.{alternatives, testAt, stepAt, stepsFrom, onWindow, atRow, bestOf, answerOf}
 use Rattle.alf.proofs.Bools.{equal?, below?}
 use Rattle.alf.proofs.Lists.{All, none, more, all-append, all-map, all-each}
-use Rattle.alf.proofs.Extremes.{greatest-same, greatest-zero, greatest-one, greatestOf-append, greatestOf-map}
-use Rattle.alf.proofs.Extremes.{greatestOf-swap, greatestOf-same}
+use Rattle.alf.proofs.Extremes.{min-max-left, greatestOf-append}
 use Rattle.alf.proofs.Steps.{overlaid-length, conditioned-length, steps-conditioned, edge-small}
 use Rattle.alf.proofs.Lifting.{Steps, win, most, win-on, win-off, lift}
 use Rattle.alf.proofs.Joins.{chain-lifts}
@@ -57,7 +56,8 @@ module _ (st : Boolean → ℕ → ℕ) where
   abbrev Means : Window → List Alternative → Type 0
   Means P xs = (a b : ℕ) → P a b ≡ most st xs a b
 
-  means-either : (P Q : Window) (xs ys : List Alternative) → Means P xs → Means Q ys → Means (either P Q) (xs ++ ys)
+  means-either : (P Q : Window) (xs ys : List Alternative) → Means P xs → Means Q ys
+      → Means (either P Q) (xs ++ ys)
   unfolding either
   means-either P Q xs ys p q a b =
       let e = greatestOf-append (onWindow st a b) xs ys in
@@ -73,7 +73,8 @@ module _ (st : Boolean → ℕ → ℕ) where
     means-overlapped : Means (together P Q) (overlapped xs ys)
     means-overlapped = lift st (overlay-lifts st) P Q xs ys s t p q
 
-  means-joined : (j : Join) (P Q : Window) (xs ys : List Alternative) → Steps xs → Steps ys → Means P xs → Means Q ys
+  means-joined : (j : Join) (P Q : Window) (xs ys : List Alternative) → Steps xs → Steps ys → Means P xs
+      → Means Q ys
       → Means (joined j P Q) (rewritten j xs ys)
   unfolding joined rewritten
   means-joined followed-by P Q xs ys s t p q = means-chained P Q xs ys s t p q
@@ -113,10 +114,7 @@ module _ (st : Boolean → ℕ → ℕ) where
   means-while c P (x ∷ xs) (more h s) p a b =
       let i = means-while c (most st xs) xs s (λ a′ b′. refl) a b in
       let w = win-conditioned c x a b h in
-      rw (p a b, w) (spread (win st x a b) (most st xs a b) (held (st c) a b) ∙ ap (max _) i)
-    where
-      spread : (u v h : ℕ) → min (max u v) h ≡ max (min u h) (min v h)
-      spread u v h = omega arith
+      rw (p a b, w) (min-max-left (win st x a b) (most st xs a b) (held (st c) a b) ∙ ap (max _) i)
 
   -- an edge is one step of one test
   lone : Edge → Boolean → Alternative

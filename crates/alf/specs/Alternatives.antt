@@ -23,7 +23,8 @@ abbrev pub Alternative : Type 0
 Alternative = List Step
 
 -- for each left one, each right one
-unfoldable pub each : (Alternative → Alternative → Alternative) → List Alternative → List Alternative → List Alternative
+unfoldable pub each : (Alternative → Alternative → Alternative) → List Alternative → List Alternative
+    → List Alternative
 each f [] ys = []
 each f (x ∷ xs) ys = map (f x) ys ++ each f xs ys
 

@@ -82,7 +82,8 @@ pub data Operation : Type 0 where
   wrong : Operation
 
 unfoldable pub binaryAt : ℕ → Binary
-binaryAt k = getD (and ∷ or ∷ xor ∷ xnor ∷ equals ∷ differs ∷ above ∷ below ∷ at-least ∷ at-most ∷ []) k and
+binaryAt k =
+    getD (and ∷ or ∷ xor ∷ xnor ∷ equals ∷ differs ∷ above ∷ below ∷ at-least ∷ at-most ∷ []) k and
 
 unfoldable pub joinAt : ℕ → Join
 joinAt k = getD (followed-by ∷ either-order ∷ with-or-then ∷ any-order ∷ with ∷ or-else ∷ []) k or-else

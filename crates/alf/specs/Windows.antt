@@ -9,7 +9,8 @@ use Rattle.alf.specs.declared.Answer.{Answer}
 use Rattle.alf.specs.declared.Answer.the-variants.{No, Yes, Unknown, NoEvent}
 use Rattle.alf.specs.Words.{if_then_else_, greatest, least}
 use Rattle.alf.specs.States.{X, reduce}
-use Rattle.alf.specs.Expressions.{Boolean, Half, any, the, Edge, pair, changes, stays, Vector, edge, join, while}
+use Rattle.alf.specs.Expressions.{Boolean, Half, any, the, Edge, pair, changes, stays}
+use Rattle.alf.specs.Expressions.{Vector, edge, join, while}
 use Rattle.alf.specs.Expressions.{Join, followed-by, either-order, with-or-then, any-order, with, or-else}
 
 -- Answers are ordered no < unknown < yes: as numbers 0, 1, 2, so that the lesser is `min` and the greater `max`.

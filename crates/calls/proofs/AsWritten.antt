@@ -2,7 +2,7 @@
 -- Assumes nothing.
 use mathlib.Core.Path.{_≡_, refl, ap, sym, _∙_}
 use mathlib.Core.Bool.{Bool, true}
-use mathlib.Core.List.{List, [], _∷_, _++_}
+use mathlib.Core.List.{List, _++_, append-nil}
 use Prim.Native.Nat.{ℕ, _<_, _≤_}
 use native.Mathlib.Omega.{arith}
 use lib.Dec.{eqb}
@@ -27,18 +27,14 @@ use Rattle.calls.specs.declared.written.Told.the-variants as told
 use Rattle.calls.specs.Orders.{Rows, rowOrder, rowsOrder, Judged, ChecksRow, ChecksRows}
 use Rattle.calls.specs.Written.{RowState, RowValue, AllValues, Tells, RowAnswer, after}
 use Rattle.updates.specs.Copies.{Codes}
-use Rattle.calls.proofs.Deciding.{eqb-decides}
+use Rattle.limits.proofs.Deciding.{eqb-decides}
 use Rattle.calls.proofs.Verdicts.{judged-good, judged-not}
 use Rattle.calls.proofs.Checked.{lent-as}
-
-append-empty : (l : List ℕ) → l ++ [] ≡ l
-append-empty [] = refl
-append-empty (x ∷ l) = ap (λ (k : List ℕ). x ∷ k) (append-empty l)
 
 -- a list of n entries, all of them written
 filled-whole : (n : ℕ) (f : ℕ → ℕ) (out : List ℕ) → length out ≡ n → filled n f out ≡ listed 0 n f
 filled-whole n f out e =
-    ap (λ (l : List ℕ). listed 0 n f ++ l) (drop-of-length-le out {i = n} (omega arith)) ∙ append-empty _
+    ap (λ (l : List ℕ). listed 0 n f ++ l) (drop-of-length-le out {i = n} (omega arith)) ∙ append-nil _
 
 module _ {names n : ℕ} {tree : List ℕ} {sort : Sort} {states : List ℕ} {row : ℕ} {v : Verdict}
     (c : ChecksRow names n tree sort states row v) (e : v ≡ Good) where

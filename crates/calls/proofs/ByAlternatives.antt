@@ -6,8 +6,8 @@
 --   tree-matches, tree-fills, tree-totals, tree-corrects, tree-pushes
 --   longest-steps                 the longest alternative has K steps
 -- Assumes nothing.
-use mathlib.Core.Path.{_≡_, refl, ap, ap₂, sym, _∙_, fun-ext}
-use mathlib.Core.List.{List, [], _∷_, _++_}
+use mathlib.Core.Path.{_≡_, ap, ap₂, sym, _∙_, fun-ext}
+use mathlib.Core.List.{List, _++_, append-nil}
 use Prim.Native.Nat.{ℕ, zero, suc, _+_, _-_, _<_, _≤_}
 use native.Mathlib.Omega.{arith}
 use lib.ListN.{length, getD, take, drop, drop-of-length-le}
@@ -40,14 +40,10 @@ front-within l e h = omega arith
 pub front-length : {n m : ℕ} (l : List ℕ) → length l ≡ m → n ≤ m → n ≡ length (take n l)
 front-length {n} l e h = sym (length-take-le n l (omega arith))
 
-append-empty : (l : List ℕ) → l ++ [] ≡ l
-append-empty [] = refl
-append-empty (x ∷ l) = ap (λ (k : List ℕ). x ∷ k) (append-empty l)
-
 pub written-whole : (n : ℕ) (f : ℕ → ℕ) (l : List ℕ) → length l ≡ n → written l 0 n f ≡ listed 0 n f
 unfolding written
 written-whole n f l e =
-    ap (λ (k : List ℕ). listed 0 n f ++ k) (drop-of-length-le l {i = 0 + n} (omega arith)) ∙ append-empty _
+    ap (λ (k : List ℕ). listed 0 n f ++ k) (drop-of-length-le l {i = 0 + n} (omega arith)) ∙ append-nil _
 
 pub answers-on : (names : ℕ) (tree states : List ℕ)
     → numberAt (stateAt names states) (alternatives (expression tree names)) ≡ answersOn names tree states
@@ -65,7 +61,8 @@ module _ {names : ℕ} {tree : List ℕ} {a : Alternatives} (h : Holds tree name
       alternativesOf tree names (take (a .count) (a .steps)) (take (a .«step_count») (a .tests))
       (take (a .«test_count») (a .edges)) (take (a .«test_count») (a .operands))
 
-  pub tree-matches : {states : List ℕ} {row t : ℕ} {answer : Answer} → Matches (stateAt names states) xs row answer t
+  pub tree-matches : {states : List ℕ} {row t : ℕ} {answer : Answer}
+      → Matches (stateAt names states) xs row answer t
       → MatchesTree names tree states row answer t
   tree-matches {states} {row} m =
       record {
@@ -77,7 +74,8 @@ module _ {names : ℕ} {tree : List ℕ} {a : Alternatives} (h : Holds tree name
   numbers-on states =
       ap (λ (ys : List Alternative). numberAt (stateAt names states) ys) (h .stands) ∙ answers-on names tree states
 
-  pub tree-fills : {states answers tried answers′ tried′ : List ℕ} {n : ℕ} → length answers ≡ n → length tried ≡ n
+  pub tree-fills : {states answers tried answers′ tried′ : List ℕ} {n : ℕ} → length answers ≡ n
+      → length tried ≡ n
       → Filled (stateAt names states) xs n answers tried answers′ tried′
       → FillsTree names n tree states answers′ tried′
   tree-fills {states} {answers} {tried} {n = n} e d f =
@@ -112,6 +110,7 @@ module _ {names : ℕ} {tree : List ℕ} {a : Alternatives} (h : Holds tree name
             ∙ same-rewritten answers n r steps-are (numbers-on (corrected names states r new));
       }
 
-  pub tree-pushes : {q q′ : Queue} {row : List ℕ} {t : ℕ} {answer : Answer} → Pushes names xs q row answer t q′
+  pub tree-pushes : {q q′ : Queue} {row : List ℕ} {t : ℕ} {answer : Answer}
+      → Pushes names xs q row answer t q′
       → PushesTree names tree q row answer t q′
   tree-pushes p = rw (h .stands) at p

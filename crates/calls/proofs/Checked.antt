@@ -11,7 +11,7 @@ use mathlib.Core.Bool.{Bool, true, false}
 use mathlib.Core.Logic.{_⊎_, inl, inr}
 use mathlib.Core.List.{List, _∷_}
 use Prim.Native.Nat.{ℕ, _*_, _<_, _≤_}
-use native.Mathlib.Nat.{mul-le-mul-left, mul-le-mul-right, le-trans}
+use native.Mathlib.Nat.{mul-le-mul}
 use native.Mathlib.Omega.{arith}
 use lib.ListN.{length, getD}
 use Rattle.alf.specs.declared.Sort.{Sort}
@@ -24,11 +24,11 @@ use Rattle.calls.specs.declared.checks.Verdict.{Verdict}
 use Rattle.calls.specs.declared.checks.Verdict.the-variants.{Good, Refused}
 use Rattle.calls.specs.Orders.{Rows, codes, codesRow, rowsOrder, Judged, JudgesTrace, JudgesRow}
 use Rattle.calls.specs.Orders.{ChecksRow, ChecksRows}
-use Rattle.calls.proofs.Deciding.{told, tells}
+use Rattle.limits.proofs.Deciding.{told, tells}
 use Rattle.calls.proofs.Verdicts.{judged-as, lists-as}
 
 pub rows-bound : (n names : ℕ) → n ≤ 65535 → names ≤ 32 → n * names ≤ 65535 * 32
-rows-bound n names h k = le-trans (mul-le-mul-left n k) (mul-le-mul-right 32 h)
+rows-bound n names h k = mul-le-mul h k
 
 -- the codes before the place found, which is the length
 pub good-codes : {states : List ℕ} {bad : ℕ} → FirstBad states bad → length states ≤ bad → Codes states

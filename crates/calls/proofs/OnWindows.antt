@@ -25,7 +25,8 @@ use Rattle.calls.proofs.AsWritten.{row-there, vector-ends}
 use Rattle.calls.proofs.Unique.{row-fixed, tells-unique}
 
 -- a trace that has a row has those before it
-earlier : {states : List ℕ} {names row : ℕ} → Within states names row → (b : ℕ) → b ≤ row → Within states names b
+earlier : {states : List ℕ} {names row : ℕ} → Within states names row → (b : ℕ) → b ≤ row
+    → Within states names b
 earlier {names = names} w b l =
     record {
       some = w .some;

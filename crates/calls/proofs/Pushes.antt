@@ -6,7 +6,7 @@
 --   push-asked; push-good, push-refused, push-told
 -- Assumes nothing.
 use mathlib.Core.Path.{_≡_, refl, ap, sym, _∙_}
-use mathlib.Core.Bool.{Bool, true, false, _||_}
+use mathlib.Core.Bool.{Bool, true, false}
 use mathlib.Core.List.{List}
 use Prim.Native.Nat.{ℕ, _*_, _<_, _≤_}
 use native.Mathlib.Nat.{mul-le-mul-left, mul-le-mul-right, le-trans}
@@ -20,7 +20,7 @@ use Rattle.alf.specs.declared.Sort.the-variants.{Vector}
 use Rattle.alf.specs.Words.{greatestOf}
 use Rattle.alf.specs.Expressions as expressions
 use Rattle.alf.specs.Alternatives.{Alternative, alternatives, stepsOf, overLimit}
-use Rattle.alf.proofs.Bools.{never}
+use Rattle.alf.proofs.Bools.{never, or-left, or-right}
 use Rattle.limits.specs.declared.sizes.Size.{Size}
 use Rattle.limits.specs.declared.sizes.Measured.{Measured}
 use Rattle.limits.specs.declared.sizes.Measured.the-variants.{Over, Within}
@@ -41,7 +41,7 @@ use Rattle.calls.specs.Orders.{Judged, JudgesTrace}
 use Rattle.calls.specs.Matching.{expression}
 use Rattle.calls.specs.Pushing.{RowFits, Keeps, Handed, pushOrder, PushesTree, Takes, Push, Small, DecidesQueue}
 use Rattle.calls.specs.Pushing.{TreePush}
-use Rattle.calls.proofs.Deciding.{same-decided}
+use Rattle.limits.proofs.Deciding.{same-decided}
 use Rattle.calls.proofs.Verdicts.{judged-as, judged-good, judged-not}
 use Rattle.calls.proofs.ByAlternatives.{longest-steps}
 
@@ -88,14 +88,6 @@ module _ (p : expressions.Vector) (h : overLimit (alternatives p) ≡ false) {m 
   unfolding measured stepsIn
   steps-within f = ap stepsIn (sym f ∙ e) ∙ rw h refl
 
-or-left : (a b : Bool) → (a || b) ≡ false → a ≡ false
-or-left true b h = h
-or-left false b h = refl
-
-or-right : (a b : Bool) → (a || b) ≡ false → b ≡ false
-or-right true b h = never (sym h)
-or-right false b h = h
-
 pub few-steps : (p : expressions.Vector) → overLimit (alternatives p) ≡ false → stepsOf p ≤ 16
 unfolding overLimit stepsOf
 few-steps p h = ltb-false 16 _ (or-left _ _ (or-right (ltb 64 (length (alternatives p))) _ h))
@@ -119,7 +111,8 @@ module _ (names : ℕ) (tree : List ℕ) (q : Queue) where
       }
 
 -- a tree, a queue and a row that fit, as the queue asks for them
-pub push-asked : {names : ℕ} {tree : List ℕ} {q : Queue} {row : List ℕ} {a : Alternatives} → TreePush names tree q row
+pub push-asked : {names : ℕ} {tree : List ℕ} {q : Queue} {row : List ℕ} {a : Alternatives}
+    → TreePush names tree q row
     → Holds tree names a
     → PushAsked tree names (take (a .count) (a .steps)) (take (a .«step_count») (a .tests))
     (take (a .«test_count») (a .edges)) (take (a .«test_count») (a .operands)) q row
@@ -154,7 +147,8 @@ module _ {names : ℕ} {tree : List ℕ} {q : Queue} {row : List ℕ} {fits good
   unfolding Takes
   push-refused e = record { comes = (judged-not as-push e, refl) }
 
-  pub push-told : {m : Matched} {q′ : Queue} → v ≡ Good → PushesTree names tree q row (m .answer) (m .tries) q′
+  pub push-told : {m : Matched} {q′ : Queue} → v ≡ Good
+      → PushesTree names tree q row (m .answer) (m .tries) q′
       → Push names tree q row (matching.Found m) q′
   unfolding Takes
   push-told e p = record { comes = (judged-good as-push e .0, p) }

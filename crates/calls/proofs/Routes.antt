@@ -141,7 +141,8 @@ fed-codes rows (suc n) h =
     codes-append (fed rows n) (rows n) (fed-codes rows n (λ i l. h i (omega arith))) (h n (omega arith))
 
 -- A feed of good rows, one push after the other, the first into a queue that keeps nothing.
-module _ {names n : ℕ} {tree : List ℕ} {rows : ℕ → List ℕ} {queues : ℕ → Queue} {results : ℕ → Matching}
+module _ {names n : ℕ} {tree : List ℕ} {rows : ℕ → List ℕ} {queues : ℕ → Queue}
+    {results : ℕ → Matching}
     (some : NameCount names) (accepted : Accepted names Vector tree) (first : queues 0 .kept .0 ≡ 0)
     (full : (i : ℕ) → i < n → length (rows i) ≡ names) (good : (i : ℕ) → i < n → Codes (rows i))
     (pushed : (i : ℕ) → i < n → Push names tree (queues i) (rows i) (results i) (queues (suc i))) where

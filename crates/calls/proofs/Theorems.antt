@@ -23,7 +23,8 @@ use Rattle.alf.specs.Windows.{rowAnswer, numberOf}
 use Rattle.alf.specs.Alternatives.{Alternative, alternatives, stepsOf}
 use Rattle.alf.specs.Traces.{corrected, lastRewritten}
 use Rattle.alf.specs.Refusals.{Passed, Comes, NameCount, RowCount}
-use Rattle.alf.proofs.Bools.{below?, equal?, never}
+use Rattle.alf.proofs.Bools.{below?, never}
+use Rattle.alf.proofs.Stable.{le-stable, eq-stable}
 use Rattle.alf.proofs.Lists.{All}
 use Rattle.alf.proofs.Conditions.{Asks, alternatives-ask, over-asked}
 use Rattle.alf.proofs.Decoding.{decode-over}
@@ -48,40 +49,25 @@ use Rattle.calls.specs.Matching.{expression, answersOn, Finds, RowMatch,
 use Rattle.calls.specs.Correcting.{Lists, correctionOrder, Correction, rewritten}
 use Rattle.calls.specs.Pushing.{Takes, Push}
 
--- a number that is not otherwise
-equal-stable : (m n : ℕ) → ((m ≡ n → ⊥) → ⊥) → m ≡ n
-equal-stable m n h = go (equal? m n)
-  where
-    go : (m ≡ n) ⊎ (m ≡ n → ⊥) → m ≡ n
-    go (inl e) = e
-    go (inr d) = absurd (h d)
-
-least-stable : (m n : ℕ) → ((m ≤ n → ⊥) → ⊥) → m ≤ n
-least-stable m n h = go (below? n m)
-  where
-    go : (n < m) ⊎ (m ≤ n) → m ≤ n
-    go (inl l) = absurd (h (λ k. omega (arith, k, l)))
-    go (inr l) = l
-
 rows-stable : (names n s : ℕ) → ((Rows names n s → ⊥) → ⊥) → Rows names n s
 rows-stable names n s h =
     record {
       name-count = (
-        least-stable 1 names (λ k. h (λ r. k (r .name-count .0))),
-        least-stable names 32 (λ k. h (λ r. k (r .name-count .1))),
+        le-stable 1 names (λ k. h (λ r. k (r .name-count .0))),
+        le-stable names 32 (λ k. h (λ r. k (r .name-count .1))),
       );
       row-count = (
-        least-stable 1 n (λ k. h (λ r. k (r .row-count .0))),
-        least-stable n 65535 (λ k. h (λ r. k (r .row-count .1))),
+        le-stable 1 n (λ k. h (λ r. k (r .row-count .0))),
+        le-stable n 65535 (λ k. h (λ r. k (r .row-count .1))),
       );
-      all = equal-stable s (n * names) (λ k. h (λ r. k (r .all)));
+      all = eq-stable s (n * names) (λ k. h (λ r. k (r .all)));
     }
 
 lists-stable : (names n s a w : ℕ) → ((Lists names n s a w → ⊥) → ⊥) → Lists names n s a w
 lists-stable names n s a w h =
     record {
-      room = equal-stable a n (λ k. h (λ r. k (r .room)));
-      full = equal-stable w names (λ k. h (λ r. k (r .full)));
+      room = eq-stable a n (λ k. h (λ r. k (r .room)));
+      full = eq-stable w names (λ k. h (λ r. k (r .full)));
       rows = rows-stable names n s (λ k. h (λ r. k (r .rows)));
     }
 
@@ -95,7 +81,8 @@ expression-over : (names : ℕ) (tree : List ℕ) → Accepted names sort.Vector
 unfolding Decodes topVector sortOf isVectorSort ExpressionOver
 expression-over names tree a = go (a .expression) (a .decodes) (a .sorted)
   where
-    go : (e : Expression) → Decodes names tree e → sortOf e ≡ sort.Vector → VectorOver names (expression tree names)
+    go : (e : Expression) → Decodes names tree e → sortOf e ≡ sort.Vector
+        → VectorOver names (expression tree names)
     go (boolean c) d k = never (ap isVectorSort k)
     go (vector p) d k = rw d (decode-over names tree (vector p) d)
 
@@ -142,7 +129,7 @@ module _ {names n : ℕ} {tree states answers : List ℕ} {r : ℕ} {new states�
 
   below : r < n
   unfolding Passed
-  below = least-stable (suc r) n (λ h. passed .1 .1 .1 .1 .0 0 (record { given = omega (arith, h); there = refl }))
+  below = le-stable (suc r) n (λ h. passed .1 .1 .1 .1 .0 0 (record { given = omega (arith, h); there = refl }))
 
   abbrev last : ℕ
   last = lastRewritten (stepsOf (expression tree names)) n r
@@ -168,7 +155,8 @@ module _ {names n : ℕ} {tree states answers : List ℕ} {r : ℕ} {new states�
   answered = c .answers-memory
 
   -- an answer that is rewritten is the corrected trace's, whatever stood there
-  pub correction-reaches : (i : ℕ) → r ≤ i → i ≤ last → getD answers′ i 0 ≡ answersOn names tree states′ i
+  pub correction-reaches : (i : ℕ) → r ≤ i → i ≤ last
+      → getD answers′ i 0 ≡ answersOn names tree states′ i
   correction-reaches i a b =
       let e : r + (i - r) ≡ i = omega arith in
       let f = answersOn names tree (corrected names states r new) in
@@ -203,7 +191,8 @@ module _ {names n : ℕ} {tree states answers : List ℕ} {r : ℕ} {new states�
       → (i : ℕ) → i < n → getD answers′ i 0 ≡ answersOn names tree states′ i
   correction-keeps-right right i l = go (below? i r) (below? last i)
     where
-      go : (i < r) ⊎ (r ≤ i) → (last < i) ⊎ (i ≤ last) → getD answers′ i 0 ≡ answersOn names tree states′ i
+      go : (i < r) ⊎ (r ≤ i) → (last < i) ⊎ (i ≤ last)
+          → getD answers′ i 0 ≡ answersOn names tree states′ i
       go (inl a) b = correction-stays i (inl a) ∙ right i l ∙ stays-right i (inl a)
       go (inr a) (inl b) = correction-stays i (inr b) ∙ right i l ∙ stays-right i (inr (beyond i l b))
       go (inr a) (inr b) = correction-reaches i a b

@@ -51,7 +51,8 @@ pub outcome-unique : (o : Order) (k : ℕ) → AllFixed o → (a b : Outcome) �
 outcome-unique o k f a b x y = comes-unique o (λ j. j ≡ k) f (λ i j p q. p ∙ sym q) a b x y
 
 -- one verdict
-pub verdict-unique : (o : Order) {facts : Type 0} → AllFixed o → {a b : Verdict} → Judged o facts a → Judged o facts b
+pub verdict-unique : (o : Order) {facts : Type 0} → AllFixed o → {a b : Verdict} → Judged o facts a
+    → Judged o facts b
     → a ≡ b
 verdict-unique o f (passes p x) (passes q y) = refl
 verdict-unique o f (passes p x) (refuses s) = absurd (refused-passed o _ _ p s)
@@ -60,7 +61,8 @@ verdict-unique o f (refuses r) (refuses s) =
     let e = refused-unique o f r s in λ i. verdict.Refused (record { number = e .0 i; place = e .1 i })
 
 -- one list afterwards
-pub after-unique : (made out : List ℕ) {out′ out″ : List ℕ} {a b : Outcome} → a ≡ b → out′ ≡ after made out a
+pub after-unique : (made out : List ℕ) {out′ out″ : List ℕ} {a b : Outcome} → a ≡ b
+    → out′ ≡ after made out a
     → out″ ≡ after made out b → out′ ≡ out″
 after-unique made out e x y = x ∙ ap (after made out) e ∙ sym y
 
@@ -138,7 +140,8 @@ module _ {names n : ℕ} {tree states : List ℕ} where
         after-unique _ tried e (x .tried-memory) (y .tried-memory),
       )
 
-  pub totals-unique : {a b : Counting} → RowTotals names n tree states a → RowTotals names n tree states b → a ≡ b
+  pub totals-unique : {a b : Counting} → RowTotals names n tree states a → RowTotals names n tree states b
+      → a ≡ b
   totals-unique x y =
       counts-unique _ _ (codes-fixed _ _ states)
       (λ a b c d e f p q.

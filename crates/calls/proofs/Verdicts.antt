@@ -16,7 +16,8 @@ use Rattle.limits.specs.Accepted.{Decides}
 use Rattle.calls.specs.declared.checks.Verdict.{Verdict}
 use Rattle.calls.specs.declared.checks.Verdict.the-variants.{Good, Refused}
 use Rattle.calls.specs.Orders.{order, Judged, passes, refuses, Judges}
-use Rattle.calls.proofs.Deciding.{told, tells, true?}
+use Rattle.alf.proofs.Stable.{true-stable}
+use Rattle.limits.proofs.Deciding.{told, tells}
 
 passed : {o : Order} {facts : Type 0} → Judged o facts Good → Passed o × facts
 passed (passes p f) = (p, f)
@@ -35,10 +36,10 @@ module _ {o : Order} {facts : Type 0} {v : Verdict} (j : Judged o facts v) where
 -- tests of P and Q
 module _ (fits good : Bool) (P Q : Type 0) (p : Decides fits P) (q : P → Decides good Q) where
   fit : ((k : ℕ) → At 0 (fits ≡ true → ⊥) k → ⊥) → P
-  fit n = told fits p (true? fits (λ h. n 0 (record { given = h; there = refl })))
+  fit n = told fits p (true-stable fits (λ h. n 0 (record { given = h; there = refl })))
 
   well : P → ((k : ℕ) → At 0 (good ≡ true → ⊥) k → ⊥) → Q
-  well x n = told good (q x) (true? good (λ h. n 0 (record { given = h; there = refl })))
+  well x n = told good (q x) (true-stable good (λ h. n 0 (record { given = h; there = refl })))
 
   refused-as : (rest : Order) (n k : ℕ) → RefusedWith (order (fits ≡ true) (good ≡ true) rest) n k
       → RefusedWith (order P Q rest) n k
@@ -84,7 +85,8 @@ module _ {fits good : Bool} (rest : Order) {facts : Type 0} where
   unfolding RefusedWith
   judge-18 h e = rw e (refuses (inl (refl, record { given = h; there = refl })))
 
-  pub judge-10 : {r : Verdict} → fits ≡ true → (good ≡ true → ⊥) → r ≡ Refused (record { number = 10; place = 0 })
+  pub judge-10 : {r : Verdict} → fits ≡ true → (good ≡ true → ⊥)
+      → r ≡ Refused (record { number = 10; place = 0 })
       → Judges fits good rest facts r
   unfolding RefusedWith
   judge-10 f h e = rw e (refuses (inr (λ p a. a .given f, inl (refl, record { given = h; there = refl }))))

@@ -38,7 +38,8 @@ pub record Correction (names n : ℕ) (tree states answers : List ℕ) (row : �
     (r : Outcome) : Type 0 where
   pub comes : Comes (correctionOrder names n tree states answers row new) (λ k. k ≡ 1) r
   pub states-memory : states′ ≡ after (corrected names states row new) states r
-  pub answers-memory : answers′ ≡ after (rewritten names n tree answers row (corrected names states row new)) answers r
+  pub answers-memory : answers′
+      ≡ after (rewritten names n tree answers row (corrected names states row new)) answers r
 
 -- What the function inside asks and gives: an accepted tree and lists that fit.
 pub record TreeCorrection (names n : ℕ) (tree states answers : List ℕ) (row : ℕ) (new : List ℕ) : Type 0 where
@@ -48,7 +49,8 @@ pub record TreeCorrection (names n : ℕ) (tree states answers : List ℕ) (row 
   pub full : length new ≡ names
   pub codes : Codes new
 
-pub record CorrectsTree (names n : ℕ) (tree states answers : List ℕ) (row : ℕ) (new states′ answers′ : List ℕ)
+pub record CorrectsTree (names n : ℕ) (tree states answers : List ℕ) (row : ℕ)
+    (new states′ answers′ : List ℕ)
     : Type 0 where
   pub stored : states′ ≡ corrected names states row new
   pub answered : answers′ ≡ rewritten names n tree answers row (corrected names states row new)

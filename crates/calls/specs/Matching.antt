@@ -54,7 +54,8 @@ pub record FillsTree (names n : ℕ) (tree states answers′ tried′ : List ℕ
   pub answers : answers′ ≡ listed 0 n (answersOn names tree states)
   pub counts : tried′ ≡ listed 0 n (triesOn names tree states)
 
-pub record AllMatched (names n : ℕ) (tree states answers tried answers′ tried′ : List ℕ) (r : Outcome) : Type 0 where
+pub record AllMatched (names n : ℕ) (tree states answers tried answers′ tried′ : List ℕ) (r : Outcome)
+    : Type 0 where
   pub comes : Comes (rowsOrder names n ((length answers ≡ n) × (length tried ≡ n)) tree sort.Vector states)
       (λ k. k ≡ n) r
   pub answers-memory : answers′ ≡ after (listed 0 n (answersOn names tree states)) answers r

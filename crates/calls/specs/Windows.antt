@@ -1,5 +1,5 @@
--- What the call for one window comes to: document 01's answer of the vector expression on the rows a to b, or refused. 19
--- is given where one of the two is no row of the trace.
+-- What the call for one window comes to: document 01's answer of the vector expression on the rows a to b, or
+-- refused. 19 is given where one of the two is no row of the trace.
 -- Main name: WindowAnswer.
 use Prim.Native.Nat.{ℕ, max}
 use mathlib.Core.List.{List}

@@ -1,5 +1,5 @@
 -- Two parts of the states are two rows of the trace, and what changes between them is what changes at the row.
---   mask-same, count-same    of two tests that agree below n
+--   mask-same                of two tests that agree below n
 --   part-at                  an entry of a part of a list
 --   row-set, row-changes     the changes of two parts are those of the row
 --   row-none, row-later      row 0 has none; a later one has a row before it
@@ -9,7 +9,7 @@ use mathlib.Core.Path.{_≡_, refl, ap, ap₂, sym, _∙_}
 use mathlib.Core.Bool.{Bool, false, not}
 use mathlib.Core.List.{List}
 use Prim.Native.Nat.{ℕ, zero, suc, _+_, _-_, _*_, _<_, _≤_, min}
-use native.Mathlib.Nat.{suc-mul, mul-le-mul-left, mul-le-mul-right, le-trans}
+use native.Mathlib.Nat.{suc-mul, mul-le-mul}
 use native.Mathlib.Omega.{arith}
 use lib.Dec.{eqb}
 use lib.ListN.{length, getD, take, drop, length-take, length-drop}
@@ -18,17 +18,13 @@ use Rattle.alf.specs.Words.{count}
 use Rattle.alf.specs.Values.{rowOf}
 use Rattle.alf.specs.Traces.{mask, changed, changeMask, changeCount}
 use Rattle.alf.specs.Contracts.{compared, differ, Compared}
+use Rattle.alf.proofs.Counts.{count-same}
 use Rattle.changes.specs.Call.{RowSet}
 
 pub mask-same : (n : ℕ) (p q : ℕ → Bool) → ((i : ℕ) → i < n → p i ≡ q i) → mask n p ≡ mask n q
 unfolding mask
 mask-same zero p q h = refl
 mask-same (suc n) p q h = rw (mask-same n p q (λ i l. h i (omega arith)), h n (omega arith)) refl
-
-pub count-same : (n : ℕ) (p q : ℕ → Bool) → ((i : ℕ) → i < n → p i ≡ q i) → count n p ≡ count n q
-unfolding count
-count-same zero p q h = refl
-count-same (suc n) p q h = rw (count-same n p q (λ i l. h i (omega arith)), h n (omega arith)) refl
 
 part-at : (n at i : ℕ) (s : List ℕ) → i < n → getD (take n (drop at s)) i 0 ≡ getD s (at + i) 0
 part-at n at i s h = getD-take n (drop at s) i 0 h ∙ getD-drop at s i 0
@@ -37,12 +33,13 @@ part-length : (n at : ℕ) (s : List ℕ) → at + n ≤ length s → length (ta
 part-length n at s h = let l = length-take n (drop at s) in let d = length-drop at s in omega arith
 
 pub bound : (n names : ℕ) → n ≤ 65535 → names ≤ 32 → n * names ≤ 65535 * 32
-bound n names h k = le-trans (mul-le-mul-left n k) (mul-le-mul-right 32 h)
+bound n names h k = mul-le-mul h k
 
 both-rows : (x y names : ℕ) → x ≡ names → y ≡ names → names ≤ 32 → compared x y ≡ names
 both-rows x y names e f h = omega arith
 
-pub row-set : (names : ℕ) (states : List ℕ) (r set many : ℕ) → names ≤ 32 → suc r * names + names ≤ length states
+pub row-set : (names : ℕ) (states : List ℕ) (r set many : ℕ) → names ≤ 32
+    → suc r * names + names ≤ length states
     → Compared (take names (drop (r * names) states)) (take names (drop (suc r * names) states)) set many
     → RowSet names states (suc r) set many
 unfolding changeMask changeCount changed

@@ -5,7 +5,8 @@ use Prim.Native.Nat.{ℕ, _+_, _*_, _<_, _≤_}
 use mathlib.Core.Path.{_≡_}
 use mathlib.Core.List.{List, [], _∷_}
 use lib.ListN.{length}
-use Rattle.alf.specs.Refusals.{Order, check, bad-lists, bad-code, no-such-row, NameCount, RowCount, RefusedWith, Passed}
+use Rattle.alf.specs.Refusals.{Order, check, bad-lists, bad-code, no-such-row, NameCount, RowCount}
+use Rattle.alf.specs.Refusals.{RefusedWith, Passed}
 use Rattle.alf.specs.Traces.{changeMask, changeCount}
 use Rattle.changes.specs.declared.RowChanges.{RowChanges}
 use Rattle.changes.specs.declared.RowChanges.the-variants.{Changed, Refused}

@@ -39,7 +39,8 @@ use Rattle.dachsmond.proofs.Unique.{from-both, hands-unique}
 
 -- texts
 pub read-expression-unique : {names text : List ℕ} {sort : Sort} {r s : Expression}
-    → Hands (Reading names text sort) toldExpression r → Hands (Reading names text sort) toldExpression s → r ≡ s
+    → Hands (Reading names text sort) toldExpression r → Hands (Reading names text sort) toldExpression s
+    → r ≡ s
 read-expression-unique x y = hands-unique (λ a b p q. read-unique p q) x y
 
 pub write-expression-unique : {names tree : List ℕ} {sort : Sort} {out a b : List ℕ} {r s : Told}
@@ -63,7 +64,8 @@ read-trace-unique file names times states x y = (
 )
 
 pub write-trace-unique : {names times states : List ℕ} {n : ℕ} {out a b : List ℕ} {r s : Told}
-    → Hands (traces.Writes names times states n out a) told r → Hands (traces.Writes names times states n out b) told s
+    → Hands (traces.Writes names times states n out a) told r
+    → Hands (traces.Writes names times states n out b) told s
     → (r ≡ s) × (a ≡ b)
 write-trace-unique x y = (
   hands-unique (λ a b p q. trace-laws.writes-unique p q .answer) x y,
@@ -93,7 +95,8 @@ module _ {names n : ℕ} {tree states : List ℕ} where
       → Hands (RowAnswer names n tree states row) toldAnswer s → r ≡ s
   row-answer-unique x y = hands-unique (λ a b p q. answer-unique p q) x y
 
-  pub window-answer-unique : {from to : ℕ} {r s : Answered} → Hands (WindowAnswer names n tree states from to) toldAnswer r
+  pub window-answer-unique : {from to : ℕ} {r s : Answered}
+      → Hands (WindowAnswer names n tree states from to) toldAnswer r
       → Hands (WindowAnswer names n tree states from to) toldAnswer s → r ≡ s
   window-answer-unique x y = hands-unique (λ a b p q. window-unique p q) x y
 

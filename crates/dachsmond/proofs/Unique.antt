@@ -10,4 +10,5 @@ module _ {A B : Type 0} {p q : A → Type 0} {tell : A → B} {r s : B} where
   from-both f x y = f (x .result) (y .result) (x .is-allowed) (y .is-allowed)
 
   pub hands-unique : ((a b : A) → p a → q b → a ≡ b) → Hands p tell r → Hands q tell s → r ≡ s
-  hands-unique u x y = x .is-told ∙ ap tell (u (x .result) (y .result) (x .is-allowed) (y .is-allowed)) ∙ sym (y .is-told)
+  hands-unique u x y =
+      x .is-told ∙ ap tell (u (x .result) (y .result) (x .is-allowed) (y .is-allowed)) ∙ sym (y .is-told)

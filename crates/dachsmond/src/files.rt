@@ -52,7 +52,8 @@ pub extern "C" fn dachsmond_write_trace(
     n: usize,
     out: &mut [u8],
 ) -> Told
-    ensures { λ r. ⌜ Hands (Writes (now (names .entry)) (now (times .entry)) (now (states .entry)) n (now (out .entry))
+    ensures { λ r. ⌜ Hands (Writes (now (names .entry)) (now (times .entry)) (now (states .entry)) n
+        (now (out .entry))
         (now (out .exit))) told r ⌝ }
 {
     tell(write_trace(names, times, states, n, out))

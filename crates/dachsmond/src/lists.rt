@@ -18,7 +18,8 @@ use matcher::tables::Total;
 // The listing of answers, which are document 01's numbers.
 #[no_mangle]
 pub extern "C" fn dachsmond_list(times: &[u32], answers: &[u8], out: &mut [u8]) -> Told
-    ensures { λ r. ⌜ Hands (ListsText (now (times .entry)) (now (answers .entry)) (now (out .entry)) (now (out .exit)))
+    ensures { λ r. ⌜ Hands (ListsText (now (times .entry)) (now (answers .entry)) (now (out .entry))
+        (now (out .exit)))
         told r ⌝ }
 {
     tell(list(times, answers, out))

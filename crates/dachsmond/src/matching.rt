@@ -120,7 +120,8 @@ pub extern "C" fn dachsmond_rewrite(
 // A flag for each of its alternatives, 1 where it is contradictory, else 0, into a lent list.
 #[no_mangle]
 pub extern "C" fn dachsmond_contradictions(names: usize, tree: &[u8], flags: &mut [u8]) -> Told
-    ensures { λ r. ⌜ Hands (Contradicts names (now (tree .entry)) (now (flags .entry)) (now (flags .exit))) told r ⌝ }
+    ensures { λ r. ⌜ Hands (Contradicts names (now (tree .entry)) (now (flags .entry))
+        (now (flags .exit))) told r ⌝ }
 {
     tell(contradictions(names, tree, flags))
 }

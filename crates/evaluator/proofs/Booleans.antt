@@ -50,7 +50,8 @@ module _ {t : List ℕ} {names end : ℕ} (h : EndsBoolean t names end) where
       → BinaryTop (lastByte t end) (stackAt t names (end - 1)) (stackAt t names end)
   binary-is = binary-top names _ was (h .whole)
 
-  choice-is : 60 ≤ lastByte t end → lastByte t end < 64 → ChoiceTop (stackAt t names (end - 1)) (stackAt t names end)
+  choice-is : 60 ≤ lastByte t end → lastByte t end < 64
+      → ChoiceTop (stackAt t names (end - 1)) (stackAt t names end)
   choice-is = choice-top names _ was (h .whole)
 
   pub name-known : lastByte t end < 32 → lastByte t end < names
@@ -116,7 +117,8 @@ module _ {t : List ℕ} {names end : ℕ} (h : EndsBoolean t names end) where
     unfolding state
     literal-state k j = record { is = rw (literal-is k j) refl; code = omega arith }
 
-    pub negation-state : {x r : ℕ} → 64 ≤ lastByte t end → At (end - 1) x → (r ≡ notOf x) × (r < 8) → At end r
+    pub negation-state : {x r : ℕ} → 64 ≤ lastByte t end → At (end - 1) x → (r ≡ notOf x) × (r < 8)
+        → At end r
     unfolding state
     negation-state k a q = record { is = rw (negation-is k .is, ← a .is) (q .0); code = q .1 }
 
@@ -133,8 +135,10 @@ module _ {t : List ℕ} {names end : ℕ} (h : EndsBoolean t names end) where
     unfolding value
     value-state a q = record { is = rw (settled-is, ← a .is) (q .is); code = q .code }
 
-    pub choice-state : {m o c x y r : ℕ} → 60 ≤ lastByte t end → lastByte t end < 64 → Start t names (end - 1) m
-        → Start t names m o → At o c → ValueAt m x → ValueAt (end - 1) y → IsState (chosen c x y) r → At end r
+    pub choice-state : {m o c x y r : ℕ} → 60 ≤ lastByte t end → lastByte t end < 64
+        → Start t names (end - 1) m
+        → Start t names m o → At o c → ValueAt m x → ValueAt (end - 1) y → IsState (chosen c x y) r
+        → At end r
     unfolding state value
     choice-state k j g f a d e q =
         record {

@@ -24,7 +24,8 @@ unfolding greatest
 greatest-none f = refl
 
 -- the operator that is none of the other five
-pub any-order-byte : {k : ℕ} → JoinByte k → (k ≡ 55 → ⊥) → (k ≡ 54 → ⊥) → (k ≡ 50 → ⊥) → (k ≡ 51 → ⊥)
+pub any-order-byte : {k : ℕ} → JoinByte k → (k ≡ 55 → ⊥) → (k ≡ 54 → ⊥) → (k ≡ 50 → ⊥)
+    → (k ≡ 51 → ⊥)
     → (k ≡ 52 → ⊥) → k ≡ 53
 any-order-byte h n o p q r = let l = h .first in let u = h .last in omega arith
 
@@ -37,7 +38,8 @@ module _ (P Q : Window) (a b : ℕ) where
   abbrev pub split : ℕ → ℕ
   split i = min (P a (a + 1 + i)) (Q (a + 1 + i) b)
 
-  pub split-all : {i r : ℕ} → i ≤ b - (a + 1) → b - (a + 1) ≤ i → r ≡ greatest i split → r ≡ followedBy P Q a b
+  pub split-all : {i r : ℕ} → i ≤ b - (a + 1) → b - (a + 1) ≤ i → r ≡ greatest i split
+      → r ≡ followedBy P Q a b
   unfolding followedBy
   split-all l u h = all-passed greatest split l u h
 
@@ -45,6 +47,7 @@ module _ (P Q : Window) (a b : ℕ) where
   abbrev pub shared : ℕ → ℕ
   shared i = max (min (P a b) (Q (a + i) b)) (min (P (a + i) b) (Q a b))
 
-  pub shared-all : {i r : ℕ} → i ≤ b + 1 - a → b + 1 - a ≤ i → r ≡ greatest i shared → r ≡ together P Q a b
+  pub shared-all : {i r : ℕ} → i ≤ b + 1 - a → b + 1 - a ≤ i → r ≡ greatest i shared
+      → r ≡ together P Q a b
   unfolding together
   shared-all l u h = all-passed greatest shared l u h

@@ -12,7 +12,8 @@ use Rattle.alf.specs.Words.{listed}
 use Rattle.evaluator.specs.Rows.{filled}
 
 -- a loop has gone through all its n turns
-pub all-passed : {A B : Type 0} {i n : ℕ} {r : A} (fold : ℕ → B → A) (x : B) → i ≤ n → n ≤ i → r ≡ fold i x
+pub all-passed : {A B : Type 0} {i n : ℕ} {r : A} (fold : ℕ → B → A) (x : B) → i ≤ n → n ≤ i
+    → r ≡ fold i x
     → r ≡ fold n x
 all-passed {i = i} {n = n} fold x l u h = let e : n ≡ i = omega arith in rw e h
 
@@ -33,12 +34,14 @@ pub fill-none : (f : ℕ → ℕ) (d : List ℕ) → d ≡ filled 0 f d
 unfolding listed
 fill-none f d = refl
 
-pub fill-step : {n v : ℕ} {out : List ℕ} (f : ℕ → ℕ) (d : List ℕ) → n < length d → out ≡ filled n f d → v ≡ f n
+pub fill-step : {n v : ℕ} {out : List ℕ} (f : ℕ → ℕ) (d : List ℕ) → n < length d → out ≡ filled n f d
+    → v ≡ f n
     → set out n v ≡ filled (n + 1) f d
 fill-step {n} {v} f d h e g =
     rw (e, drop-cons d n 0, set-at (listed 0 n f) _ _ v n (listed-length 0 n f))
     (rw (add-one, listed-more, zero-add, append-assoc, g) refl)
 
-pub fill-all : {i n : ℕ} {out : List ℕ} (f : ℕ → ℕ) (d : List ℕ) → i ≤ n → n ≤ i → out ≡ filled i f d
+pub fill-all : {i n : ℕ} {out : List ℕ} (f : ℕ → ℕ) (d : List ℕ) → i ≤ n → n ≤ i
+    → out ≡ filled i f d
     → out ≡ filled n f d
 fill-all f d = all-passed (λ k (g : ℕ → ℕ). filled k g d) f

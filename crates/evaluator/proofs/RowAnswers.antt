@@ -20,7 +20,8 @@ module _ (st : Boolean → ℕ → ℕ) (p : Vector) (i : ℕ) where
   unfolding rowAnswer
   row-first e = rw e refl
 
-pub row-later : (st : Boolean → ℕ → ℕ) (p : Vector) (i : ℕ) {r : Answer} {b : ℕ} → (i ≡ 0 → ⊥) → b ≡ best st p i
+pub row-later : (st : Boolean → ℕ → ℕ) (p : Vector) (i : ℕ) {r : Answer} {b : ℕ} → (i ≡ 0 → ⊥)
+    → b ≡ best st p i
     → r ≡ named b → r ≡ rowAnswer st p i
 unfolding rowAnswer
 row-later st p zero n e h = absurd (n refl)

@@ -19,7 +19,8 @@ use Rattle.alf.proofs.WindowsAreAlternatives.{window-alternatives, every-has-st
 use Rattle.evaluator.specs.Rows.{Within}
 use Rattle.evaluator.specs.Spans.{Span}
 
-pub earlier-row : {states : List ℕ} {names b : ℕ} (a : ℕ) → a ≤ b → Within states names b → Within states names a
+pub earlier-row : {states : List ℕ} {names b : ℕ} (a : ℕ) → a ≤ b → Within states names b
+    → Within states names a
 earlier-row {states} {names} {b} a h w =
     let m = mul-le-mul-right names h in
     record {
@@ -30,14 +31,16 @@ earlier-row {states} {names} {b} a h w =
       codes = w .codes;
     }
 
-pub row-inside : {states : List ℕ} {names a b : ℕ} (m : ℕ) → m ≤ b → Span states names a b → Within states names m
+pub row-inside : {states : List ℕ} {names a b : ℕ} (m : ℕ) → m ≤ b → Span states names a b
+    → Within states names m
 row-inside m h w = earlier-row m h (w .last)
 
 pub span-of : {states : List ℕ} {names a b : ℕ} → a < b → Within states names b → Span states names a b
 span-of h w = record { some = h; last = w }
 
 -- one entry of a window more
-pub least-step : {i low x r : ℕ} (f : ℕ → ℕ) → low ≡ least i f → x ≡ f i → r ≡ min low x → r ≡ least (i + 1) f
+pub least-step : {i low x r : ℕ} (f : ℕ → ℕ) → low ≡ least i f → x ≡ f i → r ≡ min low x
+    → r ≡ least (i + 1) f
 unfolding least
 least-step f e d h = rw (add-one, ← e, ← d) h
 

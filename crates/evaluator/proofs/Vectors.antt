@@ -41,7 +41,8 @@ module _ {t : List ℕ} {names end : ℕ} (h : EndsVector t names end) where
   condition-is = condition-top names _ was (h .whole)
 
   -- from 56 on and no edge, it is 56 or 57
-  the-other : lastByte t end < 64 → 56 ≤ lastByte t end → (lastByte t end ≡ 56 → ⊥) → lastByte t end ≡ 57
+  the-other : lastByte t end < 64 → 56 ≤ lastByte t end → (lastByte t end ≡ 56 → ⊥)
+      → lastByte t end ≡ 57
   the-other j k n = let l = vector-class names _ was (h .whole) j in omega arith
 
   before-is : lastByte t end ≡ 57 → ConditionBeforeTop (stackAt t names (end - 1)) (stackAt t names end)
@@ -61,7 +62,8 @@ module _ {t : List ℕ} {names end : ℕ} (h : EndsVector t names end) where
   pub inner-ends : lastByte t end < 64 → Ends t names (end - 1)
   inner-ends j = go (below? (lastByte t end) 56) (equal? (lastByte t end) 56)
     where
-      go : (lastByte t end < 56) ⊎ (56 ≤ lastByte t end) → (lastByte t end ≡ 56) ⊎ (lastByte t end ≡ 56 → ⊥)
+      go : (lastByte t end < 56) ⊎ (56 ≤ lastByte t end)
+          → (lastByte t end ≡ 56) ⊎ (lastByte t end ≡ 56 → ⊥)
           → Ends t names (end - 1)
       go (inl e) q = of-vector (last-vector (join-is e .right))
       go (inr e) (inl d) = of-boolean (last-boolean (condition-is d .right))
@@ -114,7 +116,8 @@ module _ {t : List ℕ} {names end : ℕ} (h : EndsVector t names end) where
       unfolding answer
       condition-answer k e = rw (condition-is k .is, ← g .left) e
 
-      pub before-answer : {r : ℕ} → lastByte t end < 64 → 56 ≤ lastByte t end → (lastByte t end ≡ 56 → ⊥)
+      pub before-answer : {r : ℕ} → lastByte t end < 64 → 56 ≤ lastByte t end
+          → (lastByte t end ≡ 56 → ⊥)
           → r ≡ min (On (end - 1) a b) (Held m a b) → r ≡ On end a b
       unfolding answer
       before-answer j k n e = rw (before-is (the-other j k n) .is, ← g .left) e

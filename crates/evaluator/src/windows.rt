@@ -18,7 +18,8 @@ use trees::parts::start_of;
 fn edge_over(tree: &[u8], end: usize, k: u8, states: &[u8], names: usize, a: usize, b: usize) -> u8
     requires { ⌜ EndsBoolean (now tree) names end ⌝ }
     requires { ⌜ Span (now states) names a b ⌝ }
-    ensures { λ r. ⌜ r ≡ edgeOver (edgeAt k) (stateOf (now (tree .entry)) names (now (states .entry)) end) a b ⌝ }
+    ensures { λ r. ⌜ r ≡ edgeOver (edgeAt k)
+        (stateOf (now (tree .entry)) names (now (states .entry)) end) a b ⌝ }
 {
     let next = a + 1;
     if b != next {

@@ -51,7 +51,8 @@ nested-within limit n lo (t ∷ ts) r h k =
     omega (arith, ap (λ (d : ℕ). depth d (tokensOf ts)) (opens (t .code) n))
 
 pub shallow-depth :
-    {text : List ℕ} {ts : List Token} → Reads 0 text ts → ((p : ℕ) → deep ts p → ⊥) → depth 0 (tokensOf ts) ≤ 32
+    {text : List ℕ} {ts : List Token} → Reads 0 text ts → ((p : ℕ) → deep ts p → ⊥) →
+    depth 0 (tokensOf ts) ≤ 32
 shallow-depth {ts = ts} r never =
     nested-within 32 0 0 ts (reads-rising r) (omega arith) (λ p l. go p (below? 32 (running opened 0 ts p)))
   where

@@ -85,7 +85,8 @@ unfolding As given
 given-as (is x) f a e h k = k x h
 given-as (faulty p) f a e h k = tt
 
-if-as : (b : Bool) (q r : Sorted) (e : Tree) → (b ≡ true → As q e) → (b ≡ false → As r e) → As (if b then q else r) e
+if-as : (b : Bool) (q r : Sorted) (e : Tree) → (b ≡ true → As q e) → (b ≡ false → As r e)
+    → As (if b then q else r) e
 if-as true q r e h k = h refl
 if-as false q r e h k = k refl
 
@@ -117,11 +118,13 @@ one-as t a l h (boolean c) e =
 one-as t a l h (vector p) e = tt
 
 module _ (t : Token) (a b : Tree) (l : 40 ≤ t .code) (h : t .code < 54) where
-  pair : {x y : Tree} {c : ℕ} → t .code ≡ c → bare a ≡ x → bare b ≡ y → bare (two t a b) ≡ two (made c) x y
+  pair : {x y : Tree} {c : ℕ} → t .code ≡ c → bare a ≡ x → bare b ≡ y
+      → bare (two t a b) ≡ two (made c) x y
   unfolding bare
   pair k e f = λ i. two (made (k i)) (e i) (f i)
 
-  two-as : (x y : Expression) → bare a ≡ bare (treeOf x) → bare b ≡ bare (treeOf y) → As (ofTwo t x y) (two t a b)
+  two-as : (x y : Expression) → bare a ≡ bare (treeOf x) → bare b ≡ bare (treeOf y)
+      → As (ofTwo t x y) (two t a b)
   unfolding As ofTwo treeOf booleanTree vectorTree bare joinCode
   two-as (boolean c) (boolean d) e f =
       if-as (ltb (t .code) 50) (is (boolean (binary (binaryAt (t .code - 40)) c d))) (faulty (t .place)) (two t a b)

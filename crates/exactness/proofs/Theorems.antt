@@ -7,20 +7,18 @@
 --   gives-any      which names they are does not matter
 -- Assumes nothing.
 use Prim.Native.Nat.{ℕ}
-use mathlib.Core.Path.{_≡_, sym, ap, subst, _∙_}
+use mathlib.Core.Path.{_≡_, sym, subst}
 use mathlib.Core.Bool.{Bool, true, false}
 use mathlib.Core.List.{List}
 use lib.ListN.{length}
 use Rattle.alf.specs.declared.Sort.{Sort}
-use Rattle.alf.specs.Bytes.{bytesOf}
 use Rattle.alf.specs.Refusals.{Passed, NameCount, cannot-be}
-use Rattle.alf.proofs.Decoding.{bytes-decode}
 use Rattle.names.specs.Check.{namesOrder}
 use Rattle.trees.specs.Parts.{expressionAt}
 use Rattle.limits.specs.Accepted.{Accepted, Decides}
+use Rattle.limits.proofs.Acceptance.{accepted-bytes}
 use Rattle.reader.specs.Lookup.{countOf}
 use Rattle.writer.specs.Writing.{textAt}
-use Rattle.writer.proofs.Calls.{decoded}
 use Rattle.round_trip.proofs.Given.{written-gives}
 use Rattle.exactness.specs.Given.{TextFor, SomeText, Exactly}
 use Rattle.exactness.proofs.Sound.{gives-accepted}
@@ -36,12 +34,6 @@ pub given-accepted : {n : ℕ} {sort : Sort} {tree : List ℕ} → SomeText n so
 given-accepted {n} {sort} {tree} s =
     subst (λ (k : ℕ). Accepted k sort tree) (s .counted) (text-accepted (s .good) (s .given))
 
--- the expression that an accepted tree is has its bytes
-accepted-bytes : {n : ℕ} {sort : Sort} {tree : List ℕ} → Accepted n sort tree
-    → bytesOf (expressionAt tree n (length tree)) ≡ tree
-accepted-bytes {n} {tree = tree} a =
-    ap bytesOf (decoded n tree (a .expression) (a .decodes)) ∙ bytes-decode n tree (a .expression) (a .decodes)
-
 -- an accepted tree is given by its written text
 pub accepted-text : {names tree : List ℕ} {sort : Sort} → Passed (namesOrder names)
     → Accepted (countOf names) sort tree → TextFor names sort tree
@@ -53,7 +45,8 @@ accepted-text {names} {tree} good a =
       bytes = accepted-bytes a;
     }
 
-pub accepted-given : {n : ℕ} {sort : Sort} {tree : List ℕ} → NameCount n → Accepted n sort tree → SomeText n sort tree
+pub accepted-given : {n : ℕ} {sort : Sort} {tree : List ℕ} → NameCount n → Accepted n sort tree
+    → SomeText n sort tree
 accepted-given {n} {sort} {tree} (l, h) a =
     record {
       names = someNames n;
@@ -85,7 +78,8 @@ module _ {n : ℕ} (count : NameCount n) {sort : Sort} {tree : List ℕ} where
   exact-none = ((λ f s. f (given-accepted s)), (λ f a. f (accepted-given count a)))
 
 -- so what the code answers about a tree is whether some text gives it
-pub accepts-exact : {n : ℕ} → NameCount n → (sort : Sort) (tree : List ℕ) (b : Bool) → Decides b (Accepted n sort tree)
+pub accepts-exact : {n : ℕ} → NameCount n → (sort : Sort) (tree : List ℕ) (b : Bool)
+    → Decides b (Accepted n sort tree)
     → Decides b (SomeText n sort tree)
 unfolding Decides
 accepts-exact count sort tree true d = accepted-given count d

@@ -33,7 +33,8 @@ pub record Alike (l : ℕ) (us : List Token) (e : Tree) (rest : List Token) : Ty
   pub rest-codes : codesOf after ≡ codesOf rest
 
 codes-join :
-    (a b c d : List Token) → codesOf a ≡ codesOf c → codesOf b ≡ codesOf d → codesOf (a ++ b) ≡ codesOf (c ++ d)
+    (a b c d : List Token) → codesOf a ≡ codesOf c → codesOf b ≡ codesOf d →
+    codesOf (a ++ b) ≡ codesOf (c ++ d)
 codes-join a b c d e f = let s = map-append (λ (t : Token). t .code) in s a b ∙ (cc) ∙ sym (s c d)
 
 codes-snoc :
@@ -85,7 +86,8 @@ chosen-alike {t = t} {c = c} {a = a} {b = b} k k′ g f i f′ j =
       tree = three (f .token) (g .tree) (i .tree) (j .tree);
       after = j .after;
       parses =
-          chosen (into (f .split) (g .parses)) (like (f .code) k) (into (f′ .split) (i .parses)) (like (f′ .code) k′)
+          chosen (into (f .split) (g .parses)) (like (f .code) k) (into (f′ .split) (i .parses))
+          (like (f′ .code) k′)
           (j .parses);
       codes =
           codes-snoc ((nodes (g .tree) ++ nodes (i .tree)) ++ nodes (j .tree)) ((nodes c ++ nodes a) ++ nodes b)

@@ -9,7 +9,8 @@ use lib.ListN.{length, length-append}
 use Rattle.grammar.specs.declared.Token.{Token}
 use Rattle.grammar.specs.Tokens.{Kind, operand, prefix, question, colon, opening, closing, other, binary}
 use Rattle.grammar.specs.Tokens.{kindOf, ahead}
-use Rattle.grammar.specs.Grammar.{Tree, Parses, alone, applied, bracketed, up, joined, chosen, Expression, Begins}
+use Rattle.grammar.specs.Grammar.{Tree, Parses, alone, applied, bracketed, up, joined}
+use Rattle.grammar.specs.Grammar.{chosen, Expression, Begins}
 use Rattle.grammar.specs.Stops.{rank, starts, Stops, here, in-operand, in-bracket, unclosed, s-up, in-right}
 use Rattle.grammar.specs.Stops.{in-middle, no-colon, in-last}
 use Rattle.grammar.proofs.Table.{binary-level}
@@ -61,7 +62,8 @@ abbrev after : Next → Token → List Token → Verdict
 after bad t ts = no-at (t ∷ ts)
 after (to τ) t ts = run τ ts
 
-step : (σ : State) (t : Token) (ts : List Token) {k : Kind} → kindOf t ≡ k → run σ (t ∷ ts) ≡ after (next σ k) t ts
+step : (σ : State) (t : Token) (ts : List Token) {k : Kind} → kindOf t ≡ k
+    → run σ (t ∷ ts) ≡ after (next σ k) t ts
 step σ t ts e = go (next σ (kindOf t)) ∙ ap (λ (x : Kind). after (next σ x) t ts) e
   where
     go : (n : Next) → (elim n as (λ x. Verdict) [ bad ↦ no-at (t ∷ ts) | to τ ↦ run τ ts ]) ≡ after n t ts
@@ -123,7 +125,8 @@ have-bad (false ∷ S) closing h b n = refl
 have-bad S other h b n = refl
 have-bad S (binary l) h b n = let z = b l refl in absurd (omega arith)
 
-bad-run : (σ : State) (t : Token) (ts : List Token) → next σ (kindOf t) ≡ bad → run σ (t ∷ ts) ≡ no-at (t ∷ ts)
+bad-run : (σ : State) (t : Token) (ts : List Token) → next σ (kindOf t) ≡ bad
+    → run σ (t ∷ ts) ≡ no-at (t ∷ ts)
 bad-run σ t ts e = step σ t ts refl ∙ ap (λ (n : Next). after n t ts) e
 
 want-stop : (S : List Bool) (ts : List Token) → starts (ahead ts) ≡ false → run (want S) ts ≡ no-at ts
@@ -136,7 +139,8 @@ have-next : (S : List Bool) (t : Token) (ts : List Token) → 6 < rank (kindOf t
 have-next S t ts h n =
     bad-run (have S) t ts (have-bad S (kindOf t) h (λ m e. binary-level (t .code) m e .1) n)
 
-have-stop : (b : Bool) (S : List Bool) (ts : List Token) → 6 < rank (ahead ts) → ¬ (Closes (b ∷ S) (ahead ts)) →
+have-stop : (b : Bool) (S : List Bool) (ts : List Token) → 6 < rank (ahead ts) →
+    ¬ (Closes (b ∷ S) (ahead ts)) →
     run (have (b ∷ S)) ts ≡ no-at ts
 have-stop b S [] h n = refl
 have-stop b S (t ∷ ts) h n = have-next (b ∷ S) t ts h n
@@ -197,7 +201,8 @@ local σ (p ∷ pre) r s t e =
 
     go :
         (n : Next) →
-        ((τ : State) → run τ (pre ++ (t ∷ r)) ≡ no-at (t ∷ r) → run τ (pre ++ (t ∷ s)) ≡ no-at (t ∷ s)) →
+        ((τ : State) → run τ (pre ++ (t ∷ r)) ≡ no-at (t ∷ r)
+        → run τ (pre ++ (t ∷ s)) ≡ no-at (t ∷ s)) →
         after n p (pre ++ (t ∷ r)) ≡ no-at (t ∷ r) →
         after n p (pre ++ (t ∷ s)) ≡ no-at (t ∷ s)
     go bad ih f = absurd (too-long (cc))
@@ -205,7 +210,8 @@ local σ (p ∷ pre) r s t e =
 
 -- so with that token nothing begins
 never-begins :
-    (pre r : List Token) (t : Token) → run (want []) (pre ++ (t ∷ r)) ≡ no-at (t ∷ r) → Begins (pre ++ (t ∷ [])) → ⊥
+    (pre r : List Token) (t : Token) → run (want []) (pre ++ (t ∷ r)) ≡ no-at (t ∷ r) →
+    Begins (pre ++ (t ∷ [])) → ⊥
 never-begins pre r t h b =
     let a : accept ≡ no-at (t ∷ b .more) =
     sym (parses-run (rw append-assoc at (b .whole)) []) ∙ local (want []) pre r (b .more) t h

@@ -19,7 +19,8 @@ use Rattle.grammar.proofs.Written.{written-leaf, written-one, written-t
 
 -- a token on the way
 next :
-    (d : ℕ) (t : Token) (ts : List Token) {k : Kind} → kindOf t ≡ k → depth d (t ∷ ts) ≡ max d (depth (opened k d) ts)
+    (d : ℕ) (t : Token) (ts : List Token) {k : Kind} → kindOf t ≡ k →
+    depth d (t ∷ ts) ≡ max d (depth (opened k d) ts)
 unfolding depth
 next d t ts e = ap (λ (x : Kind). max d (depth (opened x d) ts)) e
 

@@ -56,7 +56,8 @@ examples =
     -- ( 01 A -> 10 B ) & C
     ∷ shows (and (follow (rise n) (fall n)) n) (62 ∷ 75 ∷ 0 ∷ 50 ∷ 83 ∷ 0 ∷ 63 ∷ 40 ∷ 0 ∷ [])
     -- 10 C & ( 01 A -> 10 B )
-    ∷ shows (and (fall n) (follow (rise n) (fall n))) (83 ∷ 0 ∷ 40 ∷ 62 ∷ 75 ∷ 0 ∷ 50 ∷ 83 ∷ 0 ∷ 63 ∷ [])
+    ∷ shows (and (fall n) (follow (rise n) (fall n)))
+    (83 ∷ 0 ∷ 40 ∷ 62 ∷ 75 ∷ 0 ∷ 50 ∷ 83 ∷ 0 ∷ 63 ∷ [])
     -- 01 ( A & B )
     ∷ shows (rise (and n n)) (75 ∷ 62 ∷ 0 ∷ 40 ∷ 0 ∷ 63 ∷ [])
     -- ! 01 A and 01 01 A: the grammar knows no sorts

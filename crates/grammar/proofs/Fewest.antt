@@ -49,7 +49,8 @@ fitted-brackets l m ts = go (leb m l)
   where
     go :
         (b : Bool) →
-        brackets (if b then ts else made 62 ∷ (ts ++ (made 63 ∷ []))) ≡ (if b then brackets ts else suc (brackets ts))
+        brackets (if b then ts else made 62 ∷ (ts ++ (made 63 ∷ []))) ≡
+        (if b then brackets ts else suc (brackets ts))
     go true = refl
     go false = around ts
 
@@ -130,7 +131,8 @@ written-fewest (chosen {t = t} {u = u} {us = us} {vs = vs} {c = c} {a = a} {b = 
 
 -- counted tokens are nodes
 pub counted-nodes :
-    {l : ℕ} {ts rest : List Token} {e : Tree} → Parses l ts e rest → counted ts ≡ length (nodes e) + counted rest
+    {l : ℕ} {ts rest : List Token} {e : Tree} → Parses l ts e rest →
+    counted ts ≡ length (nodes e) + counted rest
 unfolding nodes counted weight
 counted-nodes (alone k) = rw k (omega arith)
 counted-nodes (applied {t = t} {a = a} k p) = rw k (omega (arith, counted-nodes p, length-append (nodes a) (t ∷ [])))

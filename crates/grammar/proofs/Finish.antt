@@ -64,7 +64,8 @@ full f = record { below = omega (arith, used-small (f .fine)); whole = f .fine .
 
 -- what it ends in is the answer
 ends-tree :
-    {ts x out : List Token} {bytes : ℕ} {r : Parsed} → Ends ts (going x out) → r ≡ accepted out → Answer ts bytes r
+    {ts x out : List Token} {bytes : ℕ} {r : Parsed} → Ends ts (going x out) → r ≡ accepted out →
+    Answer ts bytes r
 ends-tree (whole p e) q = tree p (q ∙ ap accepted e)
 
 ends-refused :

@@ -39,7 +39,8 @@ some-operand : {s : List Token} → Parses 6 (some-name ∷ s) (leaf some-name) 
 some-operand = up (up (up (up (up (alone is-name)))))
 
 -- lists put together
-seam : (a b c ts us : List Token) (o : Token) → ts ≡ a ++ (o ∷ us) → us ≡ b ++ c → ts ≡ (a ++ (o ∷ b)) ++ c
+seam : (a b c ts us : List Token) (o : Token) → ts ≡ a ++ (o ∷ us) → us ≡ b ++ c
+    → ts ≡ (a ++ (o ∷ b)) ++ c
 seam a b c ts us o e f = simp (e, f, append-assoc)
 
 first-seam : (a b ts : List Token) (o : Token) → ts ≡ a ++ b → o ∷ ts ≡ (o ∷ a) ++ b

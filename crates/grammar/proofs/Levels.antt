@@ -40,7 +40,8 @@ unfolding nodes
 prefix-at t ts out k (read {out′ = x} {e = a} p q e) = read (applied k p) q (snoc x out (nodes a) t e)
 prefix-at t ts out k (stop s) = stop (in-operand k s)
 
-pub reads-prefix : {w : View} (v : View) → aheadV v ≡ prefix → Does 1 1 (past v) w → Does 1 1 v (push (headV v) w)
+pub reads-prefix : {w : View} (v : View) → aheadV v ≡ prefix → Does 1 1 (past v) w
+    → Does 1 1 v (push (headV v) w)
 reads-prefix (going [] out) e d = let z : _≡_ {A = ℕ} 0 1 = cc in absurd (omega arith)
 reads-prefix (going (t ∷ ts) out) e d = prefix-at t ts out e d
 reads-prefix (stopped ts) e d = let z : _≡_ {A = ℕ} 0 1 = cc in absurd (omega arith)
@@ -107,7 +108,8 @@ joins {l} h (read {rest = t ∷ us} p q e) f d = joins-at p (rank-binary (kindOf
 joins {l} h (stop s) f d = absurd (omega (arith, f))
 joins {l} h still f d = absurd (omega (arith, f))
 
-pub level-done : {l : ℕ} {v w : View} → Does (suc l) l v w → ¬ (rank (aheadV w) ≡ suc l) → Does (suc l) (suc l) v w
+pub level-done : {l : ℕ} {v w : View} → Does (suc l) l v w → ¬ (rank (aheadV w) ≡ suc l)
+    → Does (suc l) (suc l) v w
 level-done (read p q e) n = read p (omega arith) e
 level-done (stop s) n = stop s
 level-done still n = still

@@ -19,7 +19,6 @@ pub mod Goes
 pub mod Refusals
 pub mod Ranks
 pub mod Levels
-pub mod Ranges
 pub mod Lists
 pub mod Steps
 pub mod Runs

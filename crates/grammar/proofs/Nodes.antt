@@ -3,7 +3,8 @@
 use mathlib.Core.Path.{_≡_, sym, ap, _∙_}
 use mathlib.Core.List.{List, [], _∷_, _++_, append-assoc, append-nil}
 use Rattle.grammar.specs.declared.Token.{Token}
-use Rattle.grammar.specs.Tokens.{Kind, operand, prefix, question, colon, opening, closing, other, binary, kindOf}
+use Rattle.grammar.specs.Tokens.{Kind, operand, prefix, question, colon, opening, closing}
+use Rattle.grammar.specs.Tokens.{other, binary, kindOf}
 use Rattle.grammar.specs.Grammar.{Tree, leaf, one, two, three, nodes}
 use Rattle.grammar.specs.Written.{Formed, leaf-is, one-is, two-is, three-is}
 
@@ -34,7 +35,8 @@ put-law :
     rebuilt (t ∷ ts) S ≡ rebuilt ts (put k t S)
 put-law t ts S e = ap (λ (x : Kind). rebuilt ts (put x t S)) e
 
-rebuilds : {e : Tree} → Formed e → (ts : List Token) (S : List Tree) → rebuilt (nodes e ++ ts) S ≡ rebuilt ts (e ∷ S)
+rebuilds : {e : Tree} → Formed e → (ts : List Token) (S : List Tree)
+    → rebuilt (nodes e ++ ts) S ≡ rebuilt ts (e ∷ S)
 unfolding nodes
 rebuilds (leaf-is {t = t} k) ts S = put-law t ts S k
 rebuilds (one-is {t = t} {a = a} k f) ts S =

@@ -21,7 +21,8 @@ pub padded-none : replicate 256 0 ≡ padded []
 unfolding padded
 padded-none = refl
 
-pub padded-set : (xs : List ℕ) (v : ℕ) → length xs < 256 → set (padded xs) (length xs) v ≡ padded (xs ++ (v ∷ []))
+pub padded-set : (xs : List ℕ) (v : ℕ) → length xs < 256
+    → set (padded xs) (length xs) v ≡ padded (xs ++ (v ∷ []))
 unfolding padded
 padded-set xs v h =
     let e : 256 - length xs ≡ suc (256 - length (xs ++ (v ∷ []))) = omega (arith, length-append xs (v ∷ [])) in
@@ -52,7 +53,8 @@ accepted-all ns n codes places h e f = rw (e, f, length-take-le n ns h)
 
 -- the place of the token at a number
 place-in :
-    (cs ps : List ℕ) (i bytes : ℕ) → i < length cs → i < length ps → getD ps i 0 ≡ placeOf bytes (drop i (tokens cs ps))
+    (cs ps : List ℕ) (i bytes : ℕ) → i < length cs → i < length ps →
+    getD ps i 0 ≡ placeOf bytes (drop i (tokens cs ps))
 unfolding tokens
 place-in [] ps i bytes h k = absurd (omega arith)
 place-in (c ∷ cs) [] i bytes h k = absurd (omega arith)
@@ -60,11 +62,13 @@ place-in (c ∷ cs) (p ∷ ps) zero bytes h k = refl
 place-in (c ∷ cs) (p ∷ ps) (suc i) bytes h k = place-in cs ps i bytes (omega arith) (omega arith)
 
 pub placeAt-of :
-    (cs ps : List ℕ) (i bytes : ℕ) → length ps ≡ length cs → placeAt ps i bytes ≡ placeOf bytes (drop i (tokens cs ps))
+    (cs ps : List ℕ) (i bytes : ℕ) → length ps ≡ length cs →
+    placeAt ps i bytes ≡ placeOf bytes (drop i (tokens cs ps))
 unfolding placeAt
 placeAt-of cs ps i bytes e = go (ltb i (length ps)) refl
   where
-    go : (b : Bool) → ltb i (length ps) ≡ b → (if b then getD ps i 0 else bytes) ≡ placeOf bytes (drop i (tokens cs ps))
+    go : (b : Bool) → ltb i (length ps) ≡ b
+        → (if b then getD ps i 0 else bytes) ≡ placeOf bytes (drop i (tokens cs ps))
     go true h = let k = ltb-true i (length ps) h in place-in cs ps i bytes (omega arith) k
     go false h =
         let k = ltb-false i (length ps) h in

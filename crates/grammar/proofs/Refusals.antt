@@ -30,7 +30,8 @@ stops-refused {rest = t ∷ r} s =
 
 -- a token after a whole expression
 pub trailing-refused :
-    {ts r : List Token} {t : Token} {e : Tree} → Parses 6 ts e (t ∷ r) → 6 < rank (kindOf t) → Refused ts (t ∷ r)
+    {ts r : List Token} {t : Token} {e : Tree} → Parses 6 ts e (t ∷ r) → 6 < rank (kindOf t) →
+    Refused ts (t ∷ r)
 trailing-refused {r = r} {t = t} p h =
     let c = cut p in
     at-token (c .split) (cut-begins c) (stuck-after (c .pre) r t (rw (c .split) at p) h)

@@ -69,7 +69,8 @@ not-before-end b h (with-token c d u s q n) = n (begins-with c d u (rw s at b))
 not-before-end b h (with-end q n) = omega arith
 
 refused-row :
-    {ts rest : List Token} {bytes : ℕ} → Rising bytes ts → Refused ts rest → First (Stuck ts bytes) (placeOf bytes rest)
+    {ts rest : List Token} {bytes : ℕ} → Rising bytes ts → Refused ts rest →
+    First (Stuck ts bytes) (placeOf bytes rest)
 refused-row rise (at-token {before = a} {rest = r} {t = t} s b n) =
     record {
       given = with-token a r t s refl n;
@@ -98,7 +99,8 @@ module _ {ts : List Token} {bytes : ℕ} {r : Parsed} where
       let (rest, s, e) = refuse-sound a o in rw e (refused-row rise s)
 
   -- where the row is given, it refuses at that place
-  pub row-complete : {p : ℕ} → Rising bytes ts → Answer ts bytes r → no-grammar (Stuck ts bytes) p → r ≡ refusedAt p
+  pub row-complete : {p : ℕ} → Rising bytes ts → Answer ts bytes r → no-grammar (Stuck ts bytes) p
+      → r ≡ refusedAt p
   row-complete rise (tree x e) f = absurd (expression-free x (f .given))
   row-complete rise (no-tree s e) f = e ∙ ap refusedAt (first-unique (refused-row rise s) f)
 

@@ -7,7 +7,8 @@ use mathlib.Core.Path.{_≡_, refl, sym, _∙_}
 use mathlib.Core.List.{List}
 use Rattle.grammar.specs.declared.Token.{Token}
 use Rattle.grammar.specs.declared.State.{State}
-use Rattle.grammar.specs.Tokens.{Kind, operand, prefix, question, colon, opening, closing, other, binary, weight}
+use Rattle.grammar.specs.Tokens.{Kind, operand, prefix, question, colon, opening, closing}
+use Rattle.grammar.specs.Tokens.{other, binary, weight}
 use Rattle.grammar.specs.Stops.{rank}
 use Rattle.grammar.specs.Views.{View, aheadV, Does}
 use Rattle.grammar.specs.Inner.{view, used, Fine, Moved, Seen, Ranked, Stepped, Room, Emitted, Halted, Ate, Ran}
@@ -61,7 +62,8 @@ moved-on p q m = record { fine = m .fine; on = omega arith; grown = omega arith 
 room : {ts : List Token} {s : State} → Fine ts s → s .len < used ts s → Room ts s
 room f h = record { fine = f; spare = h; below = omega (arith, used-small f) }
 
-module _ {ts : List Token} {s a : State} {k : ℕ} (f : Fine ts s) (rk : Ranked ts s k) (h : k < 61) (st : Stepped ts s a)
+module _ {ts : List Token} {s a : State} {k : ℕ} (f : Fine ts s) (rk : Ranked ts s k) (h : k < 61)
+    (st : Stepped ts s a)
   where
     pub room-one : Room ts a
     room-one = room (st .fine) (omega (arith, counts rk h))
@@ -80,7 +82,8 @@ module _ {ts : List Token} {s : State} {k : ℕ} {t : Token} (rk : Ranked ts s k
       ran (by-emit em (omega arith) (omega arith))
       (rw (em .is, st .is, sn .is) (reads-operand (view ts s) (kind-is rk e)))
 
-  pub ran-prefix : {a b r : State} → k ≡ 33 → Stepped ts s a → Ran 1 ts a b → Emitted ts t b r → Ran 1 ts s r
+  pub ran-prefix : {a b r : State} → k ≡ 33 → Stepped ts s a → Ran 1 ts a b → Emitted ts t b r
+      → Ran 1 ts s r
   ran-prefix e st rn em =
       let w = counts rk (omega arith) in
       ran (by-emit em (omega arith) (omega arith))

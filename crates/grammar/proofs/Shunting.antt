@@ -121,7 +121,8 @@ abbrev after : Next → List Token → Verdict
 after bad ts = none
 after (to τ) ts = run τ ts
 
-step : (σ : State) (t : Token) (ts : List Token) {k : Kind} → kindOf t ≡ k → run σ (t ∷ ts) ≡ after (next σ k t) ts
+step : (σ : State) (t : Token) (ts : List Token) {k : Kind} → kindOf t ≡ k
+    → run σ (t ∷ ts) ≡ after (next σ k t) ts
 step σ t ts {k} e = go (next σ (kindOf t) t) ∙ ap (λ (x : Kind). after (next σ x t) ts) e
   where
     go : (n : Next) → (elim n as (λ x. Verdict) [ bad ↦ none | to τ ↦ run τ ts ]) ≡ after n ts
@@ -168,7 +169,8 @@ shunt (alone {t = t} {ts = ts} k) q S h = step (want S) t ts k
 shunt (applied {t = t} {ts = ts} {rest = rest} {a = a} k p) q S h =
     step (want S) t ts k ∙ shunt p q (f-one t ∷ S) (lit< tt) ∙ same a (one t a) (f-one t ∷ S) S rest refl
 shunt (bracketed {t = t} {u = u} {ts = ts} {rest = rest} {e = e} k p k′) q S h =
-    step (want S) t ts k ∙ shunt p (rw k′ (lit≤ tt)) (f-par ∷ S) (lit< tt) ∙ step (have e (f-par ∷ S)) u rest k′
+    step (want S) t ts k ∙ shunt p (rw k′ (lit≤ tt)) (f-par ∷ S) (lit< tt)
+    ∙ step (have e (f-par ∷ S)) u rest k′
 shunt (up p) q S h = shunt p (omega arith) S (omega arith)
 shunt (joined {l = l} {t = t} {us = us} {rest = rest} {a = a} {b = b} p k r) q S h =
     shunt p (rw k (omega arith)) S h

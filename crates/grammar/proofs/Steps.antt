@@ -65,9 +65,11 @@ pub here-law : (ts : List Token) (s : State) → rank (aheadV (view ts s)) < 99 
 unfolding view
 here-law ts s h = in-view ts s (s .ok) refl h
 
-pub ranked-law : {ts : List Token} {s : State} {t : Token} {k : ℕ} → Seen ts s t → k ≡ rank (kindOf t) → Ranked ts s k
+pub ranked-law : {ts : List Token} {s : State} {t : Token} {k : ℕ} → Seen ts s t → k ≡ rank (kindOf t)
+    → Ranked ts s k
 ranked-law {ts} {s} {t} {k} sn e =
-    let is : k ≡ rank (aheadV (view ts s)) = e ∙ ap (λ x. rank (kindOf x)) (sn .is) ∙ ap rank (head-kind (view ts s)) in
+    let is : k ≡ rank (aheadV (view ts s)) =
+    e ∙ ap (λ x. rank (kindOf x)) (sn .is) ∙ ap rank (head-kind (view ts s)) in
     record { is = is; here = λ h. here-law ts s (omega arith) }
 
 -- step

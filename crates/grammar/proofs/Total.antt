@@ -165,7 +165,8 @@ settled : {ts : List Token} {v : View} → Ends ts v →
 settled (whole {e = e} p q) = inl (e, p)
 settled (refused {rest = rest} s) = inr (rest, s)
 
-pub parsed-or-refused : (ts : List Token) → ((e : Tree) × Expression ts e) ⊎ ((rest : List Token) × Refused ts rest)
+pub parsed-or-refused : (ts : List Token)
+    → ((e : Tree) × Expression ts e) ⊎ ((rest : List Token) × Refused ts rest)
 parsed-or-refused ts =
     let r = reach (length ts) (going ts []) (omega arith) 6 (lit≤ tt) (lit≤ tt) in
     go (r .to) (left (r .to)) refl (r .does)

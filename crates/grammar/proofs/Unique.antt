@@ -58,7 +58,8 @@ no-further a r c d (x ∷ m) t p q b n =
 
 -- one place
 pub refused-unique : {ts rest rest′ : List Token} → Refused ts rest → Refused ts rest′ → rest ≡ rest′
-refused-unique (at-token {before = a} {rest = r} {t = t} s b n) (at-token {before = c} {rest = r′} {t = u} s′ b′ n′) =
+refused-unique (at-token {before = a} {rest = r} {t = t} s b n)
+    (at-token {before = c} {rest = r′} {t = u} s′ b′ n′) =
     go (parts a (t ∷ r) c (u ∷ r′) (sym s ∙ s′))
   where
     go : Parts a (t ∷ r) c (u ∷ r′) → t ∷ r ≡ u ∷ r′

@@ -34,8 +34,10 @@ starts (binary l) = false
 -- `Stops l ts rest`: no expression of level l begins ts, and rest begins with the token (or is the end) that shows it
 pub data Stops : ℕ → List Token → List Token → Type 0 where
   here : {ts : List Token} → starts (ahead ts) ≡ false → Stops 1 ts ts
-  in-operand : {t : Token} {ts rest : List Token} → kindOf t ≡ prefix → Stops 1 ts rest → Stops 1 (t ∷ ts) rest
-  in-bracket : {t : Token} {ts rest : List Token} → kindOf t ≡ opening → Stops 6 ts rest → Stops 1 (t ∷ ts) rest
+  in-operand : {t : Token} {ts rest : List Token} → kindOf t ≡ prefix → Stops 1 ts rest
+      → Stops 1 (t ∷ ts) rest
+  in-bracket : {t : Token} {ts rest : List Token} → kindOf t ≡ opening → Stops 6 ts rest
+      → Stops 1 (t ∷ ts) rest
   unclosed :
       {t : Token} {ts rest : List Token} {e : Tree} →
       kindOf t ≡ opening →

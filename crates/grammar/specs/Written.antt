@@ -7,7 +7,8 @@ use mathlib.Core.List.{List, [], _∷_, _++_}
 use lib.Dec.{leb}
 use Rattle.alf.specs.Words.{if_then_else_}
 use Rattle.grammar.specs.declared.Token.{Token}
-use Rattle.grammar.specs.Tokens.{Kind, operand, prefix, question, colon, opening, closing, other, binary, kindOf}
+use Rattle.grammar.specs.Tokens.{Kind, operand, prefix, question, colon, opening, closing}
+use Rattle.grammar.specs.Tokens.{other, binary, kindOf}
 use Rattle.grammar.specs.Grammar.{Tree, leaf, one, two, three}
 
 -- a token that the writer puts in, whose place does not matter: 61 is `:`, 62 `(`, 63 `)`
@@ -42,9 +43,11 @@ pub data Formed : Tree → Type 0 where
   leaf-is : {t : Token} → kindOf t ≡ operand → Formed (leaf t)
   one-is : {t : Token} {a : Tree} → kindOf t ≡ prefix → Formed a → Formed (one t a)
   two-is :
-      {l : ℕ} {t : Token} {a b : Tree} → kindOf t ≡ binary (suc l) → Formed a → Formed b → Formed (two t a b)
+      {l : ℕ} {t : Token} {a b : Tree} → kindOf t ≡ binary (suc l) → Formed a → Formed b →
+      Formed (two t a b)
   three-is :
-      {t : Token} {c a b : Tree} → kindOf t ≡ question → Formed c → Formed a → Formed b → Formed (three t c a b)
+      {t : Token} {c a b : Tree} → kindOf t ≡ question → Formed c → Formed a → Formed b →
+      Formed (three t c a b)
 
 -- how many brackets open
 abbrev pub opens : Kind → ℕ

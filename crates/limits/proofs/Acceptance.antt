@@ -1,6 +1,7 @@
 -- A tree is accepted exactly if the tests of its kind, its nodes, its brackets and its size say so.
 -- Main names: is-over; shallow-yes, shallow-no; too-many, no-tree, not-vector, not-boolean, boolean-accepts,
--- vector-accepts, over-accepts; decides-unique; accepted-boolean, accepted-vector. Assumes nothing.
+-- vector-accepts, over-accepts; decides-unique; decoded, accepted-bytes, accepted-boolean, accepted-vector.
+-- Assumes nothing.
 use Prim.Native.Nat.{ℕ, _<_, _≤_, min}
 use native.Mathlib.Omega.{arith}
 use mathlib.Core.Path.{_≡_, refl, ap, sym, _∙_}
@@ -8,12 +9,12 @@ use mathlib.Core.Bool.{Bool, true, false}
 use mathlib.Core.List.{List}
 use lib.ListN.{length}
 use Rattle.alf.specs.Expressions.{Vector, Expression, boolean, vector}
-use Rattle.alf.specs.Bytes.{topVector, isBoolean, isVector, Decodes}
+use Rattle.alf.specs.Bytes.{bytesOf, topVector, isBoolean, isVector, Decodes}
 use Rattle.alf.specs.Alternatives.{alternatives, overLimit}
 use Rattle.alf.specs.declared.Sort.{Sort}
 use Rattle.alf.specs.declared.Sort.the-variants as sort
 use Rattle.alf.proofs.Bools.{never}
-use Rattle.alf.proofs.Decoding.{decode-unique}
+use Rattle.alf.proofs.Decoding.{bytes-decode, decode-unique}
 use Rattle.trees.specs.declared.sorts.Kind.the-variants as kind
 use Rattle.trees.specs.Parts.{isWhole, top, Ends, EndsBoolean, EndsVector}
 use Rattle.trees.specs.Parts.{expressionAt, vectorAt}
@@ -24,6 +25,7 @@ use Rattle.limits.specs.declared.sizes.Measured.{Measured}
 use Rattle.limits.specs.declared.sizes.Measured.the-variants.{Over, Within}
 use Rattle.limits.specs.Sizes.{measured}
 use Rattle.limits.specs.Accepted.{sortOf, overSize, Accepted, Shallow, Limited, Decides}
+use Rattle.limits.proofs.Deciding.{same-decided}
 
 -- the answer of the size
 isOver : Measured → Bool
@@ -56,22 +58,23 @@ pub shallow-no : (x : ℕ) {d : ℕ} → d ≡ min 33 x → 32 < d → Decides f
 unfolding Decides
 shallow-no x e l = λ h. omega arith
 
--- two tests of the same thing answer alike
-decides-same : {P Q : Type 0} (r : Bool) → (P → Q) → (Q → P) → Decides r P → Decides r Q
-unfolding Decides
-decides-same true f g h = f h
-decides-same false f g h = λ q. h (g q)
-
 isVectorSort : Sort → Bool
 isVectorSort sort.Boolean = false
 isVectorSort sort.Vector = true
 
-module _ (t : List ℕ) (names : ℕ) where
-  -- the expression that a tree is, at its end
-  at-end : (e : Expression) → Decodes names t e → expressionAt t names (length t) ≡ e
-  unfolding Decodes top
-  at-end e h = ap top h
+-- the expression that a tree is, at its end
+pub decoded : (n : ℕ) (tree : List ℕ) (e : Expression) → Decodes n tree e
+    → expressionAt tree n (length tree) ≡ e
+unfolding Decodes top
+decoded n tree e h = ap top h
 
+-- the expression that an accepted tree is has its bytes
+pub accepted-bytes : {n : ℕ} {sort : Sort} {tree : List ℕ} → Accepted n sort tree
+    → bytesOf (expressionAt tree n (length tree)) ≡ tree
+accepted-bytes {n} {tree = tree} a =
+    ap bytesOf (decoded n tree (a .expression) (a .decodes)) ∙ bytes-decode n tree (a .expression) (a .decodes)
+
+module _ (t : List ℕ) (names : ℕ) where
   vector-at-end : (p : Vector) → Decodes names t (vector p) → vectorAt t names (length t) ≡ p
   unfolding Decodes topVector
   vector-at-end p h = ap topVector h
@@ -96,7 +99,7 @@ module _ (t : List ℕ) (names : ℕ) where
 
   module _ (s : Sort) where
     shallow : Accepted names s t → Shallow t names
-    shallow a = rw (at-end (a .expression) (a .decodes)) (a .brackets)
+    shallow a = rw (decoded names t (a .expression) (a .decodes)) (a .brackets)
 
     pub too-many : 256 < length t → Decides false (Accepted names s t)
     unfolding Decides
@@ -123,13 +126,13 @@ module _ (t : List ℕ) (names : ℕ) where
     unfolding Holds sortOf overSize
     boolean-accepts r k e l =
         let (c, h) = is-boolean k in
-        decides-same r
+        same-decided (Shallow t names) (Accepted names s t) r
         (λ d. record {
           expression = boolean c;
           decodes = h;
           sorted = sym e;
           tokens = l;
-          brackets = rw (at-end (boolean c) h) at d;
+          brackets = rw (decoded names t (boolean c) h) at d;
           sized = refl;
         })
         shallow
@@ -141,13 +144,13 @@ module _ (t : List ℕ) (names : ℕ) where
       unfolding Holds sortOf overSize Decides
       vector-accepts r e l f =
           let (p, h) = is-vector k in
-          decides-same r
+          same-decided (Shallow t names) (Accepted names s t) r
           (λ d. record {
             expression = vector p;
             decodes = h;
             sorted = sym e;
             tokens = l;
-            brackets = rw (at-end (vector p) h) at d;
+            brackets = rw (decoded names t (vector p) h) at d;
             sized = rw (vector-at-end p h) at f;
           })
           shallow

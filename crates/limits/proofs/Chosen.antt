@@ -67,7 +67,8 @@ module _ (t : List ℕ) (names end a : ℕ) (h : Chosen t names end a) where
         few = rw (e, number-while) at (h .few);
       }
 
-  pub before-shape : {s n s′ n′ : ℕ} → getD t (end - 1) 0 ≡ 57 → Shaped (alternativeAt t names (end - 1) a) s n
+  pub before-shape : {s n s′ n′ : ℕ} → getD t (end - 1) 0 ≡ 57
+      → Shaped (alternativeAt t names (end - 1) a) s n
       → Held s n s′ n′ → Shaped (alternativeAt t names end a) s′ n′
   before-shape k x y =
       rw (before-is t names end (h .ends) k, while-at _ _ _ a (before-chosen k .there)) (y .given _ _ x)
@@ -87,7 +88,8 @@ module _ (t : List ℕ) (names end a : ℕ) (h : Chosen t names end a) where
 
   -- P j Q
   module _ {m x y : ℕ} (j : Joined t names end m) (e : Number t names m x) (d : Number t names (end - 1) y) where
-    few : (numberOfAlternatives (vectorAt t names m) ≤ 64) × (numberOfAlternatives (vectorAt t names (end - 1)) ≤ 64)
+    few : (numberOfAlternatives (vectorAt t names m) ≤ 64)
+        × (numberOfAlternatives (vectorAt t names (end - 1)) ≤ 64)
     few = few-operands _ _ _ (number-some _) (number-some _) (rw (j .is, number-join) at (h .few))
 
     left-is : x ≡ numberOfAlternatives (vectorAt t names m)

@@ -23,7 +23,8 @@ pub number-edge : (e : Edge) (c : Boolean) → numberOfAlternatives (edge e c) �
 unfolding numberOfAlternatives alternatives
 number-edge e c = refl
 
-pub number-while : (s : Side) (p : Vector) (c : Boolean) → numberOfAlternatives (while s p c) ≡ numberOfAlternatives p
+pub number-while : (s : Side) (p : Vector) (c : Boolean)
+    → numberOfAlternatives (while s p c) ≡ numberOfAlternatives p
 unfolding numberOfAlternatives alternatives
 number-while s p c = length-map (alternatives p) (conditioned c)
 
@@ -71,7 +72,8 @@ cap-count any-order n m p q = let e = cap-product n m p q in omega arith
 cap-count with n m p q = cap-product n m p q
 cap-count or-else n m p q = omega arith
 
-once : (n m k : ℕ) → k < 6 → (k ≡ 5 → ⊥) → (k ≡ 3 → ⊥) → (k ≡ 1 → ⊥) → (k ≡ 2 → ⊥) → countOf (joinAt k) n m ≡ n * m
+once : (n m k : ℕ) → k < 6 → (k ≡ 5 → ⊥) → (k ≡ 3 → ⊥) → (k ≡ 1 → ⊥) → (k ≡ 2 → ⊥)
+    → countOf (joinAt k) n m ≡ n * m
 unfolding joinAt countOf
 once n m zero l f g h i = refl
 once n m (suc zero) l f g h i = absurd (h refl)
@@ -98,7 +100,8 @@ module _ {b : ℕ} (n m : ℕ) where
   unfolding joinAt countOf
   count-with-or-then e = rw (at-byte e refl) refl
 
-  pub count-once : 50 ≤ b → b < 56 → (b ≡ 55 → ⊥) → (b ≡ 53 → ⊥) → (b ≡ 51 → ⊥) → (b ≡ 52 → ⊥)
+  pub count-once : 50 ≤ b → b < 56 → (b ≡ 55 → ⊥) → (b ≡ 53 → ⊥) → (b ≡ 51 → ⊥)
+      → (b ≡ 52 → ⊥)
       → countOf (joinAt (b - 50)) n m ≡ n * m
   count-once l u f g h i =
       once n m (b - 50) (omega arith) (λ e. f (omega arith)) (λ e. g (omega arith)) (λ e. h (omega arith))

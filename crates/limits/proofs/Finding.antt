@@ -40,7 +40,8 @@ module _ {b n m v : ℕ} (h : PickingOn b n m v) where
       rw j (second-with-or-then n m v (h .operands .some-left) (h .operands .some-right) (omega arith))
 
   -- another operator has no second block, but for <&>
-  only-any : (k : ℕ) → k < 5 → (k ≡ 1 → ⊥) → (k ≡ 2 → ⊥) → n * m + v < countOf (joinAt k) n m → joinAt k ≡ any-order
+  only-any : (k : ℕ) → k < 5 → (k ≡ 1 → ⊥) → (k ≡ 2 → ⊥) → n * m + v < countOf (joinAt k) n m
+      → joinAt k ≡ any-order
   unfolding joinAt countOf
   only-any zero l f g o = absurd (omega arith)
   only-any (suc zero) l f g o = absurd (f refl)

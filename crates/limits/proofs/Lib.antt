@@ -7,4 +7,5 @@ pub mod Numbers
 pub mod Shapes
 pub mod Chosen
 pub mod Measures
+pub mod Deciding
 pub mod Acceptance

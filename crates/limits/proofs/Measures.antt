@@ -57,7 +57,8 @@ pub chosen-there : {t : List ℕ} {names end a : ℕ} → Chosen t names end a
 unfolding numberOfAlternatives
 chosen-there h = h .there
 
-pub measured-all : {xs : List Alternative} {t n s k : ℕ} → Measuring xs t s k → t ≤ n → n ≤ t → Measuring xs n s k
+pub measured-all : {xs : List Alternative} {t n s k : ℕ} → Measuring xs t s k → t ≤ n → n ≤ t
+    → Measuring xs n s k
 measured-all m l u = let e : _≡_ {A = ℕ} _ _ = le-antisymm l u in rw e at m
 
 -- limit 8
@@ -70,7 +71,8 @@ module _ (p : Vector) where
   unfolding numberOfAlternatives overLimit
   over-number e l = let h : 64 < length (alternatives p) = omega arith in over (rw (lt-ltb _ _ h) refl)
 
-  module _ {n s k : ℕ} (m : Measuring (alternatives p) n s k) (e : n ≡ min 65 (numberOfAlternatives p)) (l : n ≤ 64)
+  module _ {n s k : ℕ} (m : Measuring (alternatives p) n s k) (e : n ≡ min 65 (numberOfAlternatives p))
+      (l : n ≤ 64)
     where
       all : n ≡ length (alternatives p)
       unfolding numberOfAlternatives

@@ -34,7 +34,8 @@ module _ (t : List ℕ) (names end : ℕ) where
   condition-number c e = rw (c .is, number-while) e
 
   module _ {m x y : ℕ} (j : Joined t names end m) (e : Number t names m x) (d : Number t names (end - 1) y) where
-    pub join-number : {r : ℕ} → r ≡ min 65 (countOf (joinAt (getD t (end - 1) 0 - 50)) x y) → Number t names end r
+    pub join-number : {r : ℕ} → r ≡ min 65 (countOf (joinAt (getD t (end - 1) 0 - 50)) x y)
+        → Number t names end r
     join-number g = rw (j .is, number-join, cap-count _ _ _ (number-some _) (number-some _), ← e, ← d) g
 
     pub joins : Counts (getD t (end - 1) 0) x y

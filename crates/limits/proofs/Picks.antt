@@ -46,7 +46,8 @@ getD-each f (x ∷ xs) ys v p l = go (getD-each f xs ys (v - length ys) p) (ltb 
         → getD (each f xs ys) (v - length ys) []
         ≡ f (getD xs ((v - length ys) / length ys) []) (getD ys ((v - length ys) % length ys) []))
         → (q : Bool) → ltb v (length ys) ≡ q
-        → getD (map (f x) ys ++ each f xs ys) v [] ≡ f (getD (x ∷ xs) (v / length ys) []) (getD ys (v % length ys) [])
+        → getD (map (f x) ys ++ each f xs ys) v []
+        ≡ f (getD (x ∷ xs) (v / length ys) []) (getD ys (v % length ys) [])
     go rest true e =
         let h = ltb-true v (length ys) e in
         List·getD-append (map (f x) ys) (each f xs ys) [] v (rw (length-map ys (f x)) h)

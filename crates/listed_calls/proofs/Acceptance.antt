@@ -19,7 +19,7 @@ use Rattle.alf.specs.Expressions.{boolean, vector}
 use Rattle.alf.specs.Bytes.{Stack, empty, broken, push, isBoolean, stackAt}
 use Rattle.alf.specs.Alternatives.{Alternative, overLimit}
 use Rattle.alf.specs.Alternatives as alternatives
-use Rattle.alf.proofs.Bools.{never}
+use Rattle.alf.proofs.Bools.{never, or-left, or-right}
 use Rattle.trees.specs.Parts.{EndsBoolean, Start}
 use Rattle.trees.specs.Sorts.{kindOf, Ending}
 use Rattle.trees.proofs.Starts.{start-unique}
@@ -28,18 +28,10 @@ use Rattle.matcher.specs.Shapes.{cut, sum, testsOf, alternativesOf, Tests, Shap
 use Rattle.matcher.proofs.Cuts.{cut-length, tests-length}
 use Rattle.updates.specs.Corrections.{longestOf}
 use Rattle.updates.proofs.Longest.{longest-is}
-use Rattle.calls.proofs.Deciding.{same-decided}
+use Rattle.limits.proofs.Deciding.{same-decided}
 use Rattle.listed_calls.specs.Lists.{Each, Operand, Known, AcceptedAlternatives, Stepped, Shaped}
 use Rattle.listed_calls.proofs.Alone.{part-length, alone, part-inside}
 use Rattle.listed_calls.proofs.Sums.{tests-are, greatest-each, each-greatest}
-
-or-left : (p q : Bool) → (p || q) ≡ false → p ≡ false
-or-left true q h = h
-or-left false q h = refl
-
-or-right : (p q : Bool) → (p || q) ≡ false → q ≡ false
-or-right true q h = never (sym h)
-or-right false q h = h
 
 or-both : (p q : Bool) → p ≡ false → q ≡ false → (p || q) ≡ false
 or-both true q h k = h
@@ -59,7 +51,8 @@ module _ (xs : List Alternative) where
   light-of h =
       ltb-false 64 _ (or-right (ltb 16 (greatestOf length xs)) _ (or-right (ltb 64 (length xs)) _ h))
 
-  within-of : length xs ≤ 64 → greatestOf length xs ≤ 16 → greatestOf alternatives.tests xs ≤ 64 → overLimit xs ≡ false
+  within-of : length xs ≤ 64 → greatestOf length xs ≤ 16 → greatestOf alternatives.tests xs ≤ 64
+      → overLimit xs ≡ false
   unfolding overLimit
   within-of a b c = or-both _ _ (le-ltb _ _ a) (or-both _ _ (le-ltb _ _ b) (le-ltb _ _ c))
 

@@ -33,7 +33,7 @@ use Rattle.calls.specs.Orders.{Rows, Judged, JudgesTrace, JudgesRow}
 use Rattle.calls.specs.Written.{after}
 use Rattle.calls.specs.Matching.{Finds, Counts}
 use Rattle.calls.specs.Pushing.{RowFits, Keeps}
-use Rattle.calls.proofs.Deciding.{told, tells, same-decided}
+use Rattle.limits.proofs.Deciding.{told, tells, same-decided}
 use Rattle.calls.proofs.Verdicts.{judged-as, judged-good, judged-not, lists-as}
 use Rattle.calls.proofs.ByAlternatives.{written-whole}
 use Rattle.calls.proofs.Matches.{rows-asked}
@@ -125,7 +125,8 @@ module _ {names n : ℕ} {tree steps tests edges operands states : List ℕ} {go
     all-refused e = record { comes = judged-not as-lists e; answers-memory = refl; tried-memory = refl }
 
     pub all-told : {answers′ tried′ : List ℕ} → v ≡ Good
-        → Filled (stateAt names states) (alternativesOf tree names steps tests edges operands) n answers tried answers′
+        → Filled (stateAt names states) (alternativesOf tree names steps tests edges operands) n answers tried
+        answers′
         tried′
         → ListedAll names n tree steps tests edges operands states answers tried answers′ tried′ (outcome.Done n)
     unfolding Comes after

@@ -19,7 +19,7 @@ use Rattle.alf.specs.Alternatives.{Test, Alternative, tests}
 use Rattle.matcher.specs.Shapes.{cut, sum}
 use Rattle.matcher.proofs.Cuts.{cut-at, sum-next, sum-nil, part, part-last}
 use Rattle.limits.specs.Accepted.{Decides}
-use Rattle.calls.proofs.Deciding.{same-decided, eqb-decides}
+use Rattle.limits.proofs.Deciding.{same-decided, eqb-decides}
 use Rattle.listed_calls.specs.Lists.{Light}
 
 -- the sum of the lengths of some pieces
@@ -54,7 +54,8 @@ tests-pieces (n ∷ ns) ys =
 pub tests-are : (steps tested : List ℕ) (all : List Test) → sum tested ≤ length all
     → greatestOf tests (cut steps (cut tested all)) ≡ greatestOf sum (cut steps tested)
 tests-are steps tested all h =
-    tests-pieces steps (cut tested all) ∙ ap (λ (l : List ℕ). greatestOf sum (cut steps l)) (lengths-cut tested all h)
+    tests-pieces steps (cut tested all)
+    ∙ ap (λ (l : List ℕ). greatestOf sum (cut steps l)) (lengths-cut tested all h)
 
 -- the alternatives from one on
 pub light-next : (steps tested : List ℕ) (i s : ℕ) → i < length steps
@@ -64,12 +65,14 @@ pub light-next : (steps tested : List ℕ) (i s : ℕ) → i < length steps
 unfolding greatestOf
 light-next steps tested i s h = rw (cut-at steps tested i s h) refl
 
-pub light-last : (steps tested : List ℕ) (i : ℕ) → length steps ≤ i → greatestOf sum (cut (drop i steps) tested) ≡ 0
+pub light-last : (steps tested : List ℕ) (i : ℕ) → length steps ≤ i
+    → greatestOf sum (cut (drop i steps) tested) ≡ 0
 unfolding greatestOf cut
 light-last steps tested i h = rw (drop-of-length-le steps {i = i} h) refl
 
 -- the greatest entry
-pub greatest-each : (k : ℕ) (l : List ℕ) → ((i : ℕ) → i < length l → getD l i 0 ≤ k) → greatestOf (λ n. n) l ≤ k
+pub greatest-each : (k : ℕ) (l : List ℕ) → ((i : ℕ) → i < length l → getD l i 0 ≤ k)
+    → greatestOf (λ n. n) l ≤ k
 unfolding greatestOf
 greatest-each k [] h = omega arith
 greatest-each k (x ∷ l) h =
@@ -128,6 +131,7 @@ sum-end l want left i h e =
     let z = sum-last l i h in
     same-decided (left ≡ 0) (sum l ≡ want) (eqb left 0) (λ d. omega arith) (λ d. omega arith) (eqb-decides left 0)
 
-pub few-end : (l : List ℕ) (s n left i : ℕ) → n ≤ i → left + sum (take n (drop s l)) ≡ 64 + sum (part l s n i)
+pub few-end : (l : List ℕ) (s n left i : ℕ) → n ≤ i
+    → left + sum (take n (drop s l)) ≡ 64 + sum (part l s n i)
     → sum (take n (drop s l)) ≤ 64
 few-end l s n left i h e = let z = ap sum (part-last l s n i h) ∙ sum-nil in omega arith

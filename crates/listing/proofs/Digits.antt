@@ -89,7 +89,8 @@ unfoldable pub reading : ℕ → List ℕ → ℕ
 reading before [] = before
 reading before (d ∷ ds) = reading (before * 10 + (d - 48)) ds
 
-reading-last : (before : ℕ) (ds : List ℕ) (d : ℕ) → reading before (ds ++ (d ∷ [])) ≡ reading before ds * 10 + (d - 48)
+reading-last : (before : ℕ) (ds : List ℕ) (d : ℕ)
+    → reading before (ds ++ (d ∷ [])) ≡ reading before ds * 10 + (d - 48)
 unfolding reading
 reading-last before [] d = refl
 reading-last before (x ∷ ds) d = reading-last (before * 10 + (x - 48)) ds d
@@ -99,7 +100,8 @@ unfolding reading
 read-up-to zero n h = rw (decimal-small n (omega arith)) (omega arith)
 read-up-to (suc k) n h = go (below? n 10) (read-up-to k (n / 10))
   where
-    go : (n < 10) ⊎ (10 ≤ n) → (n / 10 ≤ k → reading 0 (decimal (n / 10)) ≡ n / 10) → reading 0 (decimal n) ≡ n
+    go : (n < 10) ⊎ (10 ≤ n) → (n / 10 ≤ k → reading 0 (decimal (n / 10)) ≡ n / 10)
+        → reading 0 (decimal n) ≡ n
     go (inl s) f = rw (decimal-small n s) (omega arith)
     go (inr s) f =
         ap (reading 0) (decimal-more n s) ∙ reading-last 0 (decimal (n / 10)) (48 + n % 10)

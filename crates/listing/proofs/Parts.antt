@@ -9,7 +9,6 @@ use Prim.Native.Nat.{ℕ, zero, suc, _+_, _-_, _/_, _%_, _<_, _≤_}
 use native.Mathlib.Omega.{arith}
 use native.Mathlib.Numerals.{add-one}
 use mathlib.Core.Path.{_≡_, refl, sym, ap, _∙_}
-use mathlib.Core.Bool.{Bool, true, false}
 use mathlib.Core.List.{List, [], _∷_, _++_, map}
 use lib.Dec.{eqb}
 use mathlib.Core.Logic.{_⊎_, inl, inr}
@@ -20,9 +19,9 @@ use Rattle.writer.specs.Inner.{Put, Room}
 use Rattle.writer.proofs.Going.{sets-append, put-length}
 use Rattle.writer.proofs.Steps.{copy-more}
 use Rattle.writer.proofs.Spelling.{put-as}
-use Rattle.matcher.proofs.Filling.{one-small}
 use Rattle.listing.specs.Numbers.{digits}
 use Rattle.alf.proofs.Bools.{below?}
+use Rattle.alf.proofs.Counts.{count-next, count-small}
 use Rattle.listing.specs.Listing.{line, lines, howMany}
 use Rattle.listing.specs.Table.{plain}
 use Rattle.listing.proofs.Digits.{digits-length}
@@ -48,7 +47,8 @@ unfolding digits
 digits-step zero n f = absurd (f refl)
 digits-step (suc k) n f = let e : suc k - 1 ≡ k = omega arith in rw e refl
 
-module _ {k : ℕ} (n : ℕ) (out : List ℕ) (at : ℕ) (some : k ≡ 0 → ⊥) (room : Room out at (digits k n)) where
+module _ {k : ℕ} (n : ℕ) (out : List ℕ) (at : ℕ) (some : k ≡ 0 → ⊥)
+    (room : Room out at (digits k n)) where
   pub digits-room : Room out at (digits (k - 1) (n / 10))
   digits-room = omega (arith, digits-length k n, digits-length (k - 1) (n / 10))
 
@@ -67,15 +67,6 @@ module _ {k : ℕ} (n : ℕ) (out : List ℕ) (at : ℕ) (some : k ≡ 0 → ⊥
     digits-put e u = rw (digits-step k n some) (put-then h (rw e at u))
 
 -- counting
-count-next : (n : ℕ) (p : ℕ → Bool) → count (n + 1) p ≡ count n p + (if p n then 1 else 0)
-unfolding count
-count-next n p = rw add-one refl
-
-pub count-small : (n : ℕ) (p : ℕ → Bool) → count n p ≤ n
-unfolding count
-count-small zero p = omega arith
-count-small (suc n) p = let e = count-small n p in let f = one-small (p n) in omega arith
-
 -- of the first i answers, k have the number a
 pub record Counting (answers : List ℕ) (a k i : ℕ) : Type 0 where
   pub within : i ≤ length answers
@@ -96,7 +87,8 @@ counting-next {answers} {a} {k} {i} {r} g l e =
       is = omega (arith, g .is, e, count-next i (λ j. eqb (getD answers j 0) a));
     }
 
-pub counting-end : {answers : List ℕ} {a k i : ℕ} → Counting answers a k i → length answers ≤ i → k ≡ howMany answers a
+pub counting-end : {answers : List ℕ} {a k i : ℕ} → Counting answers a k i → length answers ≤ i
+    → k ≡ howMany answers a
 unfolding howMany
 counting-end {answers} {i = i} g l = let e : i ≡ length answers = omega (arith, g .within) in rw e at (g .is)
 
@@ -117,7 +109,8 @@ pub last-number : {a : ℕ} → a ≤ 3 → (a ≡ 0 → ⊥) → (a ≡ 1 → �
 last-number h f g k = omega (arith, f, g, k)
 
 -- one answer more is at most 3
-pub good-more : (s : List ℕ) (i : ℕ) → ((j : ℕ) → j < i → getD s j 0 ≤ 3) → getD s i 0 ≤ 3 → (j : ℕ) → j < i + 1
+pub good-more : (s : List ℕ) (i : ℕ) → ((j : ℕ) → j < i → getD s j 0 ≤ 3) → getD s i 0 ≤ 3
+    → (j : ℕ) → j < i + 1
     → getD s j 0 ≤ 3
 good-more s i h k j l = go (below? j i)
   where
@@ -136,7 +129,8 @@ unfolding plain
 shown-at xs i h =
     getD-any (map plain xs) i 0 32 (rw (length-map xs plain) h) ∙ List·getD-map plain xs i 0
 
-pub plain-more : (xs : List ℕ) (i : ℕ) {out₀ out : List ℕ} {at v : ℕ} → i < length xs → v ≡ plain (getD xs i 0)
+pub plain-more : (xs : List ℕ) (i : ℕ) {out₀ out : List ℕ} {at v : ℕ} → i < length xs
+    → v ≡ plain (getD xs i 0)
     → Put out₀ at (take i (map plain xs)) out (at + i)
     → Put out₀ at (take (i + 1) (map plain xs)) (set out (at + i) v) (at + (i + 1))
 plain-more xs i h e p =

@@ -59,7 +59,8 @@ module _ (columns pattern : List ℕ) where
   ended-start out h = going-start _ refl (omega (arith, ended-size))
 
 -- columns that stand at the front of a list
-pub laid : {columns list : List ℕ} (pattern : List ℕ) {out out′ : List ℕ} {k : ℕ} {r : Outcome} → Holds list k columns
+pub laid : {columns list : List ℕ} (pattern : List ℕ) {out out′ : List ℕ} {k : ℕ} {r : Outcome}
+    → Holds list k columns
     → Delivers (ended (take k list) pattern) out out′ r → Delivers (ended columns pattern) out out′ r
 laid pattern h d = rw (h .front) at d
 
@@ -72,7 +73,8 @@ module _ (times answers : List ℕ) where
     unfolding listing joined
     parts = rw (y, f, u) refl
 
-    pub listing-size : {m k : ℕ} → Sized (lines times answers) 1900515 m → Sized (lastLine yeses noes unknowns) 78 k
+    pub listing-size : {m k : ℕ} → Sized (lines times answers) 1900515 m
+        → Sized (lastLine yeses noes unknowns) 78 k
         → m + k + 12 ≡ length (listing times answers)
     unfolding bytes
     listing-size h k =
@@ -85,7 +87,8 @@ module _ (times answers : List ℕ) where
           ap length (append-nil (lastLine yeses noes unknowns)),
         )
 
-    pub listing-start : (out : List ℕ) {size : ℕ} → size ≡ length (listing times answers) → size ≤ length out
+    pub listing-start : (out : List ℕ) {size : ℕ} → size ≡ length (listing times answers)
+        → size ≤ length out
         → Going out 0 (listing times answers)
         (bytes "time answer\n" ∷ lines times answers ∷ lastLine yeses noes unknowns ∷ []) out 0
     listing-start out e h = going-start _ parts (omega (arith, e))

@@ -104,7 +104,8 @@ module _ {times answers : List ℕ} where
 pub decimal-short : (n : ℕ) → Fits w64 n → length (decimal n) ≤ 20
 decimal-short n h = omega (arith, decimal-length n, width-word n h)
 
-pub decimal-room : {n w : ℕ} (out : List ℕ) (at : ℕ) → Wide n w → Room out at (decimal n) → Room out at (digits w n)
+pub decimal-room : {n w : ℕ} (out : List ℕ) (at : ℕ) → Wide n w → Room out at (decimal n)
+    → Room out at (digits w n)
 unfolding decimal
 decimal-room out at h r = rw (h .is) r
 
@@ -130,7 +131,8 @@ share-some yeses n h = rw (ne-eqb (n - 1) 0 (λ e. omega arith)) refl
 decimal-small-short : (n : ℕ) → n < 2 ^ 32 → length (decimal n) ≤ 20
 decimal-small-short n h = decimal-short n (record { fits = omega arith })
 
-point-short : (yeses events : ℕ) → yeses < 2 ^ 32 → events < 2 ^ 32 → length (withPoint (millionths yeses events)) ≤ 27
+point-short : (yeses events : ℕ) → yeses < 2 ^ 32 → events < 2 ^ 32
+    → length (withPoint (millionths yeses events)) ≤ 27
 unfolding withPoint
 point-short yeses events f g =
     let m : millionths yeses events ≤ 2 * yeses * 1000000 + events = small-millionths yeses events in
@@ -154,7 +156,8 @@ share-length yeses n f g = go (below? 1 n)
     go (inr h) = omega (arith, ap length (share-none yeses n h))
 
 -- and their lengths
-pub columns-short : (yeses unknowns noes n : ℕ) → Fits w32 yeses → Fits w32 unknowns → Fits w32 noes → Fits w32 n
+pub columns-short : (yeses unknowns noes n : ℕ) → Fits w32 yeses → Fits w32 unknowns → Fits w32 noes
+    → Fits w32 n
     → length (columns yeses unknowns noes n) ≤ 192
 unfolding columns joined bytes
 columns-short yeses unknowns noes n f g h k =
@@ -167,7 +170,8 @@ columns-short yeses unknowns noes n f g h k =
       share-length yeses n f k,
     ))
 
-pub refused-short : (number place : ℕ) → Fits w8 number → Fits w64 place → length (refusedColumns number place) ≤ 192
+pub refused-short : (number place : ℕ) → Fits w8 number → Fits w64 place
+    → length (refusedColumns number place) ≤ 192
 unfolding refusedColumns joined bytes
 refused-short number place f g =
     let h : number < 2 ^ 32 = omega (arith, f .fits) in

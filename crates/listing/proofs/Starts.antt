@@ -64,7 +64,8 @@ pub last-start : (yeses noes unknowns : ℕ) (out : List ℕ) (at : ℕ) → Roo
 unfolding lastLine joined
 last-start yeses noes unknowns out at r = going-start _ refl r
 
-pub columns-start : (yeses unknowns noes n : ℕ) (out : List ℕ) (at : ℕ) → Room out at (columns yeses unknowns noes n)
+pub columns-start : (yeses unknowns noes n : ℕ) (out : List ℕ) (at : ℕ)
+    → Room out at (columns yeses unknowns noes n)
     → Going out at (columns yeses unknowns noes n)
     (decimal yeses ∷ bytes "\t" ∷ share yeses n ∷ bytes "\t" ∷ decimal unknowns ∷ bytes "\t" ∷ decimal noes
     ∷ bytes "\t" ∷ []) out at
@@ -107,12 +108,14 @@ module _ (times answers : List ℕ) {out : List ℕ} {at : ℕ} where
         → Put out at w out′ p
     rows-done l g = going-end (going-parts (append-nil _ ∙ lines-none times answers i (omega arith)) g)
 
-pub row-asked : {times answers out w out′ : List ℕ} {at p i time : ℕ} {left : List (List ℕ)} → Listable times answers
+pub row-asked : {times answers out w out′ : List ℕ} {at p i time : ℕ} {left : List (List ℕ)}
+    → Listable times answers
     → i < length answers → time ≡ getD times i 0
     → Going out at w (line (getD times i 0) (getD answers i 0) ∷ left) out′ p
     → Wording (getD answers i 0) out′ p (line time (getD answers i 0))
 row-asked {i = i} h l e g = rw e (record { known = h .good i l; room = going-room g })
 
-pub row-put : (times : List ℕ) (i a : ℕ) {time : ℕ} {out out′ : List ℕ} {p q : ℕ} → time ≡ getD times i 0
+pub row-put : (times : List ℕ) (i a : ℕ) {time : ℕ} {out out′ : List ℕ} {p q : ℕ}
+    → time ≡ getD times i 0
     → Put out p (line time a) out′ q → Put out p (line (getD times i 0) a) out′ q
 row-put times i a e h = put-as (ap (λ (t : ℕ). line t a) e) h

@@ -3,10 +3,8 @@
 --   lists-unique       of a listing: the same
 --   listed-totals      where the answers are those defined of a pattern, the last line's numbers are its totals
 -- Assumes nothing.
-use Prim.Native.Nat.{ℕ, zero, suc, _+_, _<_}
-use native.Mathlib.Omega.{arith}
-use mathlib.Core.Path.{_≡_, refl, sym, ap, _∙_}
-use mathlib.Core.Bool.{Bool}
+use Prim.Native.Nat.{ℕ, _+_}
+use mathlib.Core.Path.{_≡_, sym, ap, _∙_}
 use mathlib.Core.List.{List, []}
 use lib.Dec.{eqb}
 use lib.ListN.{length, getD}
@@ -16,6 +14,7 @@ use Rattle.alf.specs.Words.{if_then_else_, count, listed}
 use Rattle.alf.specs.Expressions.{Boolean, Vector}
 use Rattle.alf.specs.Windows.{rowAnswer, numberOf}
 use Rattle.alf.specs.Traces.{total}
+use Rattle.alf.proofs.Counts.{count-same}
 use Rattle.alf.proofs.Outcomes.{AllFixed, at-fixed, first-fixed, comes-unique}
 use Rattle.alf.proofs.Tables.{listed-at}
 use Rattle.evaluator.proofs.Lists.{listed-length}
@@ -46,12 +45,6 @@ lists-unique times answers out {r = r} {s = s} a b =
     let e = comes-unique (listOrder times answers (length out)) _ f (λ j k p q. p ∙ sym q) r s (a .outcome)
     (b .outcome) in
     (e, a .memory ∙ ap (after (listing times answers) out) e ∙ sym (b .memory))
-
-count-same : (n : ℕ) (p q : ℕ → Bool) → ((i : ℕ) → i < n → p i ≡ q i) → count n p ≡ count n q
-unfolding count
-count-same zero p q h = refl
-count-same (suc n) p q h =
-    rw (h n (omega arith), count-same n p q (λ i k. h i (omega arith))) refl
 
 pub listed-totals : (st : Boolean → ℕ → ℕ) (p : Vector) (n : ℕ) (a : Answer)
     → howMany (listed 0 n (λ i. numberOf (rowAnswer st p i))) (numberOf a) ≡ total st p n a

@@ -44,7 +44,8 @@ fn first_bad(answers: &[u8]) -> usize
 // The listing of lists that are known to be good, if there is room.
 fn write_listing(times: &[u32], answers: &[u8], out: &mut [u8]) -> Outcome
     requires { ⌜ Listable (now times) (now answers) ⌝ }
-    ensures { λ r. ⌜ ListsText (now (times .entry)) (now (answers .entry)) (now (out .entry)) (now (out .exit)) r ⌝ }
+    ensures { λ r. ⌜ ListsText (now (times .entry)) (now (answers .entry)) (now (out .entry))
+        (now (out .exit)) r ⌝ }
 {
     let yes = count_of(answers, 1);
     let no = count_of(answers, 0);
@@ -62,7 +63,8 @@ fn write_listing(times: &[u32], answers: &[u8], out: &mut [u8]) -> Outcome
 // A line for each row with its time and its answer, given as document 01's number; the length of all. Refused with 18,
 // 15 or 9.
 pub fn list(times: &[u32], answers: &[u8], out: &mut [u8]) -> Outcome
-    ensures { λ r. ⌜ ListsText (now (times .entry)) (now (answers .entry)) (now (out .entry)) (now (out .exit)) r ⌝ }
+    ensures { λ r. ⌜ ListsText (now (times .entry)) (now (answers .entry)) (now (out .entry))
+        (now (out .exit)) r ⌝ }
 {
     if !lists_fit(times.len(), answers.len()) {
         return refuse(18, 0);

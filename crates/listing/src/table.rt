@@ -130,7 +130,8 @@ fn put_total(
     at: usize,
 ) -> usize
     requires { ⌜ Room (now out) at (totalColumns yes unknown no patterns events) ⌝ }
-    ensures { λ r. ⌜ Put (now (out .entry)) at (totalColumns yes unknown no patterns events) (now (out .exit)) r ⌝ }
+    ensures { λ r. ⌜ Put (now (out .entry)) at (totalColumns yes unknown no patterns events)
+        (now (out .exit)) r ⌝ }
 {
     let a = put_decimal(yes, out, at);
     let b = put(b"\t-\t", out, a);

@@ -20,7 +20,8 @@ use Rattle.matcher.proofs.Cuts.{test-at, tests-length}
 use Rattle.matcher.proofs.Matching.{Asking, asking-more, alternative-length}
 use Rattle.matcher.proofs.Matching.{Stepping, stepping-first, stepping-more, stepping-fits}
 
-pub within-le : {states : List ℕ} {names row : ℕ} (r : ℕ) → Within states names row → r ≤ row → Within states names r
+pub within-le : {states : List ℕ} {names row : ℕ} (r : ℕ) → Within states names row → r ≤ row
+    → Within states names r
 within-le {states} {names} {row} r w h =
     record {
       some = w .some;
@@ -63,7 +64,8 @@ module _ {tree : List ℕ} {names : ℕ} {states tests edges operands : List ℕ
   pub stepping-start : Stepping (stateAt names states) tests all s n t (row - n) 2 t 0
   stepping-start = stepping-first (omega (arith, asked .tested, whole))
 
-  module _ {least at j : ℕ} (g : Stepping (stateAt names states) tests all s n t (row - n) least at j) (l : j < n) where
+  module _ {least at j : ℕ} (g : Stepping (stateAt names states) tests all s n t (row - n) least at j)
+      (l : j < n) where
     pub step-fits : at + getD tests (s + j) 0 ≤ length edges
     step-fits = omega (arith, stepping-fits g l (asked .there), whole)
 
@@ -75,6 +77,7 @@ module _ {tree : List ℕ} {names : ℕ} {states tests edges operands : List ℕ
           rows = within-le (row - n + j + 1) (asked .rows) (omega arith);
         }
 
-    pub stepping-next : (r : ℕ) → r ≡ stepAt (stateAt names states) (stepIn all at (getD tests (s + j) 0)) (row - n + j)
+    pub stepping-next : (r : ℕ)
+        → r ≡ stepAt (stateAt names states) (stepIn all at (getD tests (s + j) 0)) (row - n + j)
         → Stepping (stateAt names states) tests all s n t (row - n) (min least r) (at + getD tests (s + j) 0) (j + 1)
     stepping-next r e = rw e (stepping-more g l (asked .there))

@@ -12,7 +12,8 @@ use Rattle.alf.specs.Refusals.{bad-code}
 use Rattle.alf.proofs.Bools.{equal?}
 use Rattle.matcher.specs.Codes.{FirstBad}
 
-pub codes-more : (states : List ℕ) (n : ℕ) → ((i : ℕ) → i < n → getD states i 0 < 8) → getD states n 0 ≤ 7
+pub codes-more : (states : List ℕ) (n : ℕ) → ((i : ℕ) → i < n → getD states i 0 < 8)
+    → getD states n 0 ≤ 7
     → (i : ℕ) → i < n + 1 → getD states i 0 < 8
 codes-more states n h l i m = go (equal? i n)
   where

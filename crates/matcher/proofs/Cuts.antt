@@ -24,7 +24,8 @@ pub sum-cons : (n : ℕ) (ns : List ℕ) → sum (n ∷ ns) ≡ n + sum ns
 unfolding sum sumOf
 sum-cons n ns = refl
 
-pub cut-cons : {A : Type 0} (n : ℕ) (ns : List ℕ) (xs : List A) → cut (n ∷ ns) xs ≡ take n xs ∷ cut ns (drop n xs)
+pub cut-cons : {A : Type 0} (n : ℕ) (ns : List ℕ) (xs : List A)
+    → cut (n ∷ ns) xs ≡ take n xs ∷ cut ns (drop n xs)
 unfolding cut
 cut-cons n ns xs = refl
 
@@ -80,7 +81,8 @@ module _ {A : Type 0} (l : List A) (s n : ℕ) where
 
 -- the piece at k, whose entries start at t, and the others
 pub cut-at : {A : Type 0} (ns : List ℕ) (xs : List A) (k t : ℕ) → k < length ns
-    → cut (drop k ns) (drop t xs) ≡ take (getD ns k 0) (drop t xs) ∷ cut (drop (k + 1) ns) (drop (t + getD ns k 0) xs)
+    → cut (drop k ns) (drop t xs)
+    ≡ take (getD ns k 0) (drop t xs) ∷ cut (drop (k + 1) ns) (drop (t + getD ns k 0) xs)
 cut-at ns xs k t h = rw (cut-next ns (drop t xs) k h, drop-drop) refl
 
 -- what is left behind m entries from s on
@@ -101,7 +103,8 @@ unfolding testsOf
 test-at tree names [] ends t d h m = absurd (omega arith)
 test-at tree names (k ∷ edges) [] t d h m = absurd (omega arith)
 test-at tree names (k ∷ edges) (e ∷ ends) zero d h m = refl
-test-at tree names (k ∷ edges) (e ∷ ends) (suc t) d h m = test-at tree names edges ends t d (omega arith) (omega arith)
+test-at tree names (k ∷ edges) (e ∷ ends) (suc t) d h m =
+    test-at tree names edges ends t d (omega arith) (omega arith)
 
 -- a sum over a part, from its front
 pub sum-part : (ns : List ℕ) (s n i : ℕ) → i < n → s + i < length ns

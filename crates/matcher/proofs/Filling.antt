@@ -4,10 +4,8 @@
 --   Counting, counting-first, -next        the totals
 -- Assumes nothing.
 use mathlib.Core.Path.{_≡_, refl, ap, _∙_}
-use mathlib.Core.Bool.{Bool, true, false}
 use mathlib.Core.List.{List}
-use Prim.Native.Nat.{ℕ, zero, suc, _+_, _<_, _≤_}
-use native.Mathlib.Numerals.{add-one}
+use Prim.Native.Nat.{ℕ, _+_, _<_, _≤_}
 use native.Mathlib.Nat.{zero-add, suc-mul, mul-le-mul-right}
 use native.Mathlib.Omega.{arith}
 use lib.Dec.{eqb}
@@ -19,12 +17,14 @@ use Rattle.alf.specs.Expressions.{Boolean}
 use Rattle.alf.specs.Windows.{numberOf}
 use Rattle.alf.specs.Alternatives.{Alternative}
 use Rattle.alf.specs.Alternatives as alternatives
+use Rattle.alf.proofs.Counts.{count-next, count-small}
 use Rattle.evaluator.specs.Rows.{Within}
 use Rattle.matcher.specs.Answers.{RowAsked, Matches}
 use Rattle.matcher.specs.Tables.{Rows, RowsAsked, numberAt, written, Filled, totalOf, Totals}
 use Rattle.matcher.proofs.Written.{written-none, written-more, written-length}
 
-pub row-within : {states : List ℕ} {names n : ℕ} (i : ℕ) → Rows states names n → i < n → Within states names i
+pub row-within : {states : List ℕ} {names n : ℕ} (i : ℕ) → Rows states names n → i < n
+    → Within states names i
 row-within {states} {names} {n} i r h =
     let e = mul-le-mul-right names h in
     let f = suc-mul i names in
@@ -50,7 +50,8 @@ module _ (st : Boolean → ℕ → ℕ) (xs : List Alternative) where
     pub counted : tried ≡ written tried₀ 0 i (alternatives.tries st xs)
 
 module _ {st : Boolean → ℕ → ℕ} {xs : List Alternative} {n : ℕ} {answers₀ tried₀ : List ℕ} where
-  pub filling-first : n ≤ length answers₀ → n ≤ length tried₀ → Filling st xs n answers₀ tried₀ answers₀ tried₀ 0
+  pub filling-first : n ≤ length answers₀ → n ≤ length tried₀
+      → Filling st xs n answers₀ tried₀ answers₀ tried₀ 0
   filling-first a t =
       record {
         within = omega arith;
@@ -79,7 +80,8 @@ module _ {st : Boolean → ℕ → ℕ} {xs : List Alternative} {n : ℕ} {answe
           counted = one tried₀ tried (alternatives.tries st xs) (g .counted) (omega (arith, g .space)) k (m .count);
         }
       where
-        one : (l₀ l : List ℕ) (f : ℕ → ℕ) → l ≡ written l₀ 0 i f → i < length l₀ → (v : ℕ) → v ≡ f i
+        one : (l₀ l : List ℕ) (f : ℕ → ℕ) → l ≡ written l₀ 0 i f → i < length l₀ → (v : ℕ)
+            → v ≡ f i
             → set l i v ≡ written l₀ 0 (i + 1) f
         one l₀ l f w h v e = rw (w, e) (rw zero-add at (written-more l₀ 0 f i (omega arith)))
 
@@ -87,19 +89,6 @@ module _ {st : Boolean → ℕ → ℕ} {xs : List Alternative} {n : ℕ} {answe
     filling-end h =
         let e : i ≡ n = omega (arith, g .within) in
         record { answered = rw e at (g .answered); counted = rw e at (g .counted) }
-
-count-next : (n : ℕ) (p : ℕ → Bool) → count (n + 1) p ≡ count n p + (if p n then 1 else 0)
-unfolding count
-count-next n p = rw add-one refl
-
-pub one-small : (b : Bool) → (if b then 1 else 0) ≤ 1
-one-small true = omega arith
-one-small false = omega arith
-
-count-small : (n : ℕ) (p : ℕ → Bool) → count n p ≤ n
-unfolding count
-count-small zero p = omega arith
-count-small (suc n) p = let e = count-small n p in let f = one-small (p n) in omega arith
 
 -- the totals of the rows before i
 pub record Counting (st : Boolean → ℕ → ℕ) (xs : List Alternative) (n yes no unknown i : ℕ) : Type 0 where
@@ -130,7 +119,8 @@ module _ {st : Boolean → ℕ → ℕ} {xs : List Alternative} {n : ℕ} where
       omega (arith, g .unknowns, total-small st xs i Unknown),
     )
 
-    pub counting-next : {y f u : ℕ} (v : ℕ) → i < n → v ≡ numberAt st xs i → y ≡ (if eqb v 1 then 1 else 0)
+    pub counting-next : {y f u : ℕ} (v : ℕ) → i < n → v ≡ numberAt st xs i
+        → y ≡ (if eqb v 1 then 1 else 0)
         → f ≡ (if eqb v 0 then 1 else 0) → u ≡ (if eqb v 2 then 1 else 0)
         → Counting st xs n (y₀ + y) (f₀ + f) (u₀ + u) (i + 1)
     unfolding numberOf

@@ -48,7 +48,8 @@ module _ {st : Boolean → ℕ → ℕ} {all : List Test} {t n a : ℕ} where
       let e = rw (part-next all t n i d l (omega arith)) at (g .is) in
       record { within = omega arith; small = omega (arith, g .small); is = omega arith }
 
-  pub asking-last : {least i : ℕ} → Asking st all t n a least i → n ≤ i → least ≡ stepAt st (stepIn all t n) a
+  pub asking-last : {least i : ℕ} → Asking st all t n a least i → n ≤ i
+      → least ≡ stepAt st (stepIn all t n) a
   unfolding leastOf
   asking-last {least} {i} g h = let e = rw (part-last all t n i h) at (g .is) in omega (arith, g .small)
 
@@ -60,7 +61,8 @@ alternative-length tests all s n t h =
     length-take n (cut (drop s tests) (drop t all)) ∙ omega arith
 
 -- Of the n steps from s on the first j are asked, and the tests of the next start at `at`.
-pub record Stepping (st : Boolean → ℕ → ℕ) (tests : List ℕ) (all : List Test) (s n t a least at j : ℕ) : Type 0 where
+pub record Stepping (st : Boolean → ℕ → ℕ) (tests : List ℕ) (all : List Test) (s n t a least at j : ℕ)
+    : Type 0 where
   pub within : j ≤ n
   pub small : least ≤ 2
   pub room : at + sum (drop (s + j) tests) ≤ length all
@@ -78,7 +80,8 @@ module _ {st : Boolean → ℕ → ℕ} {tests : List ℕ} {all : List Test} {s 
         is = rw (add-zero, add-zero, sub-zero) (omega arith);
       }
 
-  pub stepping-more : {least at j : ℕ} → Stepping st tests all s n t a least at j → j < n → s + n ≤ length tests
+  pub stepping-more : {least at j : ℕ} → Stepping st tests all s n t a least at j → j < n
+      → s + n ≤ length tests
       → Stepping st tests all s n t a (min least (stepAt st (stepIn all at (getD tests (s + j) 0)) (a + j)))
       (at + getD tests (s + j) 0) (j + 1)
   unfolding stepsFrom
@@ -94,11 +97,13 @@ module _ {st : Boolean → ℕ → ℕ} {tests : List ℕ} {all : List Test} {s 
         is = omega arith;
       }
 
-  pub stepping-fits : {least at j : ℕ} → Stepping st tests all s n t a least at j → j < n → s + n ≤ length tests
+  pub stepping-fits : {least at j : ℕ} → Stepping st tests all s n t a least at j → j < n
+      → s + n ≤ length tests
       → at + getD tests (s + j) 0 ≤ length all
   stepping-fits {least} {at} {j} g l h = omega (arith, sum-next tests (s + j) (omega arith), g .room)
 
-  pub stepping-last : {least at j row : ℕ} → Stepping st tests all s n t a least at j → n ≤ j → s + n ≤ length tests
+  pub stepping-last : {least at j row : ℕ} → Stepping st tests all s n t a least at j → n ≤ j
+      → s + n ≤ length tests
       → n ≤ row → a ≡ row - n → least ≡ atRow st row (alternativeIn tests all s t n)
   unfolding stepsFrom
   stepping-last {least} {at} {j} {row} g h k l e =

@@ -11,7 +11,8 @@ use Rattle.matcher.specs.Answers.{Matches}
 use Rattle.matcher.specs.Tables.{Filled, Totals}
 
 module _ {st : Boolean → ℕ → ℕ} {xs : List Alternative} where
-  pub matches-unique : {row t u : ℕ} {a b : Answer} → Matches st xs row a t → Matches st xs row b u → (a ≡ b) × (t ≡ u)
+  pub matches-unique : {row t u : ℕ} {a b : Answer} → Matches st xs row a t → Matches st xs row b u
+      → (a ≡ b) × (t ≡ u)
   matches-unique m k = (m .is ∙ sym (k .is), m .count ∙ sym (k .count))
 
   pub filled-unique : {n : ℕ} {answers tried a t b u : List ℕ} → Filled st xs n answers tried a t

@@ -20,7 +20,8 @@ use Rattle.matcher.specs.Answers.{AlternativeAsked, RowAsked, Matches}
 use Rattle.matcher.proofs.Cuts.{cut-none, cut-next, cut-drop, tests-length, sum-next, sum-part-drop}
 use Rattle.matcher.proofs.Matching.{Trying, trying-first, trying-more, trying-yes, trying-end}
 
-pub record Walking (st : Boolean → ℕ → ℕ) (steps tests : List ℕ) (all : List Test) (row b s t k : ℕ) : Type 0 where
+pub record Walking (st : Boolean → ℕ → ℕ) (steps tests : List ℕ) (all : List Test) (row b s t k : ℕ)
+    : Type 0 where
   pub within : k ≤ length steps
   pub steps-room : s + sum (drop k steps) ≤ length tests
   pub tests-room : t + sum (drop s tests) ≤ length all
@@ -72,7 +73,8 @@ module _ {tree : List ℕ} {names : ℕ} {states steps tests edges operands : Li
       unfolding alternativesOf
       walking-yes l e = trying-yes st row _ (rw (alternatives-next steps tests all k s t h) at (g .trying)) l e
 
-      pub walking-next : (r : ℕ) → r ≡ atRow st row (alternativeIn tests all s t (getD steps k 0)) → (r ≡ 2 → ⊥)
+      pub walking-next : (r : ℕ) → r ≡ atRow st row (alternativeIn tests all s t (getD steps k 0))
+          → (r ≡ 2 → ⊥)
           → Walking st steps tests all row (max b r) (s + getD steps k 0)
           (t + sum (take (getD steps k 0) (drop s tests))) (k + 1)
       walking-next r e n =

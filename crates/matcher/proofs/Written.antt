@@ -34,7 +34,8 @@ module _ (l : List ℕ) (r : ℕ) (f : ℕ → ℕ) where
       let k = listed-length r m f in
       length-append (take r l) (listed r m f) ∙ omega arith
 
-  pub written-more : (m : ℕ) → r + m < length l → set (written l r m f) (r + m) (f (r + m)) ≡ written l r (m + 1) f
+  pub written-more : (m : ℕ) → r + m < length l
+      → set (written l r m f) (r + m) (f (r + m)) ≡ written l r (m + 1) f
   unfolding written
   written-more m h =
       let p = take r l ++ listed r m f in

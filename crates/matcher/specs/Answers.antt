@@ -31,15 +31,18 @@ pub record AlternativeAsked (tree : List ℕ) (names : ℕ) (states tests edges 
   pub rows : Within states names row
 
 -- row `row`, asked of all alternatives; and a row above 0, to which an event leads
-pub record RowAsked (tree : List ℕ) (names : ℕ) (states steps tests edges operands : List ℕ) (row : ℕ) : Type 0 where
+pub record RowAsked (tree : List ℕ) (names : ℕ) (states steps tests edges operands : List ℕ) (row : ℕ)
+    : Type 0 where
   pub shape : Shape tree names steps tests edges operands
   pub rows : Within states names row
 
-pub record EventAsked (tree : List ℕ) (names : ℕ) (states steps tests edges operands : List ℕ) (row : ℕ) : Type 0 where
+pub record EventAsked (tree : List ℕ) (names : ℕ) (states steps tests edges operands : List ℕ) (row : ℕ)
+    : Type 0 where
   pub asked : RowAsked tree names states steps tests edges operands row
   pub event : 0 < row
 
 -- the answer of some alternatives at a row, and the number tried
-pub record Matches (st : Boolean → ℕ → ℕ) (xs : List Alternative) (row : ℕ) (answer : Answer) (tried : ℕ) : Type 0 where
+pub record Matches (st : Boolean → ℕ → ℕ) (xs : List Alternative) (row : ℕ) (answer : Answer) (tried : ℕ)
+    : Type 0 where
   pub is : answer ≡ answerOf st xs row
   pub count : tried ≡ alternatives.tries st xs row

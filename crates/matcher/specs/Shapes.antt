@@ -26,7 +26,8 @@ testsOf tree names (k ∷ edges) [] = []
 testsOf tree names (k ∷ edges) (end ∷ ends) = testOf tree names k end ∷ testsOf tree names edges ends
 
 -- the alternatives: the tests cut into steps, the steps cut into alternatives
-unfoldable pub alternativesOf : List ℕ → ℕ → List ℕ → List ℕ → List ℕ → List ℕ → List Alternative
+unfoldable pub alternativesOf : List ℕ → ℕ → List ℕ → List ℕ → List ℕ → List ℕ
+    → List Alternative
 alternativesOf tree names steps tests edges operands = cut steps (cut tests (testsOf tree names edges operands))
 
 -- how many things the entries of a list count together

@@ -21,7 +21,8 @@ pub record Rows (states : List ℕ) (names n : ℕ) : Type 0 where
   pub codes : (i : ℕ) → i < length states → getD states i 0 < 8
 
 -- n rows, asked of all alternatives
-pub record RowsAsked (tree : List ℕ) (names : ℕ) (states steps tests edges operands : List ℕ) (n : ℕ) : Type 0 where
+pub record RowsAsked (tree : List ℕ) (names : ℕ) (states steps tests edges operands : List ℕ) (n : ℕ)
+    : Type 0 where
   pub shape : Shape tree names steps tests edges operands
   pub rows : Rows states names n
 
@@ -41,7 +42,8 @@ unfoldable pub written : List ℕ → ℕ → ℕ → (ℕ → ℕ) → List ℕ
 written l r m f = take r l ++ (listed r m f ++ drop (r + m) l)
 
 -- of n rows: each one's answer and number tried; what stands behind them stays
-pub record Filled (st : Boolean → ℕ → ℕ) (xs : List Alternative) (n : ℕ) (answers tried answers′ tried′ : List ℕ)
+pub record Filled (st : Boolean → ℕ → ℕ) (xs : List Alternative) (n : ℕ)
+    (answers tried answers′ tried′ : List ℕ)
     : Type 0 where
   pub answered : answers′ ≡ written answers 0 n (numberAt st xs)
   pub counted : tried′ ≡ written tried 0 n (tries st xs)

@@ -24,7 +24,8 @@ pub struct Matched {
 // Edge k of the operand that ends at `end`, on the event from row a to row a + 1.
 pub fn test_at(tree: &[u8], names: usize, states: &[u8], k: u8, end: usize, a: usize) -> u8
     requires { ⌜ TestAsked (now tree) names (now states) end a ⌝ }
-    ensures { λ r. ⌜ r ≡ testAt (stateAt names (now (states .entry))) a (testOf (now (tree .entry)) names k end) ⌝ }
+    ensures { λ r. ⌜ r ≡ testAt (stateAt names (now (states .entry))) a
+        (testOf (now (tree .entry)) names k end) ⌝ }
 {
     let before = state(tree, end, states, names, a);
     let after = state(tree, end, states, names, a + 1);

@@ -5,7 +5,7 @@
 -- Assumes nothing.
 use mathlib.Core.Path.{_≡_, refl, sym, ap, _∙_}
 use mathlib.Core.Bool.{Bool, true, false, _&&_, and-false, and-true}
-use mathlib.Core.List.{List, [], _∷_, _++_, append-assoc}
+use mathlib.Core.List.{List, [], _∷_, _++_, append-assoc, append-nil}
 use Prim.Native.Nat.{ℕ, zero, suc, _+_, _≤_, _<_}
 use native.Mathlib.Omega.{arith}
 use native.Mathlib.Numerals.{add-one}
@@ -33,7 +33,8 @@ name-start [] h = refl
 name-start (b ∷ bs) h = rw h
 
 pub name-rest :
-    (s : List ℕ) → 0 < length s → length s ≤ 32 → startsName (getD s 0 0) ≡ true → isName s ≡ all goesOnName (drop 1 s)
+    (s : List ℕ) → 0 < length s → length s ≤ 32 → startsName (getD s 0 0) ≡ true →
+    isName s ≡ all goesOnName (drop 1 s)
 unfolding isName
 name-rest [] p q h = absurd (omega arith)
 name-rest (b ∷ bs) p q h = simp (h, lt-ltb (length bs) 32 (omega arith), and-true)
@@ -64,10 +65,6 @@ module _ (s : List ℕ) (i : ℕ) where
       i < length s → (getD s i 0 ≡ 0 → ⊥) → untilZero (drop i s) ≡ getD s i 0 ∷ untilZero (drop (i + 1) s)
   unfolding untilZero
   until-at-more h e = rw (add-one, drop-cons s i 0 h, ne-eqb (getD s i 0) 0 e)
-
-append-nil : (s : List ℕ) → s ++ [] ≡ s
-append-nil [] = refl
-append-nil (x ∷ s) = ap (λ (l : List ℕ). x ∷ l) (append-nil s)
 
 module _ (s : List ℕ) (i : ℕ) (so-far : untilZero s ≡ take i s ++ untilZero (drop i s)) where
   pub until-end : length s ≤ i → take i s ≡ untilZero s

@@ -139,7 +139,8 @@ module _
         pub slot-unfilled : b ≡ false → GoodSlot names k → ⊥
         slot-unfilled f g = told-false zeros f (unfilled (slot-length names k h) long (g .filled))
 
-        pub slot-good : r ≡ true → b ≡ true → {w : Bool} → Tells (New names k) w → Tells (GoodSlot names k) w
+        pub slot-good : r ≡ true → b ≡ true → {w : Bool} → Tells (New names k) w
+            → Tells (GoodSlot names k) w
         slot-good y z (holds new) =
             holds
             (record {

@@ -35,7 +35,8 @@ agrees other c = true
 agrees (binary l) c = isNode c && (leb 40 c && ltb c 60)
 
 -- no span reaches so far
-kind-far : (ss : List Span) (c : ℕ) → all (λ (s : Span). ltb (s .upto) 148) ss ≡ true → 148 ≤ c → kindIn ss c ≡ other
+kind-far : (ss : List Span) (c : ℕ) → all (λ (s : Span). ltb (s .upto) 148) ss ≡ true → 148 ≤ c
+    → kindIn ss c ≡ other
 unfolding kindIn all
 kind-far [] c h l = refl
 kind-far (s ∷ ss) c h l =
@@ -109,7 +110,8 @@ binary-code c l e =
 abbrev sureBelow : (ℕ → Bool) → ℕ → Bool
 sureBelow p c = if isNode c then p c else true
 
-sure : (p : ℕ → Bool) (n : ℕ) → every n (sureBelow p) ≡ true → (c : ℕ) → c < n → isNode c ≡ true → p c ≡ true
+sure : (p : ℕ → Bool) (n : ℕ) → every n (sureBelow p) ≡ true → (c : ℕ) → c < n → isNode c ≡ true
+    → p c ≡ true
 sure p n h c l k = rw k at (every-at n (sureBelow p) h c l)
 
 pub node-leaf : (c : ℕ) → isNode c ≡ true → c < 40 → (eqb c 0 || leb 32 c) ≡ true

@@ -74,5 +74,6 @@ no-fault clean f = let h = f .first .given in omega arith
 pub row-seven : {q : Sorted} {fs : List ℕ} {p : ℕ} → Agree q fs → q ≡ faulty p → unsorted fs p
 row-seven a e = first-fault (rw e at a)
 
-pub seven-never : {q : Sorted} {fs : List ℕ} {x : Expression} {p : ℕ} → Agree q fs → q ≡ is x → unsorted fs p → ⊥
+pub seven-never : {q : Sorted} {fs : List ℕ} {x : Expression} {p : ℕ} → Agree q fs → q ≡ is x
+    → unsorted fs p → ⊥
 seven-never a e = no-fault (rw e at a)

@@ -18,7 +18,8 @@ use Rattle.grammar.specs.Tokens.{tokens}
 use Rattle.grammar.specs.Answers.{handed}
 use Rattle.reader.specs.Texts.{tokensOf}
 
-pub place-inside : (ts : List text.Token) (b i : ℕ) → All (λ (t : Token). t .place ≤ b) (tokensOf ts) → i < length ts
+pub place-inside : (ts : List text.Token) (b i : ℕ) → All (λ (t : Token). t .place ≤ b) (tokensOf ts)
+    → i < length ts
     → getD (reading.placesOf ts) i 0 ≤ b
 unfolding tokens reading.codesOf reading.placesOf
 place-inside [] b i a h = absurd (omega arith)

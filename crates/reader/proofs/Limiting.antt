@@ -57,7 +57,8 @@ module _ (v : Vector) {m : Measured} (e : m ≡ measured v) where
       go false h = refl
 
 -- an expression has the sort asked for
-asked-sort : (o : Sort) (bytes : ℕ) (x y : Expression) → asked o bytes x ≡ is y → hasSort o (isVector y) ≡ true
+asked-sort : (o : Sort) (bytes : ℕ) (x y : Expression) → asked o bytes x ≡ is y
+    → hasSort o (isVector y) ≡ true
 unfolding asked hasSort isVector
 asked-sort the-sort.Boolean b (boolean c) y e = let z : boolean c ≡ y = cc in rw (sym z) refl
 asked-sort the-sort.Boolean b (vector p) y e = let z : _≡_ {A = ℕ} 0 1 = cc in absurd (omega arith)
@@ -126,7 +127,8 @@ module _ {names text : List ℕ} {sort : Sort} {x : Expression} (k : Clear names
     not-large e p h = let g = rw (v .is-it) at h in never (e ∙ g .given)
 
 -- the ways of `limit`
-pub limit-refused : {names text : List ℕ} {sort : Sort} {r : Read} → Unlimited names text sort r → r .refused ≡ true
+pub limit-refused : {names text : List ℕ} {sort : Sort} {r : Read} → Unlimited names text sort r
+    → r .refused ≡ true
     → Reading names text sort r
 unfolding made refusedWith
 limit-refused (refused n p h) e = h
@@ -137,7 +139,8 @@ pub record Left (names text : List ℕ) (sort : Sort) (r : Read) : Type 0 where
   pub clear : Clear names text sort it
   pub is-made : r ≡ made it
 
-pub left-over : {names text : List ℕ} {sort : Sort} {r : Read} → Unlimited names text sort r → r .refused ≡ false
+pub left-over : {names text : List ℕ} {sort : Sort} {r : Read} → Unlimited names text sort r
+    → r .refused ≡ false
     → Left names text sort r
 unfolding made refusedWith
 left-over (refused n p h) e = never (sym e)

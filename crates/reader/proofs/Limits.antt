@@ -48,7 +48,8 @@ unfolding SortedOver given
 over-given n (is x) f h k = k x h
 over-given n (faulty p) f h k = tt
 
-if-over : (n : ℕ) (b : Bool) (q r : Sorted) → SortedOver n q → SortedOver n r → SortedOver n (if b then q else r)
+if-over : (n : ℕ) (b : Bool) (q r : Sorted) → SortedOver n q → SortedOver n r
+    → SortedOver n (if b then q else r)
 if-over n true q r h k = h
 if-over n false q r h k = k
 
@@ -63,7 +64,8 @@ over-one n t l h (boolean c) o = go (eqb (t .code) 147) refl
     go false e = (edge-known (t .code - 64) (omega (arith, eqb-false (t .code) 147 e)), o)
 over-one n t l h (vector p) o = tt
 
-over-two : (n : ℕ) (t : Token) (x y : Expression) → ExpressionOver n x → ExpressionOver n y → SortedOver n (ofTwo t x y)
+over-two : (n : ℕ) (t : Token) (x y : Expression) → ExpressionOver n x → ExpressionOver n y
+    → SortedOver n (ofTwo t x y)
 unfolding SortedOver ofTwo ExpressionOver Over VectorOver
 over-two n t (boolean a) (boolean b) o u = if-over n (ltb (t .code) 50) _ (faulty (t .place)) (o, u) tt
 over-two n t (boolean a) (vector q) o u = if-over n (eqb (t .code) 40) (is (vector (while on-left q a)))
@@ -75,7 +77,8 @@ over-two n t (vector p) (vector q) o u =
     (if-over n (eqb (t .code) 41) (is (vector (join or-else p q))) _ (o, u)
     (if-over n (ltb (t .code) 50) (faulty (t .place)) (is (vector (join (joinAt (t .code - 50)) p q))) tt (o, u)))
 
-over-three : (n : ℕ) (t : Token) (z x y : Expression) → ExpressionOver n z → ExpressionOver n x → ExpressionOver n y
+over-three : (n : ℕ) (t : Token) (z x y : Expression) → ExpressionOver n z → ExpressionOver n x
+    → ExpressionOver n y
     → SortedOver n (ofThree t z x y)
 unfolding SortedOver ofThree ExpressionOver Over
 over-three n t (boolean c) (boolean a) (boolean b) o u w = (o, u, w)
@@ -92,7 +95,8 @@ over-leaf : (n : ℕ) (number : ℕ → ℕ) (t : Token) → t .code < 40 → Nu
 unfolding SortedOver ExpressionOver Over atom
 over-leaf n number t l k = go (eqb (t .code) 0) refl
   where
-    go : (b : Bool) → eqb (t .code) 0 ≡ b → Over n (if b then name (number (t .place)) else literal (t .code - 32))
+    go : (b : Bool) → eqb (t .code) 0 ≡ b
+        → Over n (if b then name (number (t .place)) else literal (t .code - 32))
     go true e = k (eqb-true _ _ e)
     go false e = omega arith
 
@@ -129,7 +133,8 @@ module _ (n : ℕ) (number : ℕ → ℕ) where
       (sorted-over q (all-right (nodes z ++ nodes x) (nodes y) b))
       (λ v h. over-three n t r u v f g h)))
 
-  over-asked : (sort : Sort) (length : ℕ) (x : Expression) → ExpressionOver n x → SortedOver n (asked sort length x)
+  over-asked : (sort : Sort) (length : ℕ) (x : Expression) → ExpressionOver n x
+      → SortedOver n (asked sort length x)
   unfolding SortedOver asked
   over-asked the-sort.Boolean l (boolean c) o = o
   over-asked the-sort.Boolean l (vector p) o = tt

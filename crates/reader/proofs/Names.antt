@@ -22,7 +22,8 @@ use Rattle.tokens.proofs.RightName.{names-le}
 use Rattle.reader.specs.Lookup.{word, countOf, same, first, numberOf, numberAt, isUnknown}
 
 pub first-here :
-    (n : ℕ) (p : ℕ → Bool) (k : ℕ) → k < n → p k ≡ true → ((j : ℕ) → j < k → p j ≡ false) → k ≡ first n p
+    (n : ℕ) (p : ℕ → Bool) (k : ℕ) → k < n → p k ≡ true → ((j : ℕ) → j < k → p j ≡ false) →
+    k ≡ first n p
 unfolding first
 first-here zero p k h e b = absurd (omega arith)
 first-here (suc n) p zero h e b = rw e

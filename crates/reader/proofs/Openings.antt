@@ -56,7 +56,8 @@ names-wrong names bytes made sort {f = f} h e g =
     (names-refused names bytes sort (f .number) (f .place) k)
 
 pub names-done :
-    (names : List ℕ) (made : ℕ → Type 0) {o : Outcome} {n : ℕ} → Comes (namesOrder names) made o → o ≡ call.Done n
+    (names : List ℕ) (made : ℕ → Type 0) {o : Outcome} {n : ℕ} → Comes (namesOrder names) made o →
+    o ≡ call.Done n
     → Passed (namesOrder names)
 unfolding Comes
 names-done names made h e = let k = rw e at h in k .0

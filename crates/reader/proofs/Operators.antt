@@ -130,7 +130,8 @@ module _ (t : Token) {s r : Sorting} where
   unfolding takesThree settled ofThree isVector
   three-wrong h k l e = record { moved = h .moved; does = go }
     where
-      all-booleans : (a b c : Boolean) (xs : List Expression) → Shows s (going (boolean b ∷ boolean a ∷ boolean c ∷ xs))
+      all-booleans : (a b c : Boolean) (xs : List Expression)
+          → Shows s (going (boolean b ∷ boolean a ∷ boolean c ∷ xs))
           → (k ≡ 0) ⊎ ((k ≡ 1) ⊎ (k ≡ 2)) → false ≡ true
       all-booleans a b c xs w (inl f) = sym (rw f at (top-sort k any w (omega arith))) ∙ rw f at e
       all-booleans a b c xs w (inr (inl f)) = sym (rw f at (top-sort k any w (omega arith))) ∙ rw f at e
@@ -189,7 +190,8 @@ module _ (t : Token) (b : ℕ) {s r : Sorting} where
   unfolding stepped
   goes-on o m f = record { moved = m; does = λ number g v w. go number g v w }
     where
-      go : (number : ℕ → ℕ) → b ≡ leafByte number t → (v : Run) → Shows s v → Shows r (stepped number t v)
+      go : (number : ℕ → ℕ) → b ≡ leafByte number t → (v : Run) → Shows s v
+          → Shows r (stepped number t v)
       go number g (going xs) w = f number g xs w
       go number g (stopped p) w = never (sym (shows-stopped w) ∙ o)
 

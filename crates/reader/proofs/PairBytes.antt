@@ -14,11 +14,13 @@ module _ {c : ℕ} {l r : Bool} where
   unfolding pairByte
   both-or a b n e = rw (a, b, ne-eqb c 40 n, eq-eqb c 41 e)
 
-  pub both-below : l ≡ true → r ≡ true → (c ≡ 40 → ⊥) → (c ≡ 41 → ⊥) → c < 50 → 255 ≡ pairByte c l r
+  pub both-below : l ≡ true → r ≡ true → (c ≡ 40 → ⊥) → (c ≡ 41 → ⊥) → c < 50
+      → 255 ≡ pairByte c l r
   unfolding pairByte
   both-below a b n m e = rw (a, b, ne-eqb c 40 n, ne-eqb c 41 m, lt-ltb c 50 e)
 
-  pub both-above : l ≡ true → r ≡ true → (c ≡ 40 → ⊥) → (c ≡ 41 → ⊥) → 50 ≤ c → c ≡ pairByte c l r
+  pub both-above : l ≡ true → r ≡ true → (c ≡ 40 → ⊥) → (c ≡ 41 → ⊥) → 50 ≤ c
+      → c ≡ pairByte c l r
   unfolding pairByte
   both-above a b n m e = rw (a, b, ne-eqb c 40 n, ne-eqb c 41 m, le-ltb c 50 e)
 

@@ -37,7 +37,8 @@ module _ (names text : List ℕ) (sort : Sort) where
         refused n p (refused-then (namesOrder names) _ n p good (refused-first (order text) _ n p r))
 
     module _ {ts : List Token} (clear : Passed (order text)) (r : Reads 0 text ts) where
-      in-tree : (n p : ℕ) → RefusedWith (treeOrder names text sort) n p → Reading names text sort (refusedWith n p)
+      in-tree : (n p : ℕ) → RefusedWith (treeOrder names text sort) n p
+          → Reading names text sort (refusedWith n p)
       in-tree n p k =
           refused n p (refused-then (namesOrder names) _ n p good (refused-then (order text) _ n p clear k))
 
@@ -61,7 +62,8 @@ module _ (names text : List ℕ) (sort : Sort) where
           same-tree : {row : Tree → ℕ → Type 0} {p : ℕ} (o : OfTree text row p) → o .tree ≡ e
           same-tree o = parses-unique (rw (reads-unique (o .read) r) at (o .whole)) w
 
-          pub seven : (p : ℕ) → sortedIn names text sort e ≡ faulty p → Reading names text sort (refusedWith 7 p)
+          pub seven : (p : ℕ) → sortedIn names text sort e ≡ faulty p
+              → Reading names text sort (refusedWith 7 p)
           unfolding RefusedWith treeOrder
           seven p q =
               in-tree 7 p

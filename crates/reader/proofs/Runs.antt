@@ -95,7 +95,8 @@ module _ (number : ℕ → ℕ) where
   follow-under ts (faulty p) f z xs h = run-stopped ts p
 
   pub run-tree :
-      {e : Tree} → Formed e → (xs : List Expression) → run number (nodes e) (going xs) ≡ settled (sorted number e) xs
+      {e : Tree} → Formed e → (xs : List Expression) →
+      run number (nodes e) (going xs) ≡ settled (sorted number e) xs
   unfolding nodes sorted run stepped settled
   run-tree (leaf-is {t = t} k) xs = at-leaf t xs (operand-code _ k .high)
   run-tree (one-is {t = t} {a = a} k p) xs =
@@ -104,7 +105,8 @@ module _ (number : ℕ → ℕ) where
       ∙ one-step t (sorted number a) xs (prefix-code _ k .1)
   run-tree (two-is {t = t} {a = a} {b = b} k p q) xs =
       run-last (nodes a ++ nodes b) t (going xs)
-      ∙ ap (stepped number t) (run-append (nodes a) (nodes b) (going xs) ∙ ap (run number (nodes b)) (run-tree p xs))
+      ∙ ap (stepped number t)
+      (run-append (nodes a) (nodes b) (going xs) ∙ ap (run number (nodes b)) (run-tree p xs))
       ∙ sym (run-last (nodes b) t (settled (sorted number a) xs))
       ∙ follow (nodes b ++ (t ∷ [])) (sorted number a) _ xs
       (λ x. run-last (nodes b) t (going (x ∷ xs))

@@ -103,7 +103,8 @@ made-one t a l h = go (eqb (t .code) 147) refl
 behind : (xs ys : List ℕ) {b c : ℕ} → b ≡ c → xs ++ (ys ++ (b ∷ [])) ≡ (xs ++ ys) ++ (c ∷ [])
 behind xs ys e = rw e (sym (append-assoc xs ys _))
 
-made-two-at : (z : Expression) {q : Sorted} {x y : Expression} {v : Bool} {b c : ℕ} → q ≡ is z → isVector z ≡ v
+made-two-at : (z : Expression) {q : Sorted} {x y : Expression} {v : Bool} {b c : ℕ} → q ≡ is z
+    → isVector z ≡ v
     → bytesOf z ≡ bytesOf x ++ (bytesOf y ++ (b ∷ [])) → b ≡ c → MadeBy q (y ∷ x ∷ []) v c
 unfolding stackBytes
 made-two-at z {q} {x} {y} e s k f =

@@ -166,7 +166,8 @@ all-tail (more h a) = a
 all-head : {P : Token → Type 0} {t : Token} {ts : List Token} → All P (t ∷ ts) → P t
 all-head (more h a) = h
 
-both : {P : Token → Type 0} {l : ℕ} {ts rest : List Token} {e : Tree} → Parses l ts e rest → All P ts → Both P e rest
+both : {P : Token → Type 0} {l : ℕ} {ts rest : List Token} {e : Tree} → Parses l ts e rest → All P ts
+    → Both P e rest
 unfolding nodes
 both (alone k) a = record { inner = more (all-head a) none; outer = all-tail a }
 both (applied k p) a =
@@ -191,5 +192,6 @@ both (chosen p k q k′ r) a =
     }
 
 pub nodes-inside :
-    {P : Token → Type 0} {ts rest : List Token} {e : Tree} {l : ℕ} → Parses l ts e rest → All P ts → All P (nodes e)
+    {P : Token → Type 0} {ts rest : List Token} {e : Tree} {l : ℕ} → Parses l ts e rest → All P ts →
+    All P (nodes e)
 nodes-inside p a = both p a .inner

@@ -104,7 +104,8 @@ pass-tree {names} {text} e f q h =
     rw (← run-tree (numberAt names text) f []) (rw (handed-nodes (nodes e)) at w)
 
 -- the sort asked for
-sort-refused : (o : Sort) (x : Expression) (bytes : ℕ) → hasSort o (isVector x) ≡ false → asked o bytes x ≡ faulty bytes
+sort-refused : (o : Sort) (x : Expression) (bytes : ℕ) → hasSort o (isVector x) ≡ false
+    → asked o bytes x ≡ faulty bytes
 unfolding hasSort asked isVector
 sort-refused the-sort.Boolean (boolean c) bytes e = never (sym e)
 sort-refused the-sort.Boolean (vector p) bytes e = refl

@@ -33,7 +33,8 @@ token-is t e = λ i. record { code = sym e i; place = t .place }
 at-head : (t : Token) (ts : List Token) → t .code ≡ 0 → Stands (t .place) (t ∷ ts)
 at-head t ts e = subst (λ (u : Token). Stands (t .place) (u ∷ ts)) (token-is t e) here
 
-stands-at : (ts : List Token) (i : ℕ) → i < length ts → getD (codesOf ts) i 0 ≡ 0 → Stands (getD (placesOf ts) i 0) ts
+stands-at : (ts : List Token) (i : ℕ) → i < length ts → getD (codesOf ts) i 0 ≡ 0
+    → Stands (getD (placesOf ts) i 0) ts
 unfolding codesOf placesOf
 stands-at [] i h e = absurd (omega arith)
 stands-at (t ∷ ts) zero h e = at-head t ts e

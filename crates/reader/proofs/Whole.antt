@@ -189,7 +189,8 @@ module _ {names bytes : List ℕ} {t : Tokens} (k : Tokened names bytes t) where
             is-tree = q;
           }
 
-      pub whole-sorted : t .count ≤ u → {r : Read} → Answered names bytes p sort r → Unlimited names bytes sort r
+      pub whole-sorted : t .count ≤ u → {r : Read} → Answered names bytes p sort r
+          → Unlimited names bytes sort r
       unfolding answered
       whole-sorted l {r} h =
           let (e, w, q) = parse-sound answer o in

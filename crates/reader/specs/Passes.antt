@@ -159,7 +159,8 @@ pub record Asked (s : Sorting) (c : ℕ) : Type 0 where
 
 pub record Stepped (t : Token) (b : ℕ) (s r : Sorting) : Type 0 where
   pub moved : Moved s r
-  pub does : (number : ℕ → ℕ) → b ≡ leafByte number t → (v : Run) → Shows s v → Shows r (stepped number t v)
+  pub does : (number : ℕ → ℕ) → b ≡ leafByte number t → (v : Run) → Shows s v
+      → Shows r (stepped number t v)
 
 pub record Halted (place : ℕ) (s r : Sorting) : Type 0 where
   pub moved : Moved s r

@@ -166,7 +166,8 @@ fn step(s: Sorting, code: u8, place: usize, byte: u8) -> Sorting
 // The byte of a name or literal: a name's is its slot's number.
 fn leaf_byte(names: &[u8], text: &[u8], code: u8, place: usize) -> u8
     requires { ⌜ Named (now names) (now text) place ⌝ }
-    ensures { λ r. ⌜ r ≡ leafIn (now (names .entry)) (now (text .entry)) (record { code = code; place = place }) ⌝ }
+    ensures { λ r. ⌜ r ≡ leafIn (now (names .entry)) (now (text .entry))
+        (record { code = code; place = place }) ⌝ }
 {
     if code == 0 {
         return slot_of(names, text, place) as u8;
@@ -193,7 +194,8 @@ fn start() -> Sorting
 // The pass over the nodes of a tree.
 pub fn sort_nodes(names: &[u8], text: &[u8], codes: &[u8], places: &[u16], len: usize) -> Sorting
     requires { ⌜ Handed (now names) (now text) (now codes) (now places) len ⌝ }
-    ensures { λ r. ⌜ Shown (now (names .entry)) (now (text .entry)) (now (codes .entry)) (now (places .entry)) len r ⌝ }
+    ensures { λ r. ⌜ Shown (now (names .entry)) (now (text .entry)) (now (codes .entry))
+        (now (places .entry)) len r ⌝ }
 {
     let mut s = start();
     let mut i = 0;

@@ -93,7 +93,8 @@ module _ (w : Half → Half → Half) (n s : ℕ) where
           rw (edge-pair k (omega arith), e) (sym (and-yes _))
 
 -- the second half is asked at the later row, the first one at the row before
-module _ (later : Bool) {t : List ℕ} {names end n s k : ℕ} (h : Plain t names end n s) (f : getD t (end - 1) 0 ≡ n)
+module _ (later : Bool) {t : List ℕ} {names end n s k : ℕ} (h : Plain t names end n s)
+    (f : getD t (end - 1) 0 ≡ n)
     (l : k ≤ 80) {r : ℕ} where
   pub test-later : later ≡ true → r ≡ asked (halfAt (k % 9)) s
       → eqb r 2 ≡ allowed (halves (sideOf later) n (testOf t names k end ∷ [])) s

@@ -6,7 +6,7 @@ use Prim.Native.Nat.{ℕ, zero, suc, _+_, _*_, _<_, _≤_, min}
 use native.Mathlib.Omega.{arith}
 use native.Mathlib.Nat.{suc-mul}
 use mathlib.Core.Path.{_≡_, refl, ap, sym, _∙_}
-use mathlib.Core.Bool.{Bool, true, false, _||_}
+use mathlib.Core.Bool.{Bool, true, false}
 use mathlib.Core.List.{List, [], _∷_, map}
 use lib.Dec.{ltb}
 use lib.ListN.{length, getD, length-append, length-map}
@@ -17,7 +17,7 @@ use Rattle.alf.specs.Bytes.{topVector, Decodes}
 use Rattle.alf.specs.Alternatives.{Test, Alternative, alternatives, tests, numberOfAlternatives, stepsOf, overLimit}
 use Rattle.alf.specs.declared.Sort.{Sort}
 use Rattle.alf.specs.declared.Sort.the-variants as sort
-use Rattle.alf.proofs.Bools.{never}
+use Rattle.alf.proofs.Bools.{never, or-left, or-right}
 use Rattle.trees.specs.Parts.{vectorAt}
 use Rattle.limits.specs.Accepted.{sortOf, overSize, Accepted, Limited}
 use Rattle.limits.specs.Sizes.{alternativeAt, Chosen, Shaped}
@@ -36,24 +36,18 @@ pub accepted-limited : (t : List ℕ) (names : ℕ) → Accepted names sort.Vect
 unfolding Decodes topVector sortOf overSize isVectorSort
 accepted-limited t names a = go (a .expression) (a .decodes) (a .sorted) (a .sized)
   where
-    go : (e : Expression) → Decodes names t e → sortOf e ≡ sort.Vector → overSize e ≡ false → Limited t names
+    go : (e : Expression) → Decodes names t e → sortOf e ≡ sort.Vector → overSize e ≡ false
+        → Limited t names
     go (boolean c) d k l = never (ap isVectorSort k)
     go (vector p) d k l = rw d l
 
 -- no alternative exceeds the greatest
-greatest-at : (f : Alternative → ℕ) → f [] ≡ 0 → (xs : List Alternative) (t : ℕ) → f (getD xs t []) ≤ greatestOf f xs
+greatest-at : (f : Alternative → ℕ) → f [] ≡ 0 → (xs : List Alternative) (t : ℕ)
+    → f (getD xs t []) ≤ greatestOf f xs
 unfolding greatestOf
 greatest-at f z [] t = omega arith
 greatest-at f z (x ∷ xs) zero = omega arith
 greatest-at f z (x ∷ xs) (suc t) = let e = greatest-at f z xs t in omega arith
-
-or-left : (p q : Bool) → (p || q) ≡ false → p ≡ false
-or-left true q h = h
-or-left false q h = refl
-
-or-right : (p q : Bool) → (p || q) ≡ false → q ≡ false
-or-right true q h = never (sym h)
-or-right false q h = h
 
 tests-joined : (x : Alternative) → tests x ≡ length (joined x)
 unfolding tests sumOf joined
@@ -88,7 +82,8 @@ module _ (ys : List Alternative) (h : overLimit ys ≡ false) where
   light-of =
       ltb-false 64 _ (or-right (ltb 16 (greatestOf length ys)) _ (or-right (ltb 64 (length ys)) _ h))
 
-exchanged-bounded : (h : Test → Test) (xs : List Alternative) → overLimit (map (map (map h)) xs) ≡ false → Bounded xs
+exchanged-bounded : (h : Test → Test) (xs : List Alternative) → overLimit (map (map (map h)) xs) ≡ false
+    → Bounded xs
 unfolding tests sumOf
 exchanged-bounded h xs e =
     let f = few-of (map (map (map h)) xs) e in
@@ -144,7 +139,8 @@ module _ (tree : List ℕ) (names : ℕ) (a : Accepted names sort.Vector tree) w
   pub shape-exact : (t : ℕ) {s n : ℕ} → Shaped (alternativeAt tree names (length tree) t) s n
       → (s ≡ length (alternativeOf tree names t)) × (n ≡ length (joined (alternativeOf tree names t)))
   shape-exact t g =
-      let e = ap (λ (ys : List Alternative). getD ys t []) (sym back) ∙ exchanged-at h (alternativesAt tree names) t in
+      let e =
+      ap (λ (ys : List Alternative). getD ys t []) (sym back) ∙ exchanged-at h (alternativesAt tree names) t in
       let u = ap length e ∙ length-map (alternativeOf tree names t) (map h) in
       let v = ap tests e ∙ exchanged-tests h (alternativeOf tree names t) in
       let k = accepted-bounded in

@@ -1,10 +1,10 @@
 -- What the calls come to, return by return.
--- Main names: decided-no, decided-yes; short-steps, short-tests, short-edges, short-operands, delivered, enough;
+-- Main names: short-steps, short-tests, short-edges, short-operands, delivered, enough;
 -- comes-18, comes-10, comes-on; refused-18, refused-10, passed-on. Assumes nothing.
 use Prim.Native.Nat.{ℕ, _<_, _≤_}
 use native.Mathlib.Omega.{arith}
 use mathlib.Core.Path.{_≡_, refl, sym, _∙_}
-use mathlib.Core.Bool.{Bool, true, false, not}
+use mathlib.Core.Bool.{Bool, true, false}
 use mathlib.Core.Logic.{inl, inr}
 use mathlib.Core.List.{List}
 use lib.Dec.{leb}
@@ -15,24 +15,12 @@ use Rattle.alf.specs.declared.Outcome.the-variants.{Done, Refused}
 use Rattle.alf.specs.declared.Sort.the-variants.{Vector}
 use Rattle.alf.specs.Alternatives.{Alternative, numberOfAlternatives}
 use Rattle.alf.specs.Refusals.{Order, check, no-room, NameCount, Never, RefusedWith, Passed, Comes}
-use Rattle.alf.proofs.Bools.{never}
 use Rattle.limits.specs.Accepted.{Accepted, Decides}
 use Rattle.rewriting.specs.Lists.{alternativesAt, stepList, testList, edgeList, operandList}
 use Rattle.rewriting.specs.Lists.{Long, Filled, Fillable}
 use Rattle.rewriting.specs.Calls.{treeOrder, roomOrder, after, After, Delivers, Rewrites}
 use Rattle.rewriting.proofs.Operands.{placed-number}
 use Rattle.rewriting.proofs.Holding.{step-entries, test-entries, edge-entries, operand-entries}
-
--- what a test says
-pub decided-no : {P : Type 0} (b : Bool) → Decides b P → not b ≡ true → P → ⊥
-unfolding Decides
-decided-no true d e = never e
-decided-no false d e = d
-
-pub decided-yes : {P : Type 0} (b : Bool) → Decides b P → not b ≡ false → P
-unfolding Decides
-decided-yes true d e = d
-decided-yes false d e = never (sym e)
 
 -- 1 to 32 names
 pub no-names : {n : ℕ} → n ≡ 0 → Decides false (NameCount n)
@@ -136,7 +124,8 @@ module _ {xs : List Alternative} (steps tests edges operands : List ℕ) {n m k 
 
 -- room for the lists of an accepted tree
 pub enough : {tree : List ℕ} {names : ℕ} {steps tests edges operands : List ℕ} {n m k : ℕ}
-    → Accepted names Vector tree → Long (alternativesAt tree names) n m k → n ≤ length steps → m ≤ length tests
+    → Accepted names Vector tree → Long (alternativesAt tree names) n m k → n ≤ length steps
+    → m ≤ length tests
     → k ≤ length edges → k ≤ length operands → Fillable tree names steps tests edges operands
 enough a l b c d e =
     record {
@@ -177,7 +166,8 @@ module _ (names : ℕ) (tree steps tests edges operands : List ℕ) where
   abbrev Stays : Outcome → Type 0
   Stays r = Rewrites names tree steps tests edges operands steps tests edges operands r
 
-  pub refused-18 : {r : Outcome} → (NameCount names → ⊥) → r ≡ Refused (record { number = 18; place = 0 }) → Stays r
+  pub refused-18 : {r : Outcome} → (NameCount names → ⊥) → r ≡ Refused (record { number = 18; place = 0 })
+      → Stays r
   refused-18 f e = rw e (record { outcome = comes-18 names tree _ _ f; memory = stay })
 
   pub refused-10 : {r : Outcome} → NameCount names → (Accepted names Vector tree → ⊥)

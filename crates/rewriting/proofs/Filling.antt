@@ -20,7 +20,8 @@ use Rattle.rewriting.proofs.Joining.{joined-append, joined-next, joined
 use Rattle.rewriting.proofs.Puts.{sets-append, put-none, put-then, put-lengths}
 
 -- stores of f of each of some things: one thing more, some things more
-pub sets-next : {A : Type 0} (f : A → ℕ) (l : List ℕ) (i : ℕ) (xs : List A) (t : ℕ) (d : A) {v : ℕ} → t < length xs
+pub sets-next : {A : Type 0} (f : A → ℕ) (l : List ℕ) (i : ℕ) (xs : List A) (t : ℕ) (d : A) {v : ℕ}
+    → t < length xs
     → v ≡ f (getD xs t d) → set (sets l i (map f (take t xs))) (i + t) v ≡ sets l i (map f (take (t + 1) xs))
 sets-next f l i xs t d {v} h e =
     let n = length-map (take t xs) f ∙ length-take-le t xs (omega arith) in
@@ -48,7 +49,8 @@ tests-part (x ∷ xs) zero l =
 tests-part (x ∷ xs) (suc t) l =
     let e = tests-part xs t (omega arith) in
     let d = ap length (joined-append x (joined xs)) ∙ length-append (joined x) (joined (joined xs)) in
-    let g = ap length (joined-append x (joined (take t xs))) ∙ length-append (joined x) (joined (joined (take t xs))) in
+    let g =
+    ap length (joined-append x (joined (take t xs))) ∙ length-append (joined x) (joined (joined (take t xs))) in
     omega arith
 
 -- how long the lists are
@@ -70,7 +72,8 @@ module _ {xs : List Alternative} {s n t : ℕ} (g : Counting xs s n t) where
     omega (arith, g .tests-are, tests-part xs t l),
   )
 
-  pub counting-next : {a b : ℕ} → t < length xs → a ≡ length (getD xs t []) → b ≡ length (joined (getD xs t []))
+  pub counting-next : {a b : ℕ} → t < length xs → a ≡ length (getD xs t [])
+      → b ≡ length (joined (getD xs t []))
       → Counting xs (s + a) (n + b) (t + 1)
   counting-next l e d =
       record {
@@ -135,7 +138,8 @@ module _ {x : Alternative} {tests₀ : List ℕ} {s : ℕ} {edges₀ operands₀
     walking-end l = let e = take-all j x l in (rw e at (g .counts), rw e at (g .put))
 
 -- the alternatives
-pub record Filling (xs : List Alternative) (steps₀ tests₀ edges₀ operands₀ steps tests edges operands : List ℕ)
+pub record Filling (xs : List Alternative)
+    (steps₀ tests₀ edges₀ operands₀ steps tests edges operands : List ℕ)
     (s from t : ℕ) : Type 0 where
   pub within : t ≤ length xs
   pub steps-are : steps ≡ sets steps₀ 0 (map length (take t xs))
@@ -168,10 +172,12 @@ module _ {xs : List Alternative} {steps₀ tests₀ edges₀ operands₀ : List 
       omega (arith, g .put .next-is, tests-part xs t l),
     )
 
-    pub filling-next : {tests′ edges′ operands′ : List ℕ} {next n : ℕ} → t < length xs → n ≡ length (getD xs t [])
+    pub filling-next : {tests′ edges′ operands′ : List ℕ} {next n : ℕ} → t < length xs
+        → n ≡ length (getD xs t [])
         → tests′ ≡ sets tests s (map length (getD xs t []))
         → Put (joined (getD xs t [])) from edges operands next edges′ operands′
-        → Filling xs steps₀ tests₀ edges₀ operands₀ (set steps t n) tests′ edges′ operands′ (s + n) next (t + 1)
+        → Filling xs steps₀ tests₀ edges₀ operands₀ (set steps t n) tests′ edges′ operands′
+        (s + n) next (t + 1)
     filling-next l e d p =
         record {
           within = omega arith;

@@ -41,12 +41,14 @@ pub front : (w out : List ℕ) {l : List ℕ} {n : ℕ} → l ≡ laid w out →
 unfolding laid
 front w out {n = n} e k = ap (take n) e ∙ take-at w _ n (sym k)
 
-pub front-within : (w out : List ℕ) {l : List ℕ} {n : ℕ} → l ≡ laid w out → n ≡ length w → n ≤ length l
+pub front-within : (w out : List ℕ) {l : List ℕ} {n : ℕ} → l ≡ laid w out → n ≡ length w
+    → n ≤ length l
 unfolding laid
 front-within w out e k = let d = ap length e ∙ length-append w (drop (length w) out) in omega arith
 
 -- arrays have room
-pub arrays-fillable : {tree : List ℕ} {names : ℕ} {steps tests edges operands : List ℕ} → Accepted names Vector tree
+pub arrays-fillable : {tree : List ℕ} {names : ℕ} {steps tests edges operands : List ℕ}
+    → Accepted names Vector tree
     → length steps ≡ 64 → length tests ≡ 1024 → length edges ≡ 4096 → length operands ≡ 4096
     → Fillable tree names steps tests edges operands
 arrays-fillable {tree} {names} a e d f g =
@@ -107,7 +109,8 @@ module _ {tree : List ℕ} {names : ℕ} {v : Alternatives} (h : Holds tree name
   pub operands-within : v .«test_count» ≤ length (v .operands)
   operands-within = front-within _ _ (h .filled .operands-are) (h .long .tests-are ∙ sym (operand-entries _))
 
-pub holds-unique : (tree : List ℕ) (names : ℕ) (v w : Alternatives) → Holds tree names v → Holds tree names w → v ≡ w
+pub holds-unique : (tree : List ℕ) (names : ℕ) (v w : Alternatives) → Holds tree names v → Holds tree names w
+    → v ≡ w
 holds-unique tree names v w h k =
     let count = h .long .alternatives-are ∙ sym (k .long .alternatives-are) in
     let step-count = h .long .steps-are ∙ sym (k .long .steps-are) in

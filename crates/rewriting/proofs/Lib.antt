@@ -4,6 +4,7 @@ pub mod Operands
 pub mod Placing
 pub mod Puts
 pub mod Reaching
+pub mod StepCases
 pub mod Joining
 pub mod Places
 pub mod Asking

@@ -61,7 +61,8 @@ module _ (tree : List ℕ) (names : ℕ) where
         ≡ alternatives (vectorAt tree names (length tree))
     unfolding alternativesOf stepList testList edgeList operandList
     lists-stand =
-        ap (λ (ts : List Test). cut (map length xs) (cut (map length (joined xs)) ts)) (tests-back (joined (joined xs)))
+        ap (λ (ts : List Test). cut (map length xs) (cut (map length (joined xs)) ts))
+        (tests-back (joined (joined xs)))
         ∙ cut-exchanged (testOn edgeBack (operandBack tree names)) xs
         ∙ alternatives-back
 

@@ -128,7 +128,8 @@ placed-same end p =
 bare-number : (p : Vector) → length (alternatives (bare p)) ≡ length (alternatives p)
 bare-number p = ap length (alternatives-on _ _ refl p) ∙ length-map (alternatives p) _
 
-bare-length : (p : Vector) (t : ℕ) → length (getD (alternatives (bare p)) t []) ≡ length (getD (alternatives p) t [])
+bare-length : (p : Vector) (t : ℕ)
+    → length (getD (alternatives (bare p)) t []) ≡ length (getD (alternatives p) t [])
 bare-length p t =
     ap (λ (xs : List Alternative). length (getD xs t [])) (alternatives-on _ _ refl p) ∙ go (alternatives p) t
   where

@@ -43,7 +43,8 @@ pub record Began (t : List ℕ) (names end : ℕ) : Type 0 where
 pub began : (t : List ℕ) (names end : ℕ) → Ends t names end → Began t names end
 began t names end h = go end end 1 (omega arith) (going-first h) (below? 0 1)
   where
-    go : (k at need : ℕ) → at ≤ k → Going t names end at need → (0 < need) ⊎ (need ≤ 0) → Began t names end
+    go : (k at need : ℕ) → at ≤ k → Going t names end at need → (0 < need) ⊎ (need ≤ 0)
+        → Began t names end
     go zero at need l g (inl p) = absurd (omega (arith, g .few))
     go zero at need l g (inr z) = record { at = at; start = going-done g z }
     go (suc k) at need l g (inl p) =
@@ -105,7 +106,8 @@ module _ (t : List ℕ) (names : ℕ) where
           }
 
   -- from all earlier ends
-  module _ (end : ℕ) (h : EndsVector t names end) (r : (m : ℕ) → m < end → EndsVector t names m → Stands m) where
+  module _ (end : ℕ) (h : EndsVector t names end)
+      (r : (m : ℕ) → m < end → EndsVector t names m → Stands m) where
     pos : end - 1 < end
     pos = omega (arith, vector-pos t names end h)
 

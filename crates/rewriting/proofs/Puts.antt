@@ -19,7 +19,8 @@ use Rattle.rewriting.specs.Steps.{stepAt, Placing, Put, Fits, OnePut}
 use Rattle.rewriting.proofs.Operands.{placed-length}
 
 -- stores one after the other
-pub sets-append : (l : List ℕ) (i : ℕ) (xs ys : List ℕ) → sets l i (xs ++ ys) ≡ sets (sets l i xs) (i + length xs) ys
+pub sets-append : (l : List ℕ) (i : ℕ) (xs ys : List ℕ)
+    → sets l i (xs ++ ys) ≡ sets (sets l i xs) (i + length xs) ys
 sets-append l i [] ys = ap (λ (k : ℕ). sets l k ys) (sym (add-zero i))
 sets-append l i (x ∷ xs) ys =
     let e : suc i + length xs ≡ i + suc (length xs) = omega arith in
@@ -28,19 +29,22 @@ sets-append l i (x ∷ xs) ys =
 pub put-none : {from : ℕ} {edges operands : List ℕ} → Put [] from edges operands from edges operands
 put-none = record { next-is = sym (add-zero _); edges-is = refl; operands-is = refl }
 
-pub put-one : {e : Edge} {k place from next : ℕ} {edges operands edges′ operands′ : List ℕ} → edgeNumber e ≡ k
+pub put-one : {e : Edge} {k place from next : ℕ} {edges operands edges′ operands′ : List ℕ}
+    → edgeNumber e ≡ k
     → OnePut k place from edges operands next edges′ operands′
     → Put (test e (name place) ∷ []) from edges operands next edges′ operands′
 unfolding numberOf endOf placeOf
 put-one d h = record { next-is = h .next-is; edges-is = rw d (h .edges-is); operands-is = h .operands-is }
 
-sets-then : (f : Test → ℕ) (s u : Step) (from : ℕ) (l : List ℕ) {next : ℕ} {l′ l″ : List ℕ} → next ≡ from + length s
+sets-then : (f : Test → ℕ) (s u : Step) (from : ℕ) (l : List ℕ) {next : ℕ} {l′ l″ : List ℕ}
+    → next ≡ from + length s
     → l′ ≡ sets l from (map f s) → l″ ≡ sets l′ next (map f u) → l″ ≡ sets l from (map f (s ++ u))
 sets-then f s u from l e d g =
     g ∙ rw (d, e, map-append f s u, ← length-map s f) (sym (sets-append l from (map f s) (map f u)))
 
 pub put-then : {s u : Step} {from next last : ℕ} {edges operands edges′ operands′ edges″ operands″ : List ℕ}
-    → Put s from edges operands next edges′ operands′ → Put u next edges′ operands′ last edges″ operands″
+    → Put s from edges operands next edges′ operands′
+    → Put u next edges′ operands′ last edges″ operands″
     → Put (s ++ u) from edges operands last edges″ operands″
 put-then {s} {u} {from} {edges = edges} {operands = operands} h k =
     record {

@@ -9,11 +9,7 @@ use mathlib.Core.Path.{_≡_, refl, ap, sym, _∙_}
 use mathlib.Core.Bool.{Bool, true, false, _||_}
 use mathlib.Core.Logic.{_⊎_, inl, inr}
 use Rattle.alf.specs.Words.{some}
-use Rattle.alf.proofs.Bools.{equal?}
-
-or-yes : (b : Bool) → (b || true) ≡ true
-or-yes true = refl
-or-yes false = refl
+use Rattle.alf.proofs.Bools.{equal?, or-yes}
 
 module _ (p : ℕ → Bool) where
   pub some-none : some 0 p ≡ false
@@ -32,7 +28,8 @@ module _ (p : ℕ → Bool) where
   some-found zero i l h = absurd (omega arith)
   some-found (suc n) i l h = go (some-found n i) (equal? i n)
     where
-      go : (i < n → p i ≡ true → some n p ≡ true) → (i ≡ n) ⊎ (i ≡ n → ⊥) → (some n p || p n) ≡ true
+      go : (i < n → p i ≡ true → some n p ≡ true) → (i ≡ n) ⊎ (i ≡ n → ⊥)
+          → (some n p || p n) ≡ true
       go r (inl e) = ap (λ (q : Bool). some n p || q) (ap p (sym e) ∙ h) ∙ or-yes (some n p)
       go r (inr f) = rw (r (omega arith) h) refl
 

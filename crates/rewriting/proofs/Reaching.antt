@@ -52,7 +52,8 @@ unfolding stepsOf
 exact p a l g = let e = long (alternatives p) a in omega (arith, g .steps-is)
 
 -- the last operand ends right before the operator
-pub last-ends : (t : List ℕ) (names end : ℕ) → EndsVector t names end → getD t (end - 1) 0 < 64 → Ends t names (end - 1)
+pub last-ends : (t : List ℕ) (names end : ℕ) → EndsVector t names end → getD t (end - 1) 0 < 64
+    → Ends t names (end - 1)
 last-ends t names end h k =
     let b = made-last t names end (vector-pos t names end h) in
     let (l, u) = vector-class names _ b (h .whole) k in
@@ -71,7 +72,8 @@ while-there s p c a j l k =
 abbrev pub held : ℕ → Step
 held m = test (pair (the 1) (the 1)) (name m) ∷ []
 
-module _ {s whole : Step} {m from next : ℕ} {edges operands edges′ operands′ : List ℕ} (e : whole ≡ s ++ held m)
+module _ {s whole : Step} {m from next : ℕ} {edges operands edges′ operands′ : List ℕ}
+    (e : whole ≡ s ++ held m)
     (p : Put s from edges operands next edges′ operands′) where
   pub held-fits : m < 65536 → from + length whole ≤ length edges → from + length whole ≤ length operands
       → Fits m edges′ operands′ next
@@ -84,7 +86,8 @@ module _ {s whole : Step} {m from next : ℕ} {edges operands edges′ operands�
         operands-room = omega (arith, p .next-is);
       }
 
-  pub held-put : {last : ℕ} {edges″ operands″ : List ℕ} → OnePut 20 m next edges′ operands′ last edges″ operands″
+  pub held-put : {last : ℕ} {edges″ operands″ : List ℕ}
+      → OnePut 20 m next edges′ operands′ last edges″ operands″
       → Put whole from edges operands last edges″ operands″
   unfolding edgeNumber halfNumber
   held-put q = rw e (put-then p (put-one refl q))

@@ -38,7 +38,8 @@ reported {a = a} h =
       room = omega (arith, h .room, length-take (a .count) (a .steps));
     }
 
-pub flagged-own : {names : ℕ} {tree : List ℕ} {a : Alternatives} {flags flags′ : List ℕ} → Flaggable names tree a flags
+pub flagged-own : {names : ℕ} {tree : List ℕ} {a : Alternatives} {flags flags′ : List ℕ}
+    → Flaggable names tree a flags
     → Flagged names (alternativesOf tree names (take (a .count) (a .steps)) (take (a .«step_count») (a .tests))
     (take (a .«test_count») (a .edges)) (take (a .«test_count») (a .operands))) flags flags′
     → Flagged names (ownAt tree names) flags flags′
@@ -95,7 +96,8 @@ module _ (names : ℕ) (tree flags : List ℕ) where
       (e, a .memory ∙ ap (after _ flags) e ∙ sym (b .memory))
 
   -- entry t is 1 exactly where alternative t is contradictory, else 0
-  pub contradicts-flag : {flags′ : List ℕ} {k : ℕ} → Contradicts names tree flags flags′ (Done k) → (t : ℕ)
+  pub contradicts-flag : {flags′ : List ℕ} {k : ℕ} → Contradicts names tree flags flags′ (Done k)
+      → (t : ℕ)
       → t < length (ownAt tree names)
       → getD flags′ t 0 ≡ flagOf (contradictory names (getD (ownAt tree names) t []))
   unfolding after laid flagList

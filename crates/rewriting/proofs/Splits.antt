@@ -46,7 +46,8 @@ append-step [] y j = refl
 append-step (s ∷ x) y zero = sym (append-nil s)
 append-step (s ∷ x) y (suc j) = append-step x y j
 
-append-step-back : (x y : Alternative) (j : ℕ) → getD (y ++ x) j [] ≡ getD (padded (length y) x) j [] ++ getD y j []
+append-step-back : (x y : Alternative) (j : ℕ)
+    → getD (y ++ x) j [] ≡ getD (padded (length y) x) j [] ++ getD y j []
 unfolding padded
 append-step-back x [] j = sym (append-nil (getD x j []))
 append-step-back x (s ∷ y) zero = refl

@@ -35,10 +35,12 @@ module _ (names : ℕ) (tree steps tests edges operands : List ℕ) where
     (at-fixed _ _, (at-fixed _ _, (at-fixed _ _, (at-fixed _ _, (at-fixed _ _, tt))))),
   )
 
-  pub rewrites-unique : {steps₁ tests₁ edges₁ operands₁ steps₂ tests₂ edges₂ operands₂ : List ℕ} {r q : Outcome}
+  pub rewrites-unique : {steps₁ tests₁ edges₁ operands₁ steps₂ tests₂ edges₂ operands₂ : List ℕ}
+      {r q : Outcome}
       → Rewrites names tree steps tests edges operands steps₁ tests₁ edges₁ operands₁ r
       → Rewrites names tree steps tests edges operands steps₂ tests₂ edges₂ operands₂ q
-      → (r ≡ q) × (steps₁ ≡ steps₂) × (tests₁ ≡ tests₂) × (edges₁ ≡ edges₂) × (operands₁ ≡ operands₂)
+      → (r ≡ q) × (steps₁ ≡ steps₂) × (tests₁ ≡ tests₂) × (edges₁ ≡ edges₂)
+      × (operands₁ ≡ operands₂)
   rewrites-unique {r = r} {q = q} a b =
       let e : r ≡ q = comes-unique order _ order-fixed (λ j k x y. x ∙ sym y) r q (a .outcome) (b .outcome) in
       let m = a .memory in

@@ -32,7 +32,8 @@ module _ {tree : List ℕ} {names : ℕ} (a : Accepted names Vector tree) {s n t
   counts-next = let e = shape-exact tree names a t h in counting-next g l (e .0) (e .1)
 
 -- the steps of an alternative
-module _ {tree : List ℕ} {names t n : ℕ} {tests₀ : List ℕ} {s : ℕ} {edges₀ operands₀ : List ℕ} {from : ℕ}
+module _ {tree : List ℕ} {names t n : ℕ} {tests₀ : List ℕ} {s : ℕ} {edges₀ operands₀ : List ℕ}
+    {from : ℕ}
     (h : Adding tree names t n tests₀ s edges₀ operands₀ from) {tests edges operands : List ℕ} {at j : ℕ}
     (g : Walking (alternativeOf tree names t) tests₀ s edges₀ operands₀ from tests edges operands at j) where
   module _ (l : j < n) where
@@ -73,8 +74,10 @@ module _ {tree : List ℕ} {names t n : ℕ} {tests₀ : List ℕ} {s : ℕ} {ed
 
 -- the alternatives
 module _ {tree : List ℕ} {names : ℕ} {steps₀ tests₀ edges₀ operands₀ : List ℕ}
-    (h : Fillable tree names steps₀ tests₀ edges₀ operands₀) {steps tests edges operands : List ℕ} {s from t : ℕ}
-    (g : Filling (alternativesAt tree names) steps₀ tests₀ edges₀ operands₀ steps tests edges operands s from t) where
+    (h : Fillable tree names steps₀ tests₀ edges₀ operands₀)
+    {steps tests edges operands : List ℕ} {s from t : ℕ}
+    (g : Filling (alternativesAt tree names) steps₀ tests₀ edges₀ operands₀
+    steps tests edges operands s from t) where
   module _ (l : t < length (alternativesAt tree names)) {n m : ℕ}
       (k : Shaped (alternativeAt tree names (length tree) t) n m) where
     steps-is : n ≡ length (alternativeOf tree names t)
@@ -105,7 +108,8 @@ module _ {tree : List ℕ} {names : ℕ} {steps₀ tests₀ edges₀ operands₀
 
     pub alternative-next : {tests′ edges′ operands′ : List ℕ} {next : ℕ}
         → Added tree names t tests s edges operands from tests′ edges′ operands′ next
-        → Filling (alternativesAt tree names) steps₀ tests₀ edges₀ operands₀ (set steps t n) tests′ edges′ operands′
+        → Filling (alternativesAt tree names) steps₀ tests₀ edges₀ operands₀ (set steps t n) tests′
+        edges′ operands′
         (s + n) next (t + 1)
     alternative-next p = filling-next g l steps-is (p .counts) (p .put)
 

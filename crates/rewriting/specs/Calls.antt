@@ -46,7 +46,8 @@ pub record After (xs : List Alternative) (steps tests edges operands steps′ te
   pub operands-are : operands′ ≡ after (operandList xs) operands r
 
 -- the end of the call, where the tree is accepted
-pub record Delivers (xs : List Alternative) (steps tests edges operands steps′ tests′ edges′ operands′ : List ℕ)
+pub record Delivers (xs : List Alternative)
+    (steps tests edges operands steps′ tests′ edges′ operands′ : List ℕ)
     (r : Outcome) : Type 0 where
   pub outcome : Comes (roomOrder xs steps tests edges operands) (λ k. k ≡ length xs) r
   pub memory : After xs steps tests edges operands steps′ tests′ edges′ operands′ r

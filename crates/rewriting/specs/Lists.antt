@@ -68,7 +68,8 @@ pub record Fillable (tree : List ℕ) (names : ℕ) (steps tests edges operands 
 abbrev pub alternativeOf : List ℕ → ℕ → ℕ → Alternative
 alternativeOf tree names t = getD (alternativesAt tree names) t []
 
-pub record Adding (tree : List ℕ) (names t n : ℕ) (tests : List ℕ) (s : ℕ) (edges operands : List ℕ) (from : ℕ)
+pub record Adding (tree : List ℕ) (names t n : ℕ) (tests : List ℕ) (s : ℕ) (edges operands : List ℕ)
+    (from : ℕ)
     : Type 0 where
   pub accepted : Accepted names Vector tree
   pub there : t < length (alternativesAt tree names)

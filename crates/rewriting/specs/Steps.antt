@@ -24,7 +24,8 @@ pub record Placing (tree : List ℕ) (names end t j : ℕ) (edges operands : Lis
   pub operands-room : from + length (stepAt tree names end t j) ≤ length operands
 
 -- the tests of a step from a place on, the place behind them, and the lists as they were before and behind
-pub record Put (s : Step) (from : ℕ) (edges operands : List ℕ) (next : ℕ) (edges′ operands′ : List ℕ) : Type 0 where
+pub record Put (s : Step) (from : ℕ) (edges operands : List ℕ) (next : ℕ) (edges′ operands′ : List ℕ)
+    : Type 0 where
   pub next-is : next ≡ from + length s
   pub edges-is : edges′ ≡ sets edges from (numbers s)
   pub operands-is : operands′ ≡ sets operands from (ends s)
@@ -36,7 +37,8 @@ pub record Behind (empty n j r : ℕ) : Type 0 where
 -- step j of an alternative that is put together of two, of n and m steps, is step l of the left one and then step r of
 -- the right one
 pub record Split (how : How) (n m j l r : ℕ) : Type 0 where
-  pub is : (x y : Alternative) → length x ≡ n → length y ≡ m → getD (put how x y) j [] ≡ getD x l [] ++ getD y r []
+  pub is : (x y : Alternative) → length x ≡ n → length y ≡ m
+      → getD (put how x y) j [] ≡ getD x l [] ++ getD y r []
 
 -- one test: there is room for it, and its place fits; it is written, and the place behind it
 pub record Fits (place : ℕ) (edges operands : List ℕ) (from : ℕ) : Type 0 where
@@ -44,7 +46,8 @@ pub record Fits (place : ℕ) (edges operands : List ℕ) (from : ℕ) : Type 0 
   pub edges-room : from < length edges
   pub operands-room : from < length operands
 
-pub record OnePut (k place from : ℕ) (edges operands : List ℕ) (next : ℕ) (edges′ operands′ : List ℕ) : Type 0 where
+pub record OnePut (k place from : ℕ) (edges operands : List ℕ) (next : ℕ) (edges′ operands′ : List ℕ)
+    : Type 0 where
   pub next-is : next ≡ from + 1
   pub edges-is : edges′ ≡ set edges from k
   pub operands-is : operands′ ≡ set operands from place

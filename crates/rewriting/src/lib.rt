@@ -78,7 +78,8 @@ pub fn rewrite(
     edges: &mut [u8],
     operands: &mut [u16],
 ) -> Outcome
-    ensures { λ r. ⌜ Rewrites names (now (tree .entry)) (now (steps .entry)) (now (tests .entry)) (now (edges .entry))
+    ensures { λ r. ⌜ Rewrites names (now (tree .entry)) (now (steps .entry)) (now (tests .entry))
+        (now (edges .entry))
         (now (operands .entry)) (now (steps .exit)) (now (tests .exit)) (now (edges .exit)) (now (operands .exit))
         r ⌝ }
 {

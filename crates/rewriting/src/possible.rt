@@ -22,7 +22,8 @@ fn test_allows(
     s: u8,
 ) -> bool
     requires { ⌜ Plain (now tree) names end name s ⌝ }
-    ensures { λ r. ⌜ r ≡ allowed (halves (sideOf later) name (testOf (now (tree .entry)) names k end ∷ [])) s ⌝ }
+    ensures { λ r. ⌜ r ≡ allowed (halves (sideOf later) name
+        (testOf (now (tree .entry)) names k end ∷ [])) s ⌝ }
 {
     if 80 < k {
         return true;
@@ -187,7 +188,8 @@ pub fn flag_all(
     flags: &mut [u8],
 )
     requires { ⌜ Reported (now tree) names (now steps) (now tests) (now edges) (now operands) (now flags) ⌝ }
-    ensures { λ r. ⌜ Flagged names (alternativesOf (now (tree .entry)) names (now (steps .entry)) (now (tests .entry))
+    ensures { λ r. ⌜ Flagged names (alternativesOf (now (tree .entry)) names (now (steps .entry))
+        (now (tests .entry))
         (now (edges .entry)) (now (operands .entry))) (now (flags .entry)) (now (flags .exit)) ⌝ }
 {
     let mut s: usize = 0;

@@ -35,7 +35,8 @@ pub fn put_step(
     from: usize,
 ) -> usize
     requires { ⌜ Placing (now tree) names end t j (now edges) (now operands) from ⌝ }
-    ensures { λ r. ⌜ Put (stepAt (now (tree .entry)) names end t j) from (now (edges .entry)) (now (operands .entry)) r
+    ensures { λ r. ⌜ Put (stepAt (now (tree .entry)) names end t j) from (now (edges .entry))
+        (now (operands .entry)) r
         (now (edges .exit)) (now (operands .exit)) ⌝ }
 {
     let shape = sizes::shape_of(tree, end, names, t);

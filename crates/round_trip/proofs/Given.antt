@@ -32,7 +32,8 @@ use Rattle.writer.specs.Placed.{placed}
 use Rattle.writer.specs.Writing.{textAt, Named}
 use Rattle.writer.proofs.Reading.{AllKnown}
 use Rattle.writer.proofs.Known.{written-known, tree-known, nodes-bytes}
-use Rattle.writer.proofs.Calls.{names-named, decoded}
+use Rattle.limits.proofs.Acceptance.{decoded}
+use Rattle.writer.proofs.Calls.{names-named}
 use Rattle.writer.proofs.Theorems.{text-tokens, text-parses}
 use Rattle.round_trip.proofs.Renumbering.{renumbered, codes-renumbered, Matched, matched}
 use Rattle.round_trip.proofs.Sorting.{matched-sorted}

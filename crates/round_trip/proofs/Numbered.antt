@@ -53,7 +53,8 @@ rest-stands names text p t ts h =
     let e : suc (p + length w) ≡ p + length w + 1 = omega arith in
     ap (λ (n : ℕ). drop n text) e
     ∙ sym (drop-drop 1 (p + length w) text)
-    ∙ ap (drop 1) (sym (drop-drop (length w) p text) ∙ ap (drop (length w)) h ∙ drop-at w (following names ts) _ refl)
+    ∙ ap (drop 1)
+    (sym (drop-drop (length w) p text) ∙ ap (drop (length w)) h ∙ drop-at w (following names ts) _ refl)
     ∙ following-rest names ts
 
 -- a slot holds the name that stands at byte p

@@ -103,7 +103,8 @@ bare-brackets e =
 same-brackets : {e e′ : Tree} → Formed e → Formed e′ → codesOf (nodes e) ≡ codesOf (nodes e′)
     → brackets (written 6 e) ≡ brackets (written 6 e′)
 same-brackets {e} {e′} f g h =
-    let n = nodes-renumbered (λ k. 0) e ∙ bare-same (nodes e) (nodes e′) h ∙ sym (nodes-renumbered (λ k. 0) e′) in
+    let n =
+    nodes-renumbered (λ k. 0) e ∙ bare-same (nodes e) (nodes e′) h ∙ sym (nodes-renumbered (λ k. 0) e′) in
     let s = nodes-unique (formed-renumbered (λ k. 0) f) (formed-renumbered (λ k. 0) g) n in
     sym (bare-brackets e) ∙ ap (λ (x : Tree). brackets (written 6 x)) s ∙ bare-brackets e′
 
@@ -128,7 +129,8 @@ brackets-codes ts us h =
 pub pair-left-out : {e : Tree} → Formed e → (ts before inside behind : List Token) (t u : Token)
     → codesOf ts ≡ codesOf (written 6 e) → ts ≡ before ++ (t ∷ (inside ++ (u ∷ behind)))
     → kindOf t ≡ opening → kindOf u ≡ closing
-    → (e′ : Tree) → Expression (before ++ (inside ++ behind)) e′ → codesOf (nodes e′) ≡ codesOf (nodes e) → ⊥
+    → (e′ : Tree) → Expression (before ++ (inside ++ behind)) e′ → codesOf (nodes e′) ≡ codesOf (nodes e)
+    → ⊥
 pair-left-out {e} f ts before inside behind t u c s k l e′ p =
     let a = left-out before t (inside ++ (u ∷ behind)) in
     let b = left-out (before ++ inside) u behind in

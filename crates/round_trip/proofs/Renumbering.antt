@@ -52,7 +52,8 @@ pub record Matched (number number′ : ℕ → ℕ) (us : List Token) (e : Tree)
   pub same : renumberedTree number tree ≡ renumberedTree number′ e
 
 pub matched : (number number′ : ℕ → ℕ) {us ts : List Token} {e : Tree}
-    → map (renumbered number) us ≡ map (renumbered number′) ts → Expression ts e → Matched number number′ us e
+    → map (renumbered number) us ≡ map (renumbered number′) ts → Expression ts e
+    → Matched number number′ us e
 matched number number′ {us} {ts} {e} h p = go (a .tree) (a .after) (a .parses) (a .rest-codes)
   where
     codes : codesOf us ≡ codesOf ts

@@ -1,17 +1,17 @@
 -- A tree that is not refused with 10 is accepted: what `Accepted` asks can be decided, so that nothing is lost between
 -- "not refused" and "accepted". Main name: accepted-stable. Assumes nothing.
-use Prim.Native.Nat.{ℕ, _<_, _≤_}
+use Prim.Native.Nat.{ℕ}
 use native.Mathlib.Omega.{arith}
 use mathlib.Core.Path.{_≡_, refl, sym, ap, _∙_}
 use mathlib.Core.Bool.{Bool, true, false}
 use mathlib.Core.List.{List}
-use mathlib.Core.Logic.{_⊎_, inl, inr}
 use lib.ListN.{length}
 use Rattle.alf.specs.declared.Sort.{Sort}
 use Rattle.alf.specs.declared.Sort.the-variants.{Boolean, Vector}
 use Rattle.alf.specs.Expressions.{Expression, boolean, vector}
 use Rattle.alf.specs.Bytes.{Decodes}
-use Rattle.alf.proofs.Bools.{never, below?}
+use Rattle.alf.proofs.Bools.{never}
+use Rattle.alf.proofs.Stable.{le-stable}
 use Rattle.alf.proofs.Decoding.{decode-unique}
 use Rattle.trees.specs.declared.sorts.Kind.{Kind}
 use Rattle.trees.specs.declared.sorts.Kind.the-variants as kind
@@ -37,13 +37,6 @@ sort-stable Vector Boolean f = absurd (f (λ e. apart e))
     apart e = let z : _≡_ {A = ℕ} 0 1 = cc in omega arith
 sort-stable Vector Vector f = refl
 
-most-stable : (m n : ℕ) → ((m ≤ n → ⊥) → ⊥) → m ≤ n
-most-stable m n f = go (below? n m)
-  where
-    go : (n < m) ⊎ (m ≤ n) → m ≤ n
-    go (inl l) = absurd (f (λ k. omega arith))
-    go (inr l) = l
-
 module _ (names : ℕ) (sort : Sort) (tree : List ℕ) (f : (Accepted names sort tree → ⊥) → ⊥) where
   from-decoded : (e : Expression) → Decodes names tree e → Accepted names sort tree
   from-decoded e h =
@@ -51,8 +44,8 @@ module _ (names : ℕ) (sort : Sort) (tree : List ℕ) (f : (Accepted names sort
         expression = e;
         decodes = h;
         sorted = sort-stable (sortOf e) sort (λ n. f (λ a. n (ap sortOf (same a) ∙ a .sorted)));
-        tokens = most-stable (length tree) 256 (λ n. f (λ a. n (a .tokens)));
-        brackets = most-stable (depthOf e) 32 (λ n. f (λ a. n (rw (same a) (a .brackets))));
+        tokens = le-stable (length tree) 256 (λ n. f (λ a. n (a .tokens)));
+        brackets = le-stable (depthOf e) 32 (λ n. f (λ a. n (rw (same a) (a .brackets))));
         sized = test-stable (overSize e) (λ n. f (λ a. n (ap overSize (same a) ∙ a .sized)));
       }
     where

@@ -21,7 +21,6 @@ use Rattle.alf.specs.Expressions.{Expression, ExpressionOver}
 use Rattle.alf.specs.Bytes.{bytesOf}
 use Rattle.alf.specs.Refusals.{too-long, RefusedWith, Passed, Comes}
 use Rattle.alf.proofs.Bools.{below?}
-use Rattle.alf.proofs.Decoding.{bytes-decode}
 use Rattle.tokens.specs.Texts.{Reads}
 use Rattle.tokens.specs.Texts as texts
 use Rattle.tokens.proofs.TextLaws.{reads-unique}
@@ -41,7 +40,7 @@ use Rattle.reader.proofs.Unique.{read-unique, read-sound, gives-read}
 use Rattle.writer.specs.Trees.{treeOf}
 use Rattle.writer.specs.Spelled.{text}
 use Rattle.writer.specs.Writing.{countOf, textAt, order, after, Writes, Named, endOrder}
-use Rattle.writer.proofs.Calls.{decoded}
+use Rattle.limits.proofs.Acceptance.{accepted-bytes}
 use Rattle.writer.proofs.Theorems.{text-tokens, text-parses, writes-unique}
 use Rattle.round_trip.proofs.Stable.{accepted-stable}
 use Rattle.round_trip.proofs.Given.{written-gives, codes-there}
@@ -108,7 +107,7 @@ read-write {names} {tree} {sort} w v =
     let a = was-written w .accepted in
     let n = countOf names in
     made-as (expressionAt tree n (length tree)) (read-unique v (written-read w))
-    (ap bytesOf (decoded n tree (a .expression) (a .decodes)) ∙ bytes-decode n tree (a .expression) (a .decodes))
+    (accepted-bytes a)
 
 -- what is read is told by its bytes alone
 abbrev readOf : List ℕ → Read
@@ -129,7 +128,8 @@ tree-of x = front (bytesOf x)
 
 pub read-again : {names bytes : List ℕ} {sort : Sort} {q r : Read} {out out′ : List ℕ} {k : ℕ}
     → Reading names bytes sort q → q .refused ≡ false
-    → Writes names (take (q .len) (q .tree)) sort out out′ (Done k) → Reading names (take k out′) sort r → r ≡ q
+    → Writes names (take (q .len) (q .tree)) sort out out′ (Done k) → Reading names (take k out′) sort r
+    → r ≡ q
 read-again {q = q} u n w v =
     let s = read-sound u n in
     let a = read-write w v in

@@ -15,7 +15,8 @@ use Rattle.alf.specs.States.{among}
 use Rattle.tokens.specs.declared.Class.{Class}
 use Rattle.tokens.specs.declared.Class.the-variants.{Letter, Quote, Digit, Blank, Operator, Other}
 use Rattle.tokens.specs.Classes.{isBlank, isOperator, classOf}
-use Rattle.tokens.proofs.Ranges.{all-from, all-from-law, all-of, keys, Rest, ranged, keyed}
+use Rattle.alf.proofs.Ranges.{all-from, all-from-law}
+use Rattle.tokens.proofs.Ranges.{all-of, keys, Rest, ranged, keyed}
 
 abbrev pub num : Class → ℕ
 num Letter = 0

@@ -58,7 +58,8 @@ half-cases b = go (eqb b 63) (eqb b 48) (eqb b 49) refl refl refl
 pub plain-cases : (b : ℕ) → isPlain b ≡ true → (b ≡ 63) ⊎ ((b ≡ 48) ⊎ (b ≡ 49))
 plain-cases b h = go (half-cases b)
   where
-    go : (b ≡ 63) ⊎ ((b ≡ 48) ⊎ ((b ≡ 49) ⊎ (3 ≤ halfOf b))) → (b ≡ 63) ⊎ ((b ≡ 48) ⊎ (b ≡ 49))
+    go : (b ≡ 63) ⊎ ((b ≡ 48) ⊎ ((b ≡ 49) ⊎ (3 ≤ halfOf b)))
+        → (b ≡ 63) ⊎ ((b ≡ 48) ⊎ (b ≡ 49))
     go (inl e) = inl e
     go (inr (inl e)) = inr (inl e)
     go (inr (inr (inl e))) = inr (inr e)

@@ -77,7 +77,8 @@ module _ (f : ℕ → ℕ → ℕ) (limit : ℕ) (xs : List ℕ) (count : ℕ) (
       rw (← getD-take count xs i 0 h) (drop-cons (take count xs) i 0 (omega (arith, size)))
 
   module _ (i n : ℕ) (inv : i + overAt f limit n (rest i) ≡ overAt f limit 0 (take count xs)) where
-    pub over-hit : i < count → {m : ℕ} → m ≡ f (getD xs i 0) n → limit < m → i ≡ overAt f limit 0 (take count xs)
+    pub over-hit : i < count → {m : ℕ} → m ≡ f (getD xs i 0) n → limit < m
+        → i ≡ overAt f limit 0 (take count xs)
     over-hit h e k =
         let z = over-cons f limit n (getD xs i 0) (rest (suc i)) (rw (← e) k) in
         let y = ap (overAt f limit n) (rest-cons i h) in omega arith

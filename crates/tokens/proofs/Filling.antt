@@ -20,7 +20,8 @@ room : (m : ℕ) → 0 < m → replicate {A = ℕ} m 0 ≡ 0 ∷ replicate (m - 
 room zero h = absurd (omega arith)
 room (suc m) h = let e : m ≡ suc m - 1 = omega arith in ap (λ (k : ℕ). 0 ∷ replicate {A = ℕ} k 0) e
 
-pub filled-more : (xs : List ℕ) (c : ℕ) → length xs < 4096 → set (filled xs) (length xs) c ≡ filled (xs ++ (c ∷ []))
+pub filled-more : (xs : List ℕ) (c : ℕ) → length xs < 4096
+    → set (filled xs) (length xs) c ≡ filled (xs ++ (c ∷ []))
 unfolding filled
 filled-more xs c h =
     let e : 4096 - length xs - 1 ≡ 4096 - (length xs + 1) = omega arith in

@@ -61,7 +61,8 @@ module _ (bs : List ℕ) (k : ℕ) {x : ℕ} (ex : x ≡ byteAt bs k) where
       pub half : {c r : ℕ} → goesOnName z ≡ false → c ≡ byteAt bs (k + 2) → r ≡ halfOf c → HalfAt bs k r
       unfolding halfAt
       half {c} {r} h ec er =
-          half-is (rw (← ex, ← ey, ← ez, ← ec, ← er) (rw (eq-eqb x 39 hx, eq-eqb y 98 hy, h) (go (ltb r 9) refl)))
+          half-is (rw (← ex, ← ey, ← ez, ← ec, ← er)
+          (rw (eq-eqb x 39 hx, eq-eqb y 98 hy, h) (go (ltb r 9) refl)))
         where
           small : r ≤ 9
           small = rw er (half-small c)

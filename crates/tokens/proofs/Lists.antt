@@ -22,7 +22,8 @@ pub and-false : (a : Bool) → a && false ≡ false
 and-false true = refl
 and-false false = refl
 
-pub starts-byte : (x : ℕ) (w bs : List ℕ) → 0 < x → starts (x ∷ w) bs ≡ eqb x (byteAt bs 0) && starts w (drop 1 bs)
+pub starts-byte : (x : ℕ) (w bs : List ℕ) → 0 < x
+    → starts (x ∷ w) bs ≡ eqb x (byteAt bs 0) && starts w (drop 1 bs)
 unfolding starts
 starts-byte x w [] h = rw (ne-eqb x 0 (λ e. omega arith))
 starts-byte x w (b ∷ bs) h = refl

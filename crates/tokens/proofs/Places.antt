@@ -65,7 +65,8 @@ module _ (f : ℕ → ℕ → ℕ) where
     abbrev over : ℕ → List Token → ℕ
     over n ts = overAt f limit n (codesOf ts)
 
-    over-hit : (n : ℕ) (t : Token) (ts : List Token) → ltb limit (f (t .code) n) ≡ true → over n (t ∷ ts) ≡ 0
+    over-hit : (n : ℕ) (t : Token) (ts : List Token) → ltb limit (f (t .code) n) ≡ true
+        → over n (t ∷ ts) ≡ 0
     unfolding overAt codesOf
     over-hit n t ts h = rw h
 
@@ -76,7 +77,8 @@ module _ (f : ℕ → ℕ → ℕ) where
     unfolding overAt codesOf
     over-miss n t ts h = rw h
 
-    pub over-none : (n : ℕ) (ts : List Token) → n ≤ limit → length ts ≤ over n ts → (p : ℕ) → running f n ts p ≤ limit
+    pub over-none : (n : ℕ) (ts : List Token) → n ≤ limit → length ts ≤ over n ts → (p : ℕ)
+        → running f n ts p ≤ limit
     over-none n [] h k p = rw (running-nil n p) h
     over-none n (t ∷ ts) h k p =
         go (ltb limit (f (t .code) n)) (leb (t .place) p) refl refl (λ a b. over-none (f (t .code) n) ts a b p)
@@ -85,7 +87,8 @@ module _ (f : ℕ → ℕ → ℕ) where
             (x y : Bool) →
             ltb limit (f (t .code) n) ≡ x →
             leb (t .place) p ≡ y →
-            (f (t .code) n ≤ limit → length ts ≤ over (f (t .code) n) ts → running f (f (t .code) n) ts p ≤ limit) →
+            (f (t .code) n ≤ limit → length ts ≤ over (f (t .code) n) ts
+            → running f (f (t .code) n) ts p ≤ limit) →
             running f n (t ∷ ts) p ≤ limit
         go true y e g ih = absurd (omega (arith, over-hit n t ts e))
         go false true e g ih =

@@ -1,31 +1,17 @@
 -- A match on a byte against a definition, by a test that antt computes: one law for an arm of single numbers (keyed),
 -- one for an arm of ranges and for the last arm (ranged). Both are over any function of a byte.
--- Main names: keyed, ranged, all-from-law. Assumes nothing.
+-- Main names: keyed, ranged. Assumes nothing.
 use mathlib.Core.Path.{_≡_, refl}
 use mathlib.Core.Bool.{Bool, true, false, _&&_, _||_}
 use mathlib.Core.List.{List, [], _∷_}
 use mathlib.Core.Logic.{_⊎_, inl, inr}
-use Prim.Native.Nat.{ℕ, zero, suc, _+_, _≤_, _<_}
+use Prim.Native.Nat.{ℕ, _+_, _≤_, _<_}
 use native.Mathlib.Omega.{arith}
 use lib.Dec.{eqb}
-use borrow.Author.Tests.{eqb-true, eqb-false}
+use borrow.Author.Tests.{eqb-true}
 use types.Run.{OneOf}
 use Rattle.alf.proofs.Bools.{and-left, and-right}
-
--- each of n numbers from lo on passes
-abbrev pub all-from : (ℕ → Bool) → ℕ → ℕ → Bool
-all-from p lo zero = true
-all-from p lo (suc n) = p lo && all-from p (suc lo) n
-
-pub all-from-law : (p : ℕ → Bool) (lo n b : ℕ) → all-from p lo n ≡ true → lo ≤ b → b < lo + n → p b ≡ true
-all-from-law p lo zero b t h k = absurd (omega arith)
-all-from-law p lo (suc n) b t h k =
-    go (eqb b lo) refl
-    (λ e. all-from-law p (suc lo) n b (and-right (p lo) _ t) (omega (arith, eqb-false b lo e)) (omega arith))
-  where
-    go : (x : Bool) → eqb b lo ≡ x → (eqb b lo ≡ false → p b ≡ true) → p b ≡ true
-    go true e ih = rw (eqb-true b lo e) (and-left (p lo) _ t)
-    go false e ih = ih e
+use Rattle.alf.proofs.Ranges.{all-from, all-from-law}
 
 -- each of some numbers passes
 abbrev pub all-of : (ℕ → Bool) → List ℕ → Bool
@@ -103,7 +89,8 @@ pub ranged :
 ranged f x lo n kss t b r h k =
     eqb-true x (f b) (not-key kss (Unit {0}) b (eqb x (f b)) r (all-from-law _ lo n b t h k))
 
-pub keyed : (f : ℕ → ℕ) (x : ℕ) (ks : List ℕ) (b : ℕ) → all-of (λ k. eqb x (f k)) ks ≡ true → OneOf ks b → x ≡ f b
+pub keyed : (f : ℕ → ℕ) (x : ℕ) (ks : List ℕ) (b : ℕ) → all-of (λ k. eqb x (f k)) ks ≡ true
+    → OneOf ks b → x ≡ f b
 keyed f x [] b t o = absurd o
 keyed f x (k ∷ []) b t o = rw o (eqb-true x (f k) (and-left _ _ t))
 keyed f x (k ∷ (j ∷ ks)) b t (inl o) = rw o (eqb-true x (f k) (and-left _ _ t))

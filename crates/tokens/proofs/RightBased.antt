@@ -75,7 +75,8 @@ quote-tokenless bs q h v d rest t e = go (shape rest t e)
     go (as-edge a b c) = contrary (eq-eqb (byteAt bs 0) 39 q) (plain-unquoted (byteAt bs 0) a)
     go (as-spelled x m f g s) = contrary (eq-eqb (byteAt bs 0) 39 q) (rw (g, f) (entry-good m .unquoted))
 
-quote-short : {bs v : List ℕ} → byteAt bs 0 ≡ 39 → Shape bs v → (length v ≤ 3) ⊎ ((length v ≡ 6) × (byteAt bs 3 ≡ 39))
+quote-short : {bs v : List ℕ} → byteAt bs 0 ≡ 39 → Shape bs v
+    → (length v ≤ 3) ⊎ ((length v ≡ 6) × (byteAt bs 3 ≡ 39))
 quote-short {bs} q (as-name a b) = absurd (contrary a (quote-unnamed (byteAt bs 0) q))
 quote-short q (as-based a b (inl c)) = inl (omega arith)
 quote-short q (as-based a b (inr c)) = inr c
@@ -149,7 +150,8 @@ below-nine bs h e = omega (arith, half-at-less bs 0 h)
 pub right-based : (bs : List ℕ) → byteAt bs 0 ≡ 39 → Right bs (basedStep bs)
 right-based bs q = go (isHalf bs 0) refl
   where
-    second : isHalf bs 0 ≡ true → byteAt bs 3 ≡ 39 → (y : Bool) → isHalf bs 3 ≡ y → Right bs (basedStep bs)
+    second : isHalf bs 0 ≡ true → byteAt bs 3 ≡ 39 → (y : Bool) → isHalf bs 3 ≡ y
+        → Right bs (basedStep bs)
     second h p true k =
         rw (← both-halves bs refl (below-nine bs h) refl p refl (λ e. omega (arith, half-at-less bs 3 k)))
         (right-taken (λ e. omega (arith, half-at-less bs 0 h, half-at-less bs 3 k))

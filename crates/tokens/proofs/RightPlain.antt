@@ -47,7 +47,8 @@ spelled-codes = refl
 -- the tokens that are left where bs begin with no name and no `'`
 data Other (bs v : List ℕ) : Type 0 where
   two-plain : isPlain (byteAt bs 0) ≡ true → isPlain (byteAt bs 1) ≡ true → length v ≡ 2 → Other bs v
-  listed : (e : Spelling) → e In spellings → v ≡ e .bytes → byteAt bs 0 ≡ byteAt v 0 → starts v bs ≡ true → Other bs v
+  listed : (e : Spelling) → e In spellings → v ≡ e .bytes → byteAt bs 0 ≡ byteAt v 0 → starts v bs ≡ true
+      → Other bs v
 
 module _ (bs : List ℕ) (u : startsName (byteAt bs 0) ≡ false) (q : eqb (byteAt bs 0) 39 ≡ false) where
   other-shape : {v : List ℕ} → Shape bs v → Other bs v

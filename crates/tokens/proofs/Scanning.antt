@@ -26,7 +26,8 @@ use Rattle.tokens.specs.Inner.Scan.{whole}
 use Rattle.tokens.proofs.Shapes.{token-size}
 use Rattle.tokens.proofs.Right.{Right}
 use Rattle.tokens.proofs.Taking.{right}
-use Rattle.tokens.proofs.Filling.{filled-none, filled-more, codes-more, places-more, codes-length, places-length}
+use Rattle.tokens.proofs.Filling.{filled-none, filled-more, codes-more, places-more}
+use Rattle.tokens.proofs.Filling.{codes-length, places-length}
 
 pub record Scanned (text : List ℕ) (p count : ℕ) (codes places : List ℕ) : Type 0 where
   pub before : List Token
@@ -141,7 +142,8 @@ module _ (text : List ℕ) (p : ℕ) (h : p < length text) where
                   rw (z .places-are, z .count-is, ← places-length (z .before), places-more)
                   (filled-more (placesOf (z .before)) p (omega (arith, places-length (z .before))));
               reads =
-                  λ ts s. rw append-assoc (z .reads (tokenAt (r .code) p ∷ ts) (reads-token rest b taken (onward s)));
+                  λ ts s. rw append-assoc
+                  (z .reads (tokenAt (r .code) p ∷ ts) (reads-token rest b taken (onward s)));
               stuck = λ q s. z .stuck q (stuck-token rest b taken (onward-stuck s));
             }
           where

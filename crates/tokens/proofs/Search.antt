@@ -22,7 +22,8 @@ abbrev pub all-in : (Spelling → Bool) → List Spelling → Bool
 all-in p [] = true
 all-in p (e ∷ es) = p e && all-in p es
 
-pub in-all : (p : Spelling → Bool) {e : Spelling} {es : List Spelling} → e In es → all-in p es ≡ true → p e ≡ true
+pub in-all : (p : Spelling → Bool) {e : Spelling} {es : List Spelling} → e In es → all-in p es ≡ true
+    → p e ≡ true
 in-all p (here {e = e}) t = and-left (p e) _ t
 in-all p (there {d = d} m) t = in-all p m (and-right (p d) _ t)
 
@@ -39,7 +40,8 @@ starts-complete [] rest = refl
 starts-complete (a ∷ w) rest = rw (eq-eqb a a refl, starts-complete w rest)
 
 pub data Found (es : List Spelling) (bs : List ℕ) : Step → Type 0 where
-  hit : (e : Spelling) → e In es → starts (e .bytes) bs ≡ true → Found es bs (step (e .code) (length (e .bytes)))
+  hit : (e : Spelling) → e In es → starts (e .bytes) bs ≡ true
+      → Found es bs (step (e .code) (length (e .bytes)))
   miss : ((e : Spelling) → e In es → starts (e .bytes) bs ≡ false) → Found es bs (step none 0)
 
 in-length : {e : Spelling} {es : List Spelling} → e In es → 0 < length es
@@ -65,7 +67,8 @@ found (e ∷ es) bs = go (starts (e .bytes) bs) refl (found es bs)
     shift h (hit d m t) = hit d (there m) t
     shift h (miss f) = miss (λ d m. missed bs h f m)
 
-    go : (q : Bool) → starts (e .bytes) bs ≡ q → Found es bs (firstOf es bs) → Found (e ∷ es) bs (firstOf (e ∷ es) bs)
+    go : (q : Bool) → starts (e .bytes) bs ≡ q → Found es bs (firstOf es bs)
+        → Found (e ∷ es) bs (firstOf (e ∷ es) bs)
     go true h f = rw h (hit e here h)
     go false h f = rw h (shift h f)
 
@@ -74,7 +77,8 @@ abbrev pub falling : ℕ → List Spelling → Bool
 falling n [] = true
 falling n (e ∷ es) = leb (length (e .bytes)) n && falling (length (e .bytes)) es
 
-falling-bound : {e : Spelling} {es : List Spelling} (n : ℕ) → falling n es ≡ true → e In es → length (e .bytes) ≤ n
+falling-bound : {e : Spelling} {es : List Spelling} (n : ℕ) → falling n es ≡ true → e In es
+    → length (e .bytes) ≤ n
 falling-bound n t (here {e = e}) = leb-true _ n (and-left (leb (length (e .bytes)) n) _ t)
 falling-bound n t (there {d = d} m) =
     let k = leb-true _ n (and-left (leb (length (d .bytes)) n) _ t) in

@@ -16,6 +16,7 @@ use Rattle.alf.specs.Words.{all}
 use Rattle.alf.specs.Names.{isLetter, startsName, goesOnName, isName}
 use Rattle.alf.specs.States.{among}
 use Rattle.alf.proofs.Bools.{and-left, and-right}
+use Rattle.alf.proofs.NameBytes.{starts-goes-on}
 use Rattle.tokens.specs.Classes.{halfOf}
 use Rattle.tokens.specs.Spelling.{Spelling, _In_, spellings, IsToken}
 use Rattle.tokens.specs.Spelling.IsToken.{name, spelled, literal, edge, based-edge}
@@ -85,10 +86,6 @@ names-prefix [] rest h = omega arith
 names-prefix (b ∷ w) rest h =
     let k = names-prefix w rest (and-right (goesOnName b) _ h) in
     rw (and-left (goesOnName b) _ h) (omega arith)
-
-starts-goes-on : (b : ℕ) → startsName b ≡ true → goesOnName b ≡ true
-unfolding goesOnName
-starts-goes-on b h = rw h
 
 pub data Shape (bs v : List ℕ) : Type 0 where
   as-name : startsName (byteAt bs 0) ≡ true → length v ≤ nameBytes bs → Shape bs v

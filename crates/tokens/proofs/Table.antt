@@ -17,7 +17,7 @@ use Rattle.alf.proofs.Bools.{and-left, and-right}
 use Rattle.tokens.specs.Spelling.{Spelling, _means_, spellings}
 use Rattle.tokens.specs.Steps.{starts, firstOf, step, none}
 use Rattle.tokens.specs.Inner.{wordOf}
-use Rattle.tokens.proofs.Ranges.{all-from-law}
+use Rattle.alf.proofs.Ranges.{all-from-law}
 
 abbrev pub rows : List Spelling → List (List ℕ)
 rows [] = []
@@ -104,7 +104,8 @@ module _ (bs : List ℕ) (i : ℕ) (inv : firstOf (drop i spellings) bs ≡ firs
       let k = entry i h in
       rw (k .code, e, k .bytes) (sym (first-hit _ _ bs (rw (k .bytes) at (sym s))) ∙ next h)
 
-  pub find-miss : i < 26 → false ≡ starts (word i) bs → firstOf (drop (i + 1) spellings) bs ≡ firstOf spellings bs
+  pub find-miss : i < 26 → false ≡ starts (word i) bs
+      → firstOf (drop (i + 1) spellings) bs ≡ firstOf spellings bs
   find-miss h s =
       let k = entry i h in
       rw add-one (sym (first-miss _ _ bs (rw (k .bytes) at (sym s))) ∙ next h)

@@ -84,7 +84,8 @@ classed bs false false false true o = refl
 classed bs false false false false true = refl
 classed bs false false false false false = refl
 
-pub by-class : (bs : List ℕ) {x : Class} {b : ℕ} → x ≡ classOf b → b ≡ byteAt bs 0 → chosen x bs ≡ stepOf bs
+pub by-class : (bs : List ℕ) {x : Class} {b : ℕ} → x ≡ classOf b → b ≡ byteAt bs 0
+    → chosen x bs ≡ stepOf bs
 unfolding classOf stepOf
 by-class bs {x} {b} ex eb =
     rw (ex, ← eb) (classed bs (startsName b) (eqb b 39) (isDecimal b) (isBlank b) (isOperator b))

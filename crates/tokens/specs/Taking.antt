@@ -53,7 +53,8 @@ pub data Barred (bs : List ℕ) : ℕ → Type 0 where
 pub record Taken (bs w : List ℕ) (c : ℕ) (after : List ℕ) : Type 0 where
   pub token : IsToken w c
   pub there : bs ≡ w ++ after
-  pub longest : (v : List ℕ) (d : ℕ) (rest : List ℕ) → IsToken v d → bs ≡ v ++ rest → length v ≤ length w
+  pub longest : (v : List ℕ) (d : ℕ) (rest : List ℕ) → IsToken v d → bs ≡ v ++ rest
+      → length v ≤ length w
   pub allowed : (k : ℕ) → Barred bs k → ⊥
 
 -- bs begin with no token

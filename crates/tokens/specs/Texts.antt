@@ -22,7 +22,8 @@ tokenAt c p = record { code = c; place = p }
 -- the bytes that stand from place p on to the text's end are these tokens
 pub data Reads : ℕ → List ℕ → List Token → Type 0 where
   done : {p : ℕ} → Reads p [] []
-  blank : {p b : ℕ} {bs : List ℕ} {ts : List Token} → isBlank b ≡ true → Reads (suc p) bs ts → Reads p (b ∷ bs) ts
+  blank : {p b : ℕ} {bs : List ℕ} {ts : List Token} → isBlank b ≡ true → Reads (suc p) bs ts
+      → Reads p (b ∷ bs) ts
   token :
       {p b c : ℕ} {bs w after : List ℕ} {ts : List Token} →
       isBlank b ≡ false →

@@ -43,7 +43,8 @@ module _ {names times states : List ℕ} {n : ℕ} (t : Trace names times states
   name-there j h =
       let p = name-parted j h in rw (p .is) (name-read (nameRecords names j) (nameAt names j) (p .rest))
 
-  name-place : (j : ℕ) → j ≤ count names → nameEnd (fileOf names times states n) j ≡ length (nameRecords names j)
+  name-place : (j : ℕ) → j ≤ count names
+      → nameEnd (fileOf names times states n) j ≡ length (nameRecords names j)
   unfolding nameEnd nameRecords
   name-place zero h = refl
   name-place (suc j) h =
@@ -78,7 +79,8 @@ module _ {names times states : List ℕ} {n : ℕ} (t : Trace names times states
   all = t .lists .states-all
 
   front-length :
-      (r : ℕ) → r ≤ n → length (nameRecords names (count names) ++ rowRecords (count names) times states r) ≡ place
+      (r : ℕ) → r ≤ n →
+      length (nameRecords names (count names) ++ rowRecords (count names) times states r) ≡ place
       (fileOf names times states n) (count names) r
   unfolding place
   front-length r h =
@@ -200,7 +202,8 @@ module _ {names times states : List ℕ} {n : ℕ} (t : Trace names times states
   times-held (suc r) h =
       rw (times-held r (omega arith), time-held r h) (sym (take-suc times r 0 (omega (arith, t .lists .times-all))))
 
-  states-held : (r : ℕ) → r ≤ n → statesOf (fileOf names times states n) (count names) r ≡ take (r * count names) states
+  states-held : (r : ℕ) → r ≤ n
+      → statesOf (fileOf names times states n) (count names) r ≡ take (r * count names) states
   unfolding statesOf codesOf
   states-held zero h = rw zero-mul
   states-held (suc r) h =

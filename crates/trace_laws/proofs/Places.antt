@@ -37,13 +37,17 @@ data Order (k r k′ r′ : ℕ) : Type 0 where
 order : (k r k′ r′ : ℕ) → Order k r k′ r′
 order k r k′ r′ = go (ltb k k′) (ltb k′ k) (ltb r r′) (ltb r′ r) refl refl refl refl
   where
-    go : (a b c d : Bool) → ltb k k′ ≡ a → ltb k′ k ≡ b → ltb r r′ ≡ c → ltb r′ r ≡ d → Order k r k′ r′
+    go : (a b c d : Bool) → ltb k k′ ≡ a → ltb k′ k ≡ b → ltb r r′ ≡ c → ltb r′ r ≡ d
+        → Order k r k′ r′
     go true b c d e f g h = names-left (ltb-true k k′ e)
     go false true c d e f g h = names-right (ltb-true k′ k f)
-    go false false true d e f g h = rows-left (omega (arith, ltb-false k k′ e, ltb-false k′ k f)) (ltb-true r r′ g)
-    go false false false true e f g h = rows-right (omega (arith, ltb-false k k′ e, ltb-false k′ k f)) (ltb-true r′ r h)
+    go false false true d e f g h =
+        rows-left (omega (arith, ltb-false k k′ e, ltb-false k′ k f)) (ltb-true r r′ g)
+    go false false false true e f g h =
+        rows-right (omega (arith, ltb-false k k′ e, ltb-false k′ k f)) (ltb-true r′ r h)
     go false false false false e f g h =
-        same (omega (arith, ltb-false k k′ e, ltb-false k′ k f)) (omega (arith, ltb-false r r′ g, ltb-false r′ r h))
+        same (omega (arith, ltb-false k k′ e, ltb-false k′ k f))
+        (omega (arith, ltb-false r r′ g, ltb-false r′ r h))
 
 module _ {file : List ℕ} {k r k′ r′ : ℕ} (here : Before file k r) (there : Before file k′ r′) where
   earlier-names : k < k′ → GoesOn file k r
@@ -70,7 +74,8 @@ module _ {file : List ℕ} {k r k′ r′ : ℕ} (here : Before file k r) (there
       }
 
 pub accepted-unique :
-    {file : List ℕ} {k n k′ n′ : ℕ} → Accepted file k n → Accepted file k′ n′ → (k ≡ k′) × (n ≡ n′)
+    {file : List ℕ} {k n k′ n′ : ℕ} → Accepted file k n → Accepted file k′ n′ →
+    (k ≡ k′) × (n ≡ n′)
 accepted-unique {file} {k} {n} {k′} {n′} a b = go (order k n k′ n′)
   where
     go : Order k n k′ n′ → (k ≡ k′) × (n ≡ n′)
@@ -81,10 +86,12 @@ accepted-unique {file} {k} {n} {k′} {n′} a b = go (order k n k′ n′)
     go (rows-right e h) = absurd (earlier-rows (b .before) (a .before) (sym e) h .more (b .ends .mark))
 
 at-good :
-    (file : List ℕ) (k r number p : ℕ) → Passed (recordOrder file k r) → RefusedWith (recordOrder file k r) number p → ⊥
+    (file : List ℕ) (k r number p : ℕ) → Passed (recordOrder file k r) →
+    RefusedWith (recordOrder file k r) number p → ⊥
 at-good file k r number p = refused-passed (recordOrder file k r) number p
 
-pub accepted-refused : {file : List ℕ} {k n number p : ℕ} → Accepted file k n → FileRefused file number p → ⊥
+pub accepted-refused : {file : List ℕ} {k n number p : ℕ} → Accepted file k n → FileRefused file number p
+    → ⊥
 accepted-refused {file} {k} {n} {number} {p} a f = go (order k n (f .names) (f .rows))
   where
     go : Order k n (f .names) (f .rows) → ⊥
@@ -127,7 +134,8 @@ refusal-unique {file} {number} {p} {number′} {p′} f g = go (order (f .names)
         (f .refused))
     go (names-right h) =
         absurd
-        (at-good file (g .names) (g .rows) number′ p′ (earlier-names (g .before) (f .before) h .passed) (g .refused))
+        (at-good file (g .names) (g .rows) number′ p′ (earlier-names (g .before) (f .before) h .passed)
+        (g .refused))
     go (rows-right e h) =
         absurd
         (at-good file (g .names) (g .rows) number′ p′ (earlier-rows (g .before) (f .before) (sym e) h .passed)

@@ -187,7 +187,8 @@ module _ {names times states : List ℕ} {n : ℕ} (t : Trace names times states
 
 -- writing what was read gives the same bytes
 pub write-read :
-    {file n₀ t₀ s₀ n₁ t₁ s₁ : List ℕ} {k n : ℕ} (g : Got file n₀ t₀ s₀ k n n₁ t₁ s₁) {out out′ : List ℕ} (r : Outcome) →
+    {file n₀ t₀ s₀ n₁ t₁ s₁ : List ℕ} {k n : ℕ} (g : Got file n₀ t₀ s₀ k n n₁ t₁ s₁)
+    {out out′ : List ℕ} (r : Outcome) →
     length file ≤ length out →
     Writes (g .ns) (g .ts) (g .ss) n out out′ r →
     OneWriting r out′ (Outcome.Done (length file)) (over file out)

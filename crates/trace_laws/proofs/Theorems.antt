@@ -36,7 +36,8 @@ pub record TraceOf (file : List ℕ) (k n : ℕ) : Type 0 where
 pub exact-accepted : {file : List ℕ} {k n : ℕ} → TraceOf file k n → Accepted file k n
 exact-accepted t = rw (t .bytes, t .counted) (trace-accepted (t .trace))
 
-pub exact-trace : {file : List ℕ} {k n : ℕ} → ((i : ℕ) → getD file i 0 < 256) → Accepted file k n → TraceOf file k n
+pub exact-trace : {file : List ℕ} {k n : ℕ} → ((i : ℕ) → getD file i 0 < 256) → Accepted file k n
+    → TraceOf file k n
 exact-trace {file} {k} {n} bytes a =
     record {
       names = namesOf file k;
@@ -58,7 +59,8 @@ module _ {file : List ℕ} {k n : ℕ} (t : TraceOf file k n) where
   states-of : t .states ≡ statesOf file k n
   states-of = sym (rw (t .bytes, t .counted) (held-states (t .trace)))
 
-pub record Same (names times states : List ℕ) (n : ℕ) (names′ times′ states′ : List ℕ) (n′ : ℕ) : Type 0 where
+pub record Same (names times states : List ℕ) (n : ℕ) (names′ times′ states′ : List ℕ) (n′ : ℕ)
+    : Type 0 where
   pub names-same : names ≡ names′
   pub times-same : times ≡ times′
   pub states-same : states ≡ states′
@@ -81,7 +83,8 @@ refused-none f t = accepted-refused (exact-accepted t) f
 
 -- a reading
 module _ {file names times states : List ℕ} where
-  abbrev pub got-trace : {k n : ℕ} {names′ times′ states′ : List ℕ} → Got file names times states k n names′ times′
+  abbrev pub got-trace : {k n : ℕ} {names′ times′ states′ : List ℕ}
+      → Got file names times states k n names′ times′
       states′ → TraceOf file k n
   got-trace g =
       record { names = g .ns; times = g .ts; states = g .ss; trace = g .trace; bytes = g .bytes; counted = g .named }

@@ -84,7 +84,12 @@ slot-pasted {d} {d₁} {d₂} {src} {from} {n} {to} fits p₁ p₂ =
     record {
       is =
           p₂ .is
-          ∙ rw (p₁ .is, paste-paste d to (drop from src) n (omega arith) l (replicate (32 - n) 0) (32 - n), zeros, end)
+          ∙ rw (
+            p₁ .is,
+            paste-paste d to (drop from src) n (omega arith) l (replicate (32 - n) 0) (32 - n),
+            zeros,
+            end,
+          )
           (rw (append-assoc (take to d) name (replicate (32 - n) 0), slot));
     }
 

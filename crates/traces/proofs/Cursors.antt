@@ -51,7 +51,8 @@ module _ {m : Mark} {file : List ℕ} {s : Cursor} (st : StandsAt m file s) wher
   pub undue : {o : Outcome} → Is o 11 (s .place) → (Due (s .names) (s .rows) m → ⊥) → Checks file s o
   undue {o} e n =
       not-due file (s .names) (s .rows) _ marked (st .mark)
-      (e ∙ ap (λ (p : ℕ). Rattle.alf.specs.declared.Outcome.the-variants.Refused (record { number = 11; place = p }))
+      (e ∙ ap (λ (p : ℕ). Rattle.alf.specs.declared.Outcome.the-variants.Refused
+      (record { number = 11; place = p }))
       (st .stands .there)) n
 
   module _ (due : Due (s .names) (s .rows) m) where

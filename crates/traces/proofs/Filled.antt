@@ -32,7 +32,8 @@ module _ {file : List ℕ} {k n : ℕ} (accepted : Accepted file k n) where
   pub names-fit : {names : List ℕ} → k * 32 ≤ length names → NamesFit file k names
   names-fit h = record { names = accepted .before .names; room = h }
 
-  pub rows-fit : {at each : ℕ} {out : List ℕ} → at ≡ nameEnd file k → n * each ≤ length out → RowsFit file k at n each
+  pub rows-fit : {at each : ℕ} {out : List ℕ} → at ≡ nameEnd file k → n * each ≤ length out
+      → RowsFit file k at n each
       out
   rows-fit e h = record { there = e ∙ sym (place-zero file k); rows = accepted .before .rows; room = h }
 
@@ -50,7 +51,8 @@ module _ {file : List ℕ} {k n : ℕ} (accepted : Accepted file k n) (names tim
       )
 
   pub short-names :
-      {r : Reading} → Short r (k * 32) → length names < k * 32 → Reads file names times states names times states r
+      {r : Reading} → Short r (k * 32) → length names < k * 32 →
+      Reads file names times states names times states r
   unfolding RefusedWith
   short-names e h = short (k * 32) e (inl (refl, record { given = h; there = refl }))
 
@@ -63,7 +65,8 @@ module _ {file : List ℕ} {k n : ℕ} (accepted : Accepted file k n) (names tim
 
     module _ (room₁ : n ≤ length times) where
       pub short-states :
-          {r : Reading} → Short r (n * k) → length states < n * k → Reads file names times states names times states r
+          {r : Reading} → Short r (n * k) → length states < n * k →
+          Reads file names times states names times states r
       unfolding RefusedWith
       short-states e h =
           short (n * k) e

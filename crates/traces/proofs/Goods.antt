@@ -16,7 +16,7 @@ use Rattle.traces.specs.declared.Mark.the-variants.{Name, Row, End, Othe
 use Rattle.traces.specs.Records.{place, timeIn, nameIn, wordAt, markHere, markedOrder, Due, sizeOf, contents}
 use Rattle.traces.specs.Records.{GoodName, BadCode, Good}
 use Rattle.traces.specs.Steps.{Above}
-use Rattle.traces.proofs.Stable.{lt-stable, eq-stable, true-stable}
+use Rattle.alf.proofs.Stable.{lt-stable, eq-stable, true-stable}
 
 pub record NameFacts (file : List ℕ) (k : ℕ) : Type 0 where
   pub mark : markHere file k 0 ≡ Name

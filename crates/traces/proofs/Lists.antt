@@ -14,7 +14,8 @@ module _ (P : ℕ → Type 0) where
   upto-none i j h l = absurd (omega arith)
 
   pub upto-more :
-      (from i : ℕ) → ((j : ℕ) → from ≤ j → j < i → P j) → P i → (j : ℕ) → from ≤ j → j < i + 1 → P j
+      (from i : ℕ) → ((j : ℕ) → from ≤ j → j < i → P j) → P i → (j : ℕ) → from ≤ j →
+      j < i + 1 → P j
   upto-more from i below here j h l = go (eqb j i) refl
     where
       go : (b : Bool) → eqb j i ≡ b → P j

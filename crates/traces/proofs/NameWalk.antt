@@ -27,7 +27,8 @@ module _ (file : List ℕ) where
   end-mono j zero h = let e : j ≡ 0 = omega arith in rw e (omega arith)
   end-mono j (suc k) h = go (eqb j (suc k)) refl (λ l. end-mono j k l)
     where
-      go : (b : Bool) → eqb j (suc k) ≡ b → (j ≤ k → nameEnd file j ≤ nameEnd file k) → nameEnd file j ≤ nameEnd file
+      go : (b : Bool) → eqb j (suc k) ≡ b → (j ≤ k → nameEnd file j ≤ nameEnd file k)
+          → nameEnd file j ≤ nameEnd file
           (suc k)
       go true e ih = rw (eqb-true j (suc k) e) (omega arith)
       go false e ih = omega (arith, ih (omega (arith, eqb-false j (suc k) e)), end-suc k)
@@ -47,7 +48,8 @@ pub record Walk (file : List ℕ) (k at q j : ℕ) : Type 0 where
   pub ahead : j < k → q + 3 + getD file (q + 2) 0 ≤ at
   pub new : (i : ℕ) → i < j → nameIn file i ≡ nameIn file k → ⊥
 
-ahead-of : (file : List ℕ) (k at q j : ℕ) → at ≡ nameEnd file k → q ≡ nameEnd file j → j < k → q + 3 + getD file
+ahead-of : (file : List ℕ) (k at q j : ℕ) → at ≡ nameEnd file k → q ≡ nameEnd file j → j < k
+    → q + 3 + getD file
     (q + 2) 0 ≤ at
 ahead-of file k at q j e f h = rw (e, f, ← end-suc file j) (end-mono file (suc j) k h)
 
@@ -83,8 +85,10 @@ module _
     (there : q ≡ nameEnd file j) (byte : ByteIs (getD file (q + 2) 0) b)
     (there′ : at ≡ nameEnd file k) (byte′ : ByteIs (getD file (at + 2) 0) n)
     {r : Bool}
-    (y : r ≡ true → take (q + 3 + b - (q + 3)) (drop (q + 3) file) ≡ take (at + 3 + n - (at + 3)) (drop (at + 3) file))
-    (z : take (q + 3 + b - (q + 3)) (drop (q + 3) file) ≡ take (at + 3 + n - (at + 3)) (drop (at + 3) file) → r ≡ true)
+    (y : r ≡ true → take (q + 3 + b - (q + 3)) (drop (q + 3) file)
+    ≡ take (at + 3 + n - (at + 3)) (drop (at + 3) file))
+    (z : take (q + 3 + b - (q + 3)) (drop (q + 3) file) ≡ take (at + 3 + n - (at + 3)) (drop (at + 3) file)
+    → r ≡ true)
   where
     pub same-names : r ≡ true → nameIn file j ≡ nameIn file k
     same-names e = sym (name-is file j there byte) ∙ y e ∙ name-is file k there′ byte′

@@ -28,7 +28,8 @@ module _ (file : List ℕ) (k r : ℕ) (made : ℕ → Type 0) where
     whole p a = omega (arith, a .given)
 
     module _ {m : Mark} (mark : markHere file k r ≡ m) where
-      pub not-due : {o : Outcome} → Is o 11 (place file k r) → (Due k r m → ⊥) → Comes (recordOrder file k r) made o
+      pub not-due : {o : Outcome} → Is o 11 (place file k r) → (Due k r m → ⊥)
+          → Comes (recordOrder file k r) made o
       unfolding Comes RefusedWith
       not-due e n = rw (e, mark) (inr (whole, inl (refl, record { given = n; there = refl })))
 

@@ -28,7 +28,8 @@ pub place-zero : (file : List ℕ) (k : ℕ) → place file k 0 ≡ nameEnd file
 unfolding place
 place-zero file k = rw (zero-mul, add-zero)
 
-pub place-name : (file : List ℕ) (k : ℕ) → place file (k + 1) 0 ≡ place file k 0 + 3 + getD file (place file k 0 + 2) 0
+pub place-name : (file : List ℕ) (k : ℕ)
+    → place file (k + 1) 0 ≡ place file k 0 + 3 + getD file (place file k 0 + 2) 0
 place-name file k = rw (place-zero file (k + 1), place-zero file k, add-one) (end-suc file k)
 
 pub place-row : (file : List ℕ) (k r : ℕ) → place file k (r + 1) ≡ place file k r + 6 + k
@@ -172,6 +173,7 @@ module _ {file : List ℕ} (s : Cursor) {o : Outcome} (checked : Checks file s o
     file-refused e =
         record { names = s .names; rows = s .rows; before = before; refused = rw e at checked }
 
-    pub file-accepted : {mark : ℕ} → o ≡ Done mark → mark ≡ 3 → Checked file (Reading.Read (s .names) (s .rows))
+    pub file-accepted : {mark : ℕ} → o ≡ Done mark → mark ≡ 3
+        → Checked file (Reading.Read (s .names) (s .rows))
     unfolding Checked
     file-accepted e f = record { before = before; ends = good-marked file s End f (rw e at checked) }

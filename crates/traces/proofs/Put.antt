@@ -20,13 +20,15 @@ pub put-one : (d : List ℕ) (at x : ℕ) → at < length d → Put d at (x ∷ 
 put-one d at x h =
     record { is = set-split d at x h ∙ sym (rw add-one (append-snoc (take at d) x (drop (suc at) d))) }
 
-pub put-length : {d d₁ : List ℕ} {at : ℕ} {vs : List ℕ} → Put d at vs d₁ → at + length vs ≤ length d → length d₁ ≡
+pub put-length : {d d₁ : List ℕ} {at : ℕ} {vs : List ℕ} → Put d at vs d₁ → at + length vs ≤ length d
+    → length d₁ ≡
     length d
 put-length p h = ap length (p .is) ∙ rw (length-append, length-append, length-drop, length-take) (omega arith)
 
 module _ {d d₁ d₂ : List ℕ} {at at′ : ℕ} {vs ws : List ℕ} where
   pub put-put :
-      Put d at vs d₁ → Put d₁ at′ ws d₂ → at′ ≡ at + length vs → at + length vs ≤ length d → Put d at (vs ++ ws) d₂
+      Put d at vs d₁ → Put d₁ at′ ws d₂ → at′ ≡ at + length vs → at + length vs ≤ length d →
+      Put d at (vs ++ ws) d₂
   put-put p q e h =
       let front : List ℕ = take at d ++ vs in
       let size : length front ≡ at + length vs =
@@ -67,7 +69,8 @@ module _ (d : List ℕ) (at a b : ℕ) where
       put-put (put-two (omega arith))
       (rw e at (next (set (set d at a) (at + 1) b) (rw (length-set, length-set) (omega arith)))) refl (omega arith)
     where
-      next : (l : List ℕ) → at + 2 + 2 ≤ length l → Put l (at + 2) (x ∷ y ∷ []) (set (set l (at + 2) x) (at + 2 + 1) y)
+      next : (l : List ℕ) → at + 2 + 2 ≤ length l
+          → Put l (at + 2) (x ∷ y ∷ []) (set (set l (at + 2) x) (at + 2 + 1) y)
       next l k =
           put-put (put-one l (at + 2) x (omega arith))
           (put-one (set l (at + 2) x) (at + 2 + 1) y (rw length-set (omega arith))) refl (omega arith)

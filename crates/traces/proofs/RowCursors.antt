@@ -36,7 +36,8 @@ not-above r a b n = (some (ltb 0 r) refl, least (ltb a b) refl)
     least true e = absurd (n (λ h. ltb-true a b e))
     least false e = ltb-false a b e
 
-pub time-here : {file : List ℕ} {s : Cursor} → Stands file s → wordAt file (s .place + 2) ≡ timeIn file (s .names)
+pub time-here : {file : List ℕ} {s : Cursor} → Stands file s
+    → wordAt file (s .place + 2) ≡ timeIn file (s .names)
     (s .rows)
 unfolding timeIn
 time-here st = rw (st .there)

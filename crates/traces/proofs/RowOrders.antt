@@ -90,7 +90,8 @@ module _ (k : ℕ) (times states : List ℕ) where
   unfolding Passed rowsOrder
   rows-none = tt
 
-  pub rows-passed : {r n : ℕ} → r ≡ n → Passed (rowsOrder k times states r) → Comes (rowsOrder k times states n)
+  pub rows-passed : {r n : ℕ} → r ≡ n → Passed (rowsOrder k times states r)
+      → Comes (rowsOrder k times states n)
       (λ m. m ≡ n) (Done n)
   unfolding Comes
   rows-passed e p = (rw e at p, refl)

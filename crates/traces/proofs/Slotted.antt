@@ -14,6 +14,7 @@ use lib.Seq.{take-all, take-append-le, drop-append-le, drop-at}
 use borrow.Author.Tests.{eqb-true, eqb-false, ne-eqb}
 use Rattle.alf.specs.Words.{all, if_then_else_}
 use Rattle.alf.specs.Names.{isLetter, isDecimal, startsName, goesOnName, isName, slot, untilZero, nameAt, slotOf}
+use Rattle.alf.proofs.NameBytes.{starts-goes-on}
 use Rattle.names.proofs.Slots.{slot-of}
 use Rattle.traces.specs.Records.{nameIn}
 use Rattle.traces.specs.Held.{namesOf}
@@ -47,17 +48,13 @@ until-goes (b ∷ s) m e =
     let h = and-both (goesOnName b) (all goesOnName s) e in
     rw (no-zero b (h .0)) (ap (λ (l : List ℕ). b ∷ l) (until-goes s m (h .1)))
 
-starts-goes : (b : ℕ) → startsName b ≡ true → goesOnName b ≡ true
-unfolding goesOnName
-starts-goes b e = rw e
-
 pub name-goes : (s : List ℕ) → isName s ≡ true → all goesOnName s ≡ true
 unfolding isName all
 name-goes [] e = refl
 name-goes (b ∷ s) e =
     let h = and-both (startsName b) _ e in
     let g = and-both (all goesOnName s) _ (h .1) in
-    rw (starts-goes b (h .0)) (g .0)
+    rw (starts-goes-on b (h .0)) (g .0)
 
 pub until-name : (s : List ℕ) → isName s ≡ true → untilZero (slotOf s) ≡ s
 until-name s e = rw (slot-of s (name-short s e)) (until-goes s (32 - length s) (name-goes s e))
@@ -92,5 +89,6 @@ module _ (file : List ℕ) where
           let l : j < k = omega (arith, eqb-false j k e) in
           earlier k j l ∙ ih l
 
-  pub name-of-names : (k j : ℕ) → j < k → isName (nameIn file j) ≡ true → nameAt (namesOf file k) j ≡ nameIn file j
+  pub name-of-names : (k j : ℕ) → j < k → isName (nameIn file j) ≡ true
+      → nameAt (namesOf file k) j ≡ nameIn file j
   name-of-names k j h e = ap untilZero (slot-of-names k j h) ∙ until-name (nameIn file j) e

@@ -96,7 +96,8 @@ module _ (file : List ℕ) where
   split p n = sym (take-append-drop n (drop p file)) ∙ ap (λ (l : List ℕ). take n (drop p file) ++ l)
       (drop-drop n p file)
 
-  two : (p : ℕ) → p + 2 ≤ length file → drop p file ≡ getD file p 0 ∷ getD file (p + 1) 0 ∷ drop (p + 2) file
+  two : (p : ℕ) → p + 2 ≤ length file
+      → drop p file ≡ getD file p 0 ∷ getD file (p + 1) 0 ∷ drop (p + 2) file
   two p h =
       let e : p + 0 ≡ p = omega arith in
       rw e at (next p 0 (omega arith)) ∙ ap (λ (l : List ℕ). getD file p 0 ∷ l) (next p 1 (omega arith))

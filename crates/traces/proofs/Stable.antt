@@ -1,34 +1,11 @@
--- What cannot fail holds: of orders, equations, names and slots.
--- Main names: lt-stable, eq-stable, true-stable, slot-stable. Assumes nothing.
-use mathlib.Core.Path.{_≡_, refl, sym, ap, _∙_}
-use mathlib.Core.Bool.{Bool, true, false}
+-- What cannot fail holds, of names in slots. Main name: slot-stable. Assumes nothing.
+use mathlib.Core.Path.{_≡_, refl, ap}
 use mathlib.Core.List.{List, [], _∷_}
-use Prim.Native.Nat.{ℕ, _<_}
+use Prim.Native.Nat.{ℕ}
 use native.Mathlib.Omega.{arith}
-use lib.Dec.{ltb, eqb}
 use lib.ListN.{getD, drop}
-use borrow.Author.Tests.{ltb-true, ltb-false, eqb-true, eqb-false}
+use Rattle.alf.proofs.Stable.{eq-stable, true-stable}
 use Rattle.alf.specs.Names.{isName, nameAt, slot, slotOf, GoodSlot}
-
--- what is not refused holds
-module _ (x y : ℕ) where
-  pub lt-stable : ((x < y → ⊥) → ⊥) → x < y
-  lt-stable n = go (ltb x y) refl
-    where
-      go : (b : Bool) → ltb x y ≡ b → x < y
-      go true e = ltb-true x y e
-      go false e = absurd (n (λ l. omega (arith, ltb-false x y e)))
-
-  pub eq-stable : ((x ≡ y → ⊥) → ⊥) → x ≡ y
-  eq-stable n = go (eqb x y) refl
-    where
-      go : (b : Bool) → eqb x y ≡ b → x ≡ y
-      go true e = eqb-true x y e
-      go false e = absurd (n (eqb-false x y e))
-
-pub true-stable : (b : Bool) → ((b ≡ true → ⊥) → ⊥) → b ≡ true
-true-stable true n = refl
-true-stable false n = absurd (n (λ e. let z : _≡_ {A = ℕ} 0 1 = cc in omega arith))
 
 list-stable : (xs ys : List ℕ) → ((xs ≡ ys → ⊥) → ⊥) → xs ≡ ys
 list-stable [] [] n = refl

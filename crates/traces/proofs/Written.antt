@@ -177,14 +177,16 @@ module _ {names times states : List ℕ} {n k : ℕ} (g : Good names times state
       pub slots-fit : SlotsFit names k out
       slots-fit = record { there = names-lent .there; room = omega (arith, size .is) }
 
-      pub rows-fit : {out₁ : List ℕ} {at : ℕ} → NamesPut names k out out₁ at → RowsPut k times states n out₁ at
+      pub rows-fit : {out₁ : List ℕ} {at : ℕ} → NamesPut names k out out₁ at
+          → RowsPut k times states n out₁ at
       rows-fit p =
           record {
             lent = rows-lent (g .named);
             room = omega (arith, p .there, size .is, put-length (p .put) (omega (arith, size .is)));
           }
 
-      pub end-fits : {out₁ : List ℕ} {at room₂ : ℕ} → NamesPut names k out out₁ at → room₂ ≡ length out₁ → at + n *
+      pub end-fits : {out₁ : List ℕ} {at room₂ : ℕ} → NamesPut names k out out₁ at
+          → room₂ ≡ length out₁ → at + n *
           (6 + k) + 6 ≤ room₂
       end-fits p e = omega (arith, p .there, size .is, put-length (p .put) (omega (arith, size .is)))
 

@@ -60,8 +60,10 @@ pub record Untouched (names times states names′ times′ states′ : List ℕ)
   pub times-kept : times′ ≡ times
   pub states-kept : states′ ≡ states
 
-unfoldable pub Reads : List ℕ → List ℕ → List ℕ → List ℕ → List ℕ → List ℕ → List ℕ → Reading → Type 0
-Reads file names times states names′ times′ states′ (Read k n) = Got file names times states k n names′ times′ states′
+unfoldable pub Reads : List ℕ → List ℕ → List ℕ → List ℕ → List ℕ → List ℕ → List ℕ
+    → Reading → Type 0
+Reads file names times states names′ times′ states′ (Read k n) =
+    Got file names times states k n names′ times′ states′
 Reads file names times states names′ times′ states′ (Refused r) =
     (FileRefused file (r .number) (r .place) ⊎ RoomRefused file names times states (r .number) (r .place))
     × Untouched names times states names′ times′ states′

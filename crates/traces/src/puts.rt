@@ -43,7 +43,8 @@ pub fn put_name(names: &[u8], from: usize, n: usize, out: &mut [u8], at: usize)
 pub fn put_row(time: u32, states: &[u8], from: usize, k: usize, out: &mut [u8], at: usize)
     requires { ⌜ RowFits (now states) from k (now out) at ⌝ }
     ensures { λ _.
-        ⌜ Put (now (out .entry)) at (rowRecord time (take k (drop from (now (states .entry))))) (now (out .exit)) ⌝ }
+        ⌜ Put (now (out .entry)) at (rowRecord time (take k (drop from (now (states .entry)))))
+        (now (out .exit)) ⌝ }
 {
     put_mark(out, at, b'R', b'W');
     put_word(out, at + 2, time);

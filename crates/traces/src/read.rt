@@ -30,7 +30,8 @@ fn fill(
 ) -> Reading
     requires { ⌜ Accepted (now file) k n ⌝ }
     ensures { λ r.
-        ⌜ Reads (now (file .entry)) (now (names .entry)) (now (times .entry)) (now (states .entry)) (now (names .exit))
+        ⌜ Reads (now (file .entry)) (now (names .entry)) (now (times .entry)) (now (states .entry))
+        (now (names .exit))
         (now (times .exit)) (now (states .exit)) r ⌝ }
 {
     let slots = k * 32;
@@ -53,7 +54,8 @@ fn fill(
 // Reads a trace file into three lists: names in slots, times, states row by row.
 pub fn read_trace(file: &[u8], names: &mut [u8], times: &mut [u32], states: &mut [u8]) -> Reading
     ensures { λ r.
-        ⌜ Reads (now (file .entry)) (now (names .entry)) (now (times .entry)) (now (states .entry)) (now (names .exit))
+        ⌜ Reads (now (file .entry)) (now (names .entry)) (now (times .entry)) (now (states .entry))
+        (now (names .exit))
         (now (times .exit)) (now (states .exit)) r ⌝ }
 {
     match check_file(file) {

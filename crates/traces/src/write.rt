@@ -121,7 +121,8 @@ fn put_names(names: &[u8], k: usize, out: &mut [u8]) -> usize
 fn put_rows(k: usize, times: &[u32], states: &[u8], n: usize, out: &mut [u8], at: usize)
     requires { ⌜ RowsPut k (now times) (now states) n (now out) at ⌝ }
     ensures { λ _.
-        ⌜ Put (now (out .entry)) at (rowRecords k (now (times .entry)) (now (states .entry)) n) (now (out .exit)) ⌝ }
+        ⌜ Put (now (out .entry)) at (rowRecords k (now (times .entry)) (now (states .entry)) n)
+        (now (out .exit)) ⌝ }
 {
     let mut q = at;
     let mut from = 0;

@@ -90,7 +90,8 @@ Placed t names end place d =
 cap-max : (x y : ℕ) → min 33 (max x y) ≡ max (min 33 x) (min 33 y)
 cap-max x y = omega arith
 
-cap-bracket : (q : Bool) (d : ℕ) → (if q then min 33 (1 + min 33 d) else min 33 d) ≡ min 33 (if q then 1 + d else d)
+cap-bracket : (q : Bool) (d : ℕ)
+    → (if q then min 33 (1 + min 33 d) else min 33 d) ≡ min 33 (if q then 1 + d else d)
 cap-bracket true d = omega arith
 cap-bracket false d = refl
 

@@ -18,7 +18,8 @@ use Rattle.alf.proofs.Bools.{never}
 use Rattle.alf.proofs.Codes.{leaf-class, pair-class, three-class, one-class}
 use Rattle.alf.proofs.Parts.{last, arity-zero, arity-one, arity-two, arity-three, deep, unders}
 use Rattle.trees.specs.Parts.{isWhole, Ends, Start}
-use Rattle.trees.specs.Sorts.{kindOf, givenOne, givenTwo, leafKind, oneKind, pairKind, threeKind, placed, Ending}
+use Rattle.trees.specs.Sorts.{kindOf, givenOne, givenTwo, leafKind, oneKind, pairKind}
+use Rattle.trees.specs.Sorts.{threeKind, placed, Ending}
 use Rattle.trees.proofs.Operands.{arity-some, arity-more}
 use Rattle.trees.proofs.Starts.{Going, going-first, going-on, going-part, going-done, whole-at, start-unique}
 
@@ -143,7 +144,8 @@ module _ (t : List ℕ) (names end : ℕ) (p : 0 < end) (u : end ≤ length t) w
           (λ g. going-done (going-part t names end _ 0 m (rw (arity-one _ k) at g) (a .from q)) (omega arith))
 
       module _ {l o : ℕ} (c : Ending t names m l o) where
-        pub no-left : 40 ≤ getD t (end - 1) 0 → getD t (end - 1) 0 < 64 → l ≡ 0 → Ending t names end 0 (placed 0 0)
+        pub no-left : 40 ≤ getD t (end - 1) 0 → getD t (end - 1) 0 < 64 → l ≡ 0
+            → Ending t names end 0 (placed 0 0)
         unfolding unders
         no-left k j z =
             absent (λ g.
@@ -184,7 +186,8 @@ module _ (t : List ℕ) (names end : ℕ) (p : 0 < end) (u : end ≤ length t) w
                 going-done (going-part t names end o 0 n i (y .from x)) (omega arith))
 
 -- bytes end with one thing only
-pub ending-unique : {t : List ℕ} {names end k m k′ m′ : ℕ} → Ending t names end k m → Ending t names end k′ m′
+pub ending-unique : {t : List ℕ} {names end k m k′ m′ : ℕ} → Ending t names end k m
+    → Ending t names end k′ m′
     → (k ≡ k′) × (m ≡ m′)
 ending-unique {k = k} {m = m} {k′ = k′} {m′ = m′} x y = (x .is ∙ sym (y .is), go (ltb 0 k) refl)
   where

@@ -73,7 +73,8 @@ level-one b h =
     let l : 60 ≤ b = omega arith in
     rw (le-ltb _ _ i, le-ltb _ _ j, le-ltb _ _ k, le-ltb _ _ l, le-ltb _ _ h) refl
 
-pub level-made : (names b : ℕ) {s s′ : Stack} → Made names b s s′ → isWhole s′ ≡ true → levelOf (top s′) ≡ levelAt b
+pub level-made : (names b : ℕ) {s s′ : Stack} → Made names b s s′ → isWhole s′ ≡ true
+    → levelOf (top s′) ≡ levelAt b
 unfolding isWhole top levelOf
 level-made names b (a-name l u) h = sym (level-leaf b (omega arith))
 level-made names b (a-literal l u) h = sym (level-leaf b u)

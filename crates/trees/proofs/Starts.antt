@@ -126,7 +126,8 @@ going-part t names end at need m g s =
       left = omega arith;
     }
 
-pub going-done : {t : List ℕ} {names end at need : ℕ} → Going t names end at need → need ≤ 0 → Start t names end at
+pub going-done : {t : List ℕ} {names end at need : ℕ} → Going t names end at need → need ≤ 0
+    → Start t names end at
 unfolding unders size
 going-done {t} {names} {end} {at} {need = zero} g p =
     let l = g .moved in

@@ -89,7 +89,8 @@ module _ (t : List ℕ) (names end : ℕ) (h : EndsVector t names end) where
           right = record { within = inside; whole = c .right };
         }
 
-    pub join-is : getD t (end - 1) 0 < 64 → (getD t (end - 1) 0 ≡ 56 → ⊥) → (getD t (end - 1) 0 ≡ 57 → ⊥)
+    pub join-is : getD t (end - 1) 0 < 64 → (getD t (end - 1) 0 ≡ 56 → ⊥)
+        → (getD t (end - 1) 0 ≡ 57 → ⊥)
         → Joined t names end m
     join-is k f g =
         let u = join-high k f g in

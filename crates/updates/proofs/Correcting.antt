@@ -23,7 +23,8 @@ use Rattle.updates.specs.Corrections.{RewriteAsked, CorrectionAsked, Cor
 use Rattle.updates.proofs.Codes.{codes-append, codes-take, codes-drop}
 use Rattle.updates.proofs.Longest.{longest-is}
 
-module _ {tree : List ℕ} {names : ℕ} {states steps tests edges operands : List ℕ} {n r : ℕ} {answers new : List ℕ}
+module _ {tree : List ℕ} {names : ℕ} {states steps tests edges operands : List ℕ} {n r : ℕ}
+    {answers new : List ℕ}
     (c : CorrectionAsked tree names states steps tests edges operands n r answers new) where
   pub row-fits : r * names + names ≤ length states
   row-fits = omega (arith, mul-le-mul-right names (c .there), suc-mul r names, c .asked .rows .room)
@@ -76,7 +77,8 @@ module _ {tree : List ℕ} {names : ℕ} {states steps tests edges operands : Li
     abbrev xs : List Alternative
     xs = alternativesOf tree names steps tests edges operands
 
-    pub corrects : {answers′ : List ℕ} → answers′ ≡ written answers r m (numberAt (stateAt names states′) xs)
+    pub corrects : {answers′ : List ℕ}
+        → answers′ ≡ written answers r m (numberAt (stateAt names states′) xs)
         → Corrects names xs n r states answers new states′ answers′
     corrects {answers′} e =
         let i = stored ∙ placed-corrected in

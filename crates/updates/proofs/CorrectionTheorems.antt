@@ -28,7 +28,8 @@ use Rattle.updates.proofs.Correcting.{row-fits}
 use Rattle.updates.proofs.Longest.{longest-within}
 use Rattle.updates.proofs.Overs.{lists-ask}
 
-module _ {tree : List ℕ} {names : ℕ} {states steps tests edges operands : List ℕ} {n r : ℕ} {answers new : List ℕ}
+module _ {tree : List ℕ} {names : ℕ} {states steps tests edges operands : List ℕ} {n r : ℕ}
+    {answers new : List ℕ}
     (c : CorrectionAsked tree names states steps tests edges operands n r answers new) where
   abbrev xs : List Alternative
   xs = alternativesOf tree names steps tests edges operands
@@ -92,11 +93,13 @@ module _ {tree : List ℕ} {names : ℕ} {states steps tests edges operands : Li
                 (λ j l. corrected-other names states new r (row-fits c) (c .full) (i - d) j (apart w d h m) l);
           }
         where
-          apart : (i < r) ⊎ (r + longestOf xs < i) → (d : ℕ) → d ≤ longestOf xs → d ≤ i → i - d ≡ r → ⊥
+          apart : (i < r) ⊎ (r + longestOf xs < i) → (d : ℕ) → d ≤ longestOf xs → d ≤ i → i - d ≡ r
+              → ⊥
           apart (inl l) d h m e = omega arith
           apart (inr l) d h m e = omega arith
 
-      pub elsewhere : (i : ℕ) → (i < r) ⊎ (r + longestOf xs < i) → answerOf new-states xs i ≡ answerOf old xs i
+      pub elsewhere : (i : ℕ) → (i < r) ⊎ (r + longestOf xs < i)
+          → answerOf new-states xs i ≡ answerOf old xs i
       elsewhere i w =
           answers-near (Over names) new-states old (longestOf xs) i i xs some (near i w)
           (lists-ask steps tests (c .asked .shape .known)) (longest-within xs)
@@ -105,7 +108,8 @@ module _ {tree : List ℕ} {names : ℕ} {states steps tests edges operands : Li
           → (i : ℕ) → i < n → getD answers′ i 0 ≡ numberAt new-states xs i
       correction-right right i l = go (below? i r) (below? last i)
         where
-          go : (i < r) ⊎ (r ≤ i) → (last < i) ⊎ (i ≤ last) → getD answers′ i 0 ≡ numberAt new-states xs i
+          go : (i < r) ⊎ (r ≤ i) → (last < i) ⊎ (i ≤ last)
+              → getD answers′ i 0 ≡ numberAt new-states xs i
           go (inl a) b = correction-only i (inl a) ∙ right i l ∙ ap numberOf (sym (elsewhere i (inl a)))
           go (inr a) (inl b) =
               correction-only i (inr b) ∙ right i l ∙ ap numberOf (sym (elsewhere i (inr (beyond i l b))))

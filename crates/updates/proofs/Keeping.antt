@@ -60,7 +60,8 @@ module _ {trace : List ℕ} {names kept k : ℕ} (asked : KeepAsked trace names 
       let e = rows-fit kept (omega (arith, asked .few, asked .held)) (asked .most) in
       rw rest-is (omega (arith, asked .full, length-drop names trace))
 
-  pub keeps-all : {q : Queue} → kept < k → q .kept .0 ≡ kept + 1 → q .states ≡ stored trace → Keeps trace names kept k q
+  pub keeps-all : {q : Queue} → kept < k → q .kept .0 ≡ kept + 1 → q .states ≡ stored trace
+      → Keeps trace names kept k q
   unfolding lastRows
   keeps-all {q} l n s =
       let e : kept + 1 - k ≡ 0 = omega arith in

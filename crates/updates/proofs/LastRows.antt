@@ -17,7 +17,8 @@ use Rattle.alf.specs.Values.{rowOf}
 use Rattle.updates.specs.Copies.{placed}
 use Rattle.updates.specs.Queues.{lastRows, fed, stored}
 
-pub fed-length : (names : ℕ) (rows : ℕ → List ℕ) (n : ℕ) → ((i : ℕ) → i < n → length (rows i) ≡ names)
+pub fed-length : (names : ℕ) (rows : ℕ → List ℕ) (n : ℕ)
+    → ((i : ℕ) → i < n → length (rows i) ≡ names)
     → length (fed rows n) ≡ n * names
 unfolding fed
 fed-length names rows zero h = sym (zero-mul names)
@@ -50,7 +51,8 @@ module _ (names k : ℕ) where
   last-again n trace =
       let e : n - k + (min n k + 1 - k) ≡ n + 1 - k = omega arith in
       drop-drop ((min n k + 1 - k) * names) ((n - k) * names) trace
-      ∙ ap (λ (m : ℕ). drop m trace) (sym (add-mul (n - k) (min n k + 1 - k) names) ∙ ap (λ (m : ℕ). m * names) e)
+      ∙ ap (λ (m : ℕ). drop m trace)
+      (sym (add-mul (n - k) (min n k + 1 - k) names) ∙ ap (λ (m : ℕ). m * names) e)
 
 pub drop-row : (names m : ℕ) (trace : List ℕ) (j i : ℕ)
     → rowOf names (drop (m * names) trace) j i ≡ rowOf names trace (m + j) i

@@ -44,7 +44,8 @@ any-asks : (xs : List Alternative) → All (Asks Anything) xs
 any-asks [] = none
 any-asks (x ∷ xs) = more (steps-any x) (any-asks xs)
 
-module _ {names : ℕ} {xs : List Alternative} {n : ℕ} {rows : ℕ → List ℕ} {queues : ℕ → Queue} {answers : ℕ → Answer}
+module _ {names : ℕ} {xs : List Alternative} {n : ℕ} {rows : ℕ → List ℕ} {queues : ℕ → Queue}
+    {answers : ℕ → Answer}
     {counts : ℕ → ℕ} (f : Feed names xs n rows queues answers counts) where
   abbrev K : ℕ
   K = longestOf xs
@@ -57,7 +58,8 @@ module _ {names : ℕ} {xs : List Alternative} {n : ℕ} {rows : ℕ → List �
   fed-whole i h = fed-length names rows i (λ j l. f .full j (omega arith))
 
   -- what is kept with the row pushed are the last rows fed
-  trace-is : (i : ℕ) → i < n → Kept i → traceOf names (queues i) (rows i) ≡ drop ((i - K) * names) (fed rows (suc i))
+  trace-is : (i : ℕ) → i < n → Kept i
+      → traceOf names (queues i) (rows i) ≡ drop ((i - K) * names) (fed rows (suc i))
   unfolding fed
   trace-is i l k = rw (k .held) (last-push names K i (fed rows i) (rows i) (fed-whole i (omega arith)))
 
@@ -105,14 +107,16 @@ module _ {names : ℕ} {xs : List Alternative} {n : ℕ} {rows : ℕ → List �
           rw (trace-is i l k) (drop-row names (i - K) (fed rows (suc i)) (queues i .kept .0 - d) j)
           ∙ ap (λ (r : ℕ). rowOf names (fed rows (suc i)) r j) e
 
-  pub queue-answers : 0 < K → (i : ℕ) → i < n → Matches (stateAt names (fed rows (suc i))) xs i (answers i) (counts i)
+  pub queue-answers : 0 < K → (i : ℕ) → i < n
+      → Matches (stateAt names (fed rows (suc i))) xs i (answers i) (counts i)
   queue-answers some i l =
       let k = keeps i (omega arith) in
       let p = f .pushes i l in
       record {
         is =
             p .matched .is
-            ∙ answers-near Anything _ _ K (queues i .kept .0) i xs some (near i l k) (any-asks xs) (longest-within xs);
+            ∙ answers-near Anything _ _ K (queues i .kept .0) i xs some (near i l k) (any-asks xs)
+            (longest-within xs);
         count =
             p .matched .count
             ∙ tries-near Anything _ _ K (queues i .kept .0) i xs some (near i l k) (any-asks xs) (longest-within xs);

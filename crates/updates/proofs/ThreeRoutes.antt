@@ -45,13 +45,15 @@ fed-prefix rows i (suc n) m h l longer =
         let k : i ≤ n = omega (arith, d) in
         List·getD-append (fed rows n) (rows n) 0 m (omega (arith, longer n k (omega arith))) ∙ before k
 
-module _ {names : ℕ} {xs : List Alternative} {n : ℕ} {rows : ℕ → List ℕ} {queues : ℕ → Queue} {answers : ℕ → Answer}
+module _ {names : ℕ} {xs : List Alternative} {n : ℕ} {rows : ℕ → List ℕ} {queues : ℕ → Queue}
+    {answers : ℕ → Answer}
     {counts : ℕ → ℕ} (f : Feed names xs n rows queues answers counts) (over : All (Asks (Over names)) xs)
     (some : 0 < longestOf xs) (i : ℕ) (l : i < n) where
   whole : (j : ℕ) → j ≤ n → length (fed rows j) ≡ j * names
   whole j h = fed-length names rows j (λ k m. f .full k (omega arith))
 
-  same-row : (j k : ℕ) → j ≤ i → k < names → rowOf names (fed rows (suc i)) j k ≡ rowOf names (fed rows n) j k
+  same-row : (j k : ℕ) → j ≤ i → k < names
+      → rowOf names (fed rows (suc i)) j k ≡ rowOf names (fed rows n) j k
   same-row j k a b =
       let c = mul-le-mul-right {m = suc j} {n = suc i} names (omega arith) in
       sym

@@ -37,7 +37,8 @@ abbrev pub longestOf : List Alternative → ℕ
 longestOf xs = greatestOf length xs
 
 -- the new states as row r; the answers r to min(r+K, n-1) are those of the corrected trace; everything else stays
-pub record Corrects (names : ℕ) (xs : List Alternative) (n r : ℕ) (states answers new states′ answers′ : List ℕ)
+pub record Corrects (names : ℕ) (xs : List Alternative) (n r : ℕ)
+    (states answers new states′ answers′ : List ℕ)
     : Type 0 where
   pub stored : states′ ≡ corrected names states r new
   pub rewritten : answers′

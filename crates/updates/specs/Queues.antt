@@ -54,7 +54,8 @@ pub record Keeps (trace : List ℕ) (names kept k : ℕ) (q : Queue) : Type 0 wh
   pub states : q .states ≡ stored (lastRows names k (kept + 1) trace)
 
 -- the alternatives, a queue with room for K rows, and a row of all names whose states are codes
-pub record PushAsked (tree : List ℕ) (names : ℕ) (steps tests edges operands : List ℕ) (q : Queue) (row : List ℕ)
+pub record PushAsked (tree : List ℕ) (names : ℕ) (steps tests edges operands : List ℕ) (q : Queue)
+    (row : List ℕ)
     : Type 0 where
   pub shape : Shape tree names steps tests edges operands
   pub room : Room names (greatestOf (λ n. n) steps) q

@@ -66,7 +66,8 @@ pub fn correct(
 )
     requires { ⌜ CorrectionAsked (now tree) names (now states) (now steps) (now tests) (now edges) (now operands) n
         (row .0) (now answers) (now new) ⌝ }
-    ensures { λ _. ⌜ Corrects names (alternativesOf (now (tree .entry)) names (now (steps .entry)) (now (tests .entry))
+    ensures { λ _. ⌜ Corrects names (alternativesOf (now (tree .entry)) names (now (steps .entry))
+        (now (tests .entry))
         (now (edges .entry)) (now (operands .entry))) n (row .0) (now (states .entry)) (now (answers .entry))
         (now (new .entry)) (now (states .exit)) (now (answers .exit)) ⌝ }
 {

@@ -1,11 +1,11 @@
 -- What the call and its parts are proved by.
 -- Main names: held, delivered-long, delivered-short, delivered, refused-names, refused-tree, laid, lined, wrote,
--- names-named, names-new, decoded.
+-- names-named, names-new.
 -- Assumes nothing.
 use Prim.Native.Nat.{ℕ, _+_, _*_, _/_, _<_, _≤_}
 use native.Mathlib.Omega.{arith}
 use mathlib.Core.Path.{_≡_, refl, sym, ap, _∙_, subst}
-use mathlib.Core.Bool.{Bool, true, false, not}
+use mathlib.Core.Bool.{Bool, true, false}
 use mathlib.Core.Logic.{_⊎_, inl, inr}
 use mathlib.Core.List.{List, [], _∷_, _++_, map}
 use lib.Dec.{leb}
@@ -23,10 +23,11 @@ use Rattle.alf.proofs.Bools.{never}
 use Rattle.alf.proofs.Decoding.{bytes-decode, decode-over}
 use Rattle.alf.specs.Refusals.{At, RefusedWith, Passed, Comes}
 use Rattle.grammar.specs.Written.{written}
-use Rattle.trees.specs.Parts.{Ends, isWhole, top, expressionAt}
+use Rattle.trees.specs.Parts.{Ends, isWhole, expressionAt}
 use Rattle.names.specs.Check.{namesOrder}
 use Rattle.names.proofs.Orders.{none-first}
-use Rattle.limits.specs.Accepted.{Accepted, Decides}
+use Rattle.limits.specs.Accepted.{Accepted}
+use Rattle.limits.proofs.Acceptance.{decoded}
 use Rattle.writer.specs.Trees.{treeOf}
 use Rattle.writer.specs.Spelled.{text}
 use Rattle.writer.specs.Signs.{sign, signs, treeAt, lineFrom}
@@ -101,7 +102,8 @@ module _ {names : List ℕ} (h : Named names) where
       go true e = e
       go false e = absurd (none-first _ (h .passed .1 .0) i (l, λ g. never (sym e ∙ g .named)))
 
-  pub names-new : (i : ℕ) → i < length names / 32 → (j : ℕ) → j < i → nameAt names j ≡ nameAt names i → ⊥
+  pub names-new : (i : ℕ) → i < length names / 32 → (j : ℕ) → j < i → nameAt names j ≡ nameAt names i
+      → ⊥
   unfolding Passed
   names-new i l j k e = none-first _ (h .passed .1 .0) i (l, λ g. g .new j k e)
 
@@ -134,39 +136,26 @@ module _ (names tree : List ℕ) (sort : Sort) (room : ℕ) where
   comes-end h a (Refused q) x = inr (h .passed .0, inr (h .passed .1 .0, inr ((λ p y. y .given a), x)))
 
 -- refused before the text is made
-pub refused-names : {names tree : List ℕ} {sort : Sort} {out : List ℕ} (made : ℕ → Type 0) {r : Refusal} {o : Outcome}
+pub refused-names : {names tree : List ℕ} {sort : Sort} {out : List ℕ} (made : ℕ → Type 0) {r : Refusal}
+    {o : Outcome}
     → Comes (namesOrder names) made o → o ≡ Refused r → Writes names tree sort out out (Refused r)
 unfolding after
 refused-names {names} {tree} {sort} {out} made {r} x e =
     record { outcome = comes-names names tree sort (length out) made r (rw e at x); memory = refl }
 
 pub refused-tree : {names tree : List ℕ} {sort : Sort} {out : List ℕ} {o : Outcome}
-    → Named names → (Accepted (countOf names) sort tree → ⊥) → o ≡ Refused (record { number = 10; place = 0 })
+    → Named names → (Accepted (countOf names) sort tree → ⊥)
+    → o ≡ Refused (record { number = 10; place = 0 })
     → Writes names tree sort out out o
 unfolding after
 refused-tree {names} {tree} {sort} {out} h f e =
     rw e (record { outcome = comes-ten names tree sort (length out) h f; memory = refl })
 
-pub names-passed : {names : List ℕ} (made : ℕ → Type 0) {k : ℕ} {o : Outcome} → Comes (namesOrder names) made o
+pub names-passed : {names : List ℕ} (made : ℕ → Type 0) {k : ℕ} {o : Outcome}
+    → Comes (namesOrder names) made o
     → o ≡ Done k → Named names
 unfolding Comes
 names-passed made x e = record { passed = (rw e at x) .0 }
-
--- what a test says
-pub decided-no : {P : Type 0} (b : Bool) → Decides b P → not b ≡ true → P → ⊥
-unfolding Decides
-decided-no true d e = never e
-decided-no false d e = d
-
-pub decided-yes : {P : Type 0} (b : Bool) → Decides b P → not b ≡ false → P
-unfolding Decides
-decided-yes true d e = d
-decided-yes false d e = never (sym e)
-
--- the expression that an accepted tree is
-pub decoded : (n : ℕ) (tree : List ℕ) (e : Expression) → Decodes n tree e → expressionAt tree n (length tree) ≡ e
-unfolding Decodes top
-decoded n tree e h = ap top h
 
 module _ {names tree : List ℕ} {sort : Sort} (h : Named names) (a : Accepted (countOf names) sort tree) where
   abbrev e : Expression

@@ -15,18 +15,21 @@ abbrev pub flat : List (List ℕ) → List ℕ
 flat [] = []
 flat (x ∷ xs) = x ++ flat xs
 
-pub sets-append : (xs ys out : List ℕ) (at : ℕ) → sets (sets out at xs) (at + length xs) ys ≡ sets out at (xs ++ ys)
+pub sets-append : (xs ys out : List ℕ) (at : ℕ)
+    → sets (sets out at xs) (at + length xs) ys ≡ sets out at (xs ++ ys)
 sets-append [] ys out at = ap (λ (n : ℕ). sets out n ys) (omega arith)
 sets-append (x ∷ xs) ys out at =
     ap (λ (n : ℕ). sets (sets out at (x ∷ xs)) n ys) (omega arith) ∙ sets-append xs ys _ (suc at)
 
-pub record Going (out : List ℕ) (at : ℕ) (whole : List ℕ) (left : List (List ℕ)) (out′ : List ℕ) (p : ℕ) : Type 0 where
+pub record Going (out : List ℕ) (at : ℕ) (whole : List ℕ) (left : List (List ℕ)) (out′ : List ℕ) (p : ℕ)
+    : Type 0 where
   pub done : List ℕ
   pub split : whole ≡ done ++ flat left
   pub put : Put out at done out′ p
   pub room : Room out at whole
 
-pub put-length : {out : List ℕ} {at : ℕ} {w out′ : List ℕ} {p : ℕ} → Put out at w out′ p → length out′ ≡ length out
+pub put-length : {out : List ℕ} {at : ℕ} {w out′ : List ℕ} {p : ℕ} → Put out at w out′ p
+    → length out′ ≡ length out
 put-length {out} {at} {w} p = ap length (p .bytes) ∙ length-sets out at w
 
 pub going-start : {out : List ℕ} {at : ℕ} {whole : List ℕ} (left : List (List ℕ)) → whole ≡ flat left
@@ -38,7 +41,8 @@ module _ {out : List ℕ} {at : ℕ} {whole : List ℕ} where
       → length out′ ≡ length out
   going-length g = put-length (g .put)
 
-  pub going-room : {x : List ℕ} {left : List (List ℕ)} {out′ : List ℕ} {p : ℕ} → Going out at whole (x ∷ left) out′ p
+  pub going-room : {x : List ℕ} {left : List (List ℕ)} {out′ : List ℕ} {p : ℕ}
+      → Going out at whole (x ∷ left) out′ p
       → Room out′ p x
   going-room {x} {left} g =
       let r = g .room in

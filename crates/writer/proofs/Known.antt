@@ -29,8 +29,10 @@ use Rattle.writer.proofs.Reading.{AllKnown, none, more}
 pub data TreeKnown (names : List ℕ) : Tree → Type 0 where
   k-leaf : {t : Token} → Known names t → TreeKnown names (leaf t)
   k-one : {t : Token} {a : Tree} → Known names t → TreeKnown names a → TreeKnown names (one t a)
-  k-two : {t : Token} {a b : Tree} → Known names t → TreeKnown names a → TreeKnown names b → TreeKnown names (two t a b)
-  k-three : {t : Token} {c a b : Tree} → Known names t → TreeKnown names c → TreeKnown names a → TreeKnown names b
+  k-two : {t : Token} {a b : Tree} → Known names t → TreeKnown names a → TreeKnown names b
+      → TreeKnown names (two t a b)
+  k-three : {t : Token} {c a b : Tree} → Known names t → TreeKnown names c → TreeKnown names a
+      → TreeKnown names b
       → TreeKnown names (three t c a b)
 
 module _ {names : List ℕ} where

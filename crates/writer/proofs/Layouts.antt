@@ -22,7 +22,7 @@ use Rattle.grammar.specs.Grammar.{Tree, leaf, one, two, three}
 use Rattle.grammar.specs.Written.{made, levelOf, fitted, written}
 use Rattle.grammar.proofs.Table.{binary-level}
 use Rattle.grammar.proofs.Written.{written-leaf, written-one, written-two, written-three}
-use Rattle.tokens.proofs.Ranges.{all-from, all-from-law}
+use Rattle.alf.proofs.Ranges.{all-from, all-from-law}
 use Rattle.trees.specs.Parts.{Ends, Start, isWhole, top}
 use Rattle.trees.proofs.Starts.{ends-pos}
 use Rattle.writer.specs.Trees.{named, treeOf}
@@ -112,7 +112,8 @@ fitted-three l t f a b =
     rw append-nil
     (ap (map sign) (written-three l t f a b) ∙ fitted-signs l 6 _
     ∙ ap (λ (x : List ℕ). opener l 6 ++ x)
-    (ap (λ (x : List ℕ). x ++ closer l 6) (map-append sign (written 5 f) (t ∷ (written 6 a ++ (made 61 ∷ written 6 b))))
+    (ap (λ (x : List ℕ). x ++ closer l 6)
+    (map-append sign (written 5 f) (t ∷ (written 6 a ++ (made 61 ∷ written 6 b))))
     ∙ append-assoc (map sign (written 5 f)) _ (closer l 6)
     ∙ ap (λ (x : List ℕ). map sign (written 5 f) ++ (sign t ∷ (x ++ closer l 6)))
     (map-append sign (written 6 a) (made 61 ∷ written 6 b))
@@ -138,7 +139,8 @@ module _ (t : List ℕ) (names end : ℕ) (h : Ends t names end) where
   one-ends k = record { within = omega (arith, h .within); whole = one-at k .right }
 
   pub one-signs : (l : ℕ) → 64 ≤ getD t (end - 1) 0
-      → signs l (treeAt t names end) ≡ flat ((getD t (end - 1) 0 ∷ []) ∷ signs 1 (treeAt t names (end - 1)) ∷ [])
+      → signs l (treeAt t names end)
+      ≡ flat ((getD t (end - 1) 0 ∷ []) ∷ signs 1 (treeAt t names (end - 1)) ∷ [])
   unfolding signs treeAt
   one-signs l k =
       rw (one-at k .is, append-nil, written-one, sign-made (getD t (end - 1) 0) (omega arith))
@@ -197,7 +199,8 @@ module _ (t : List ℕ) (names end : ℕ) (h : Ends t names end) where
     three-middle s =
         record { within = omega (arith, s .before, h .within); whole = rw (s .left) (three-at .left) }
 
-    pub three-parts : (l : ℕ) {m k : ℕ} → Start t names (end - 1) m → Start t names m k → Three t names end m k l
+    pub three-parts : (l : ℕ) {m k : ℕ} → Start t names (end - 1) m → Start t names m k
+        → Three t names end m k l
     unfolding treeAt sign
     three-parts l s r =
         record {

@@ -10,7 +10,7 @@ use lib.ListN.{length, getD, take, drop, length-append, length-take}
 use borrow.Author.Tests.{ltb-true, lt-ltb, le-ltb, ne-eqb}
 use Rattle.alf.specs.Words.{if_then_else_}
 use Rattle.alf.specs.Names.{untilZero, slot, nameAt}
-use Rattle.tokens.proofs.Ranges.{all-from, all-from-law}
+use Rattle.alf.proofs.Ranges.{all-from, all-from-law}
 use Rattle.grammar.specs.declared.Token.{Token}
 use Rattle.writer.specs.Spelled.{halfByte, literalSpelled, pairSpelled, operators, marks, prefixes, signSpelled}
 use Rattle.writer.specs.Spelled.{spelled, following, textOf}
@@ -104,7 +104,8 @@ spelled-short {names} {t} (a-name e l h) = rw (spelled-name names t e) (name-sho
 spelled-short {names} {t} (a-sign s) =
     rw (spelled-sign names t s) (sign-short (t .code) (sign-large s) (sign-small s))
 
-following-short : {names : List ℕ} {ts : List Token} → AllKnown names ts → length (following names ts) ≤ 33 * length ts
+following-short : {names : List ℕ} {ts : List Token} → AllKnown names ts
+    → length (following names ts) ≤ 33 * length ts
 unfolding following
 following-short none = omega arith
 following-short {names} (more {t = t} {ts = ts} k a) =
@@ -115,7 +116,8 @@ following-short {names} (more {t = t} {ts = ts} k a) =
       following-short a,
     )
 
-pub text-short : {names : List ℕ} {ts : List Token} → AllKnown names ts → length (textOf names ts) ≤ 33 * length ts
+pub text-short : {names : List ℕ} {ts : List Token} → AllKnown names ts
+    → length (textOf names ts) ≤ 33 * length ts
 unfolding textOf
 text-short none = omega arith
 text-short {names} (more {t = t} {ts = ts} k a) =

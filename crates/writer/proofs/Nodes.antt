@@ -17,7 +17,7 @@ use Rattle.alf.proofs.Made.{Made, a-name, a-literal, a-negation, a-binary, a-ch
 use Rattle.alf.proofs.Made.{a-condition, a-condition-before, nothing}
 use Rattle.grammar.specs.Grammar.{Tree, leaf, one, two, three}
 use Rattle.grammar.specs.Written.{made}
-use Rattle.tokens.proofs.Ranges.{all-from, all-from-law}
+use Rattle.alf.proofs.Ranges.{all-from, all-from-law}
 use Rattle.trees.specs.Parts.{isWhole, top}
 use Rattle.writer.specs.Trees.{named, joinCode, booleanTree, vectorTree, treeOf}
 use Rattle.writer.specs.Signs.{codeAt}
@@ -32,7 +32,8 @@ pub record TwoNode (b : ℕ) (s s′ : Stack) : Type 0 where
   pub left : isWhole (under s) ≡ true
 
 pub record ThreeNode (s s′ : Stack) : Type 0 where
-  pub is : treeOf (top s′) ≡ three (made 60) (treeOf (top (under (under s)))) (treeOf (top (under s))) (treeOf (top s))
+  pub is : treeOf (top s′)
+      ≡ three (made 60) (treeOf (top (under (under s)))) (treeOf (top (under s))) (treeOf (top s))
   pub right : isWhole s ≡ true
   pub left : isWhole (under s) ≡ true
   pub first : isWhole (under (under s)) ≡ true
@@ -68,7 +69,8 @@ leaf-node names b (a-condition e f) h k = absurd (omega arith)
 leaf-node names b (a-condition-before e f) h k = absurd (omega arith)
 leaf-node names b nothing h k = never h
 
-pub one-node : (names b : ℕ) {s s′ : Stack} → Made names b s s′ → isWhole s′ ≡ true → 64 ≤ b → OneNode b s s′
+pub one-node : (names b : ℕ) {s s′ : Stack} → Made names b s s′ → isWhole s′ ≡ true → 64 ≤ b
+    → OneNode b s s′
 unfolding isWhole top treeOf booleanTree vectorTree
 one-node names b (a-name l u) h k = absurd (omega arith)
 one-node names b (a-literal l u) h k = absurd (omega arith)
@@ -83,7 +85,8 @@ one-node names b (a-condition e f) h k = absurd (omega arith)
 one-node names b (a-condition-before e f) h k = absurd (omega arith)
 one-node names b nothing h k = never h
 
-pub two-node : (names b : ℕ) {s s′ : Stack} → Made names b s s′ → isWhole s′ ≡ true → 40 ≤ b → b < 60 → TwoNode b s s′
+pub two-node : (names b : ℕ) {s s′ : Stack} → Made names b s s′ → isWhole s′ ≡ true → 40 ≤ b
+    → b < 60 → TwoNode b s s′
 unfolding isWhole top under treeOf booleanTree vectorTree
 two-node names b (a-name l u) h k i = absurd (omega arith)
 two-node names b (a-literal l u) h k i = absurd (omega arith)
@@ -120,7 +123,8 @@ two-node names b (a-condition-before {p = p} {c = c} e f) h k i =
     })
 two-node names b nothing h k i = never h
 
-pub three-node : (names b : ℕ) {s s′ : Stack} → Made names b s s′ → isWhole s′ ≡ true → 60 ≤ b → b < 64 → ThreeNode s s′
+pub three-node : (names b : ℕ) {s s′ : Stack} → Made names b s s′ → isWhole s′ ≡ true → 60 ≤ b
+    → b < 64 → ThreeNode s s′
 unfolding isWhole top under treeOf booleanTree
 three-node names b (a-name l u) h k i = absurd (omega arith)
 three-node names b (a-literal l u) h k i = absurd (omega arith)

@@ -16,7 +16,7 @@ use Rattle.tokens.specs.Spelling.{IsToken, spellings}
 use Rattle.tokens.specs.Taking.{Taken}
 use Rattle.tokens.specs.Texts.{Reads, tokenAt}
 use Rattle.tokens.specs.Texts as texts
-use Rattle.tokens.proofs.Ranges.{all-from, all-from-law}
+use Rattle.alf.proofs.Ranges.{all-from, all-from-law}
 use Rattle.tokens.proofs.Bytes.{contrary}
 use Rattle.tokens.proofs.Search.{all-in, in-all}
 use Rattle.tokens.proofs.Shapes.{token-size}
@@ -108,7 +108,8 @@ following-reads p {names} (more {t = t} {ts = ts} k a) =
     Reads.blank space
     (taken-reads (spelled names t) (spelled-taken k (following-behind names ts)) (following-reads _ a))
 
-pub text-reads : {names : List ℕ} {ts : List Token} → AllKnown names ts → Reads 0 (textOf names ts) (placed names 0 ts)
+pub text-reads : {names : List ℕ} {ts : List Token} → AllKnown names ts
+    → Reads 0 (textOf names ts) (placed names 0 ts)
 unfolding textOf placed
 text-reads none = Reads.done
 text-reads {names} (more {t = t} {ts = ts} k a) =

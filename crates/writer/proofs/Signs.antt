@@ -19,7 +19,7 @@ use Rattle.tokens.specs.Classes.{halfOf}
 use Rattle.tokens.specs.Spelling.{spellings}
 use Rattle.tokens.specs.Taking.{nameBytes, Taken}
 use Rattle.tokens.specs.Steps.{starts, none, firstOf, nameStep, halfAt, basedStep, plainStep, stepOf}
-use Rattle.tokens.proofs.Ranges.{all-from, all-from-law}
+use Rattle.alf.proofs.Ranges.{all-from, all-from-law}
 use Rattle.tokens.proofs.Right.{Right}
 use Rattle.tokens.proofs.Taking.{right}
 use Rattle.writer.specs.Spelled.{halfByte, literalSpelled, pairSpelled, operators, marks, prefixes, signSpelled}
@@ -87,7 +87,8 @@ pub sign-small : {c : ℕ} → Sign c → c < 148
 sign-small (low l u) = omega arith
 sign-small (high l u) = u
 
-pub sign-taken : {rest : List ℕ} {c : ℕ} → Behind rest → Sign c → Taken (signSpelled c ++ rest) (signSpelled c) c rest
+pub sign-taken : {rest : List ℕ} {c : ℕ} → Behind rest → Sign c
+    → Taken (signSpelled c ++ rest) (signSpelled c) c rest
 unfolding takes
 sign-taken {rest} {c} b s =
     let w = signSpelled c in

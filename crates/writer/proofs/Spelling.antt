@@ -16,7 +16,7 @@ use Rattle.names.specs.Check.{NameLength}
 use Rattle.names.proofs.Slots.{slot-part}
 use Rattle.tokens.specs.Spelling.{based}
 use Rattle.tokens.specs.Inner.{wordOf}
-use Rattle.tokens.proofs.Ranges.{all-from, all-from-law}
+use Rattle.alf.proofs.Ranges.{all-from, all-from-law}
 use Rattle.tokens.proofs.Table.{same, same-law}
 use Rattle.writer.specs.Spelled.{halfByte, literalSpelled, pairSpelled, operators, marks, prefixes, signSpelled}
 use Rattle.writer.specs.Signs.{word, markAt}
@@ -43,8 +43,10 @@ half-table h k = eqb-true _ _ (half-at h k)
 
 abbrev bytes : List ℕ
 bytes =
-    38 ∷ 0 ∷ 0 ∷ 124 ∷ 0 ∷ 0 ∷ 94 ∷ 0 ∷ 0 ∷ 126 ∷ 94 ∷ 0 ∷ 61 ∷ 61 ∷ 0 ∷ 33 ∷ 61 ∷ 0 ∷ 62 ∷ 0 ∷ 0 ∷ 60 ∷ 0 ∷ 0 ∷
-    62 ∷ 61 ∷ 0 ∷ 60 ∷ 61 ∷ 0 ∷ 45 ∷ 62 ∷ 0 ∷ 60 ∷ 45 ∷ 62 ∷ 38 ∷ 62 ∷ 0 ∷ 60 ∷ 38 ∷ 62 ∷ 63 ∷ 0 ∷ 0 ∷ 58 ∷ 0 ∷ 0 ∷
+    38 ∷ 0 ∷ 0 ∷ 124 ∷ 0 ∷ 0 ∷ 94 ∷ 0 ∷ 0 ∷ 126 ∷ 94 ∷ 0 ∷ 61 ∷ 61 ∷ 0 ∷ 33 ∷ 61 ∷
+    0 ∷ 62 ∷ 0 ∷ 0 ∷ 60 ∷ 0 ∷ 0 ∷
+    62 ∷ 61 ∷ 0 ∷ 60 ∷ 61 ∷ 0 ∷ 45 ∷ 62 ∷ 0 ∷ 60 ∷ 45 ∷ 62 ∷ 38 ∷ 62 ∷ 0 ∷ 60 ∷ 38 ∷
+    62 ∷ 63 ∷ 0 ∷ 0 ∷ 58 ∷ 0 ∷ 0 ∷
     40 ∷ 0 ∷ 0 ∷ 41 ∷ 0 ∷ 0 ∷ 63 ∷ 33 ∷ 0 ∷ 63 ∷ 45 ∷ 0 ∷ 33 ∷ 0 ∷ 0 ∷ []
 
 abbrev marked : ℕ → List ℕ
@@ -57,7 +59,8 @@ marks-right : (all-from right-mark 40 14 && (all-from right-mark 60 4 && all-fro
 unfolding right-mark markAt wordOf signSpelled operators marks prefixes pairSpelled literalSpelled halfByte
 marks-right = refl
 
-mark-right : (c : ℕ) → 40 ≤ c → c < 148 → (54 ≤ c → 60 ≤ c) → (64 ≤ c → 145 ≤ c) → right-mark c ≡ true
+mark-right : (c : ℕ) → 40 ≤ c → c < 148 → (54 ≤ c → 60 ≤ c) → (64 ≤ c → 145 ≤ c)
+    → right-mark c ≡ true
 mark-right c l k f g = go (ltb c 54) (ltb c 64) refl refl
   where
     others : (all-from right-mark 60 4 && all-from right-mark 145 3) ≡ true
@@ -98,7 +101,8 @@ pub literal-based : (h : ℕ) → 3 ≤ h → literalSpelled h ≡ based (halfBy
 unfolding literalSpelled
 literal-based h k = rw (le-ltb h 3 k)
 
-pub pair-plain : (f t : ℕ) → f < 3 → t < 3 → pairSpelled f t ≡ flat ((halfByte f ∷ []) ∷ (halfByte t ∷ []) ∷ [])
+pub pair-plain : (f t : ℕ) → f < 3 → t < 3
+    → pairSpelled f t ≡ flat ((halfByte f ∷ []) ∷ (halfByte t ∷ []) ∷ [])
 unfolding pairSpelled
 pair-plain f t h k = rw (lt-ltb f 3 h, lt-ltb t 3 k)
 
@@ -114,7 +118,8 @@ pub one-byte : (x y z : ℕ) → y ≡ 0 → wordOf x y z ≡ flat ((x ∷ []) �
 unfolding wordOf
 one-byte x y z e = rw e
 
-pub two-bytes : (x y z : ℕ) → (y ≡ 0 → ⊥) → z ≡ 0 → wordOf x y z ≡ flat ((x ∷ []) ∷ (y ∷ []) ∷ [])
+pub two-bytes : (x y z : ℕ) → (y ≡ 0 → ⊥) → z ≡ 0
+    → wordOf x y z ≡ flat ((x ∷ []) ∷ (y ∷ []) ∷ [])
 unfolding wordOf
 two-bytes x y z f e = rw (ne-eqb y 0 f, e)
 
@@ -172,10 +177,12 @@ pub literal-base : {h : ℕ} {out : List ℕ} {at : ℕ} → Halving h out at (l
     → Halving h out at (based (halfByte h))
 literal-base {h} k l = rw (literal-based h l) at k
 
-pub pairing-as : {f t : ℕ} {out : List ℕ} {at : ℕ} {v w : List ℕ} → Pairing f t out at v → v ≡ w → Pairing f t out at w
+pub pairing-as : {f t : ℕ} {out : List ℕ} {at : ℕ} {v w : List ℕ} → Pairing f t out at v → v ≡ w
+    → Pairing f t out at w
 pairing-as h e = rw e at h
 
-pub put-as : {out : List ℕ} {at : ℕ} {v w out′ : List ℕ} {r : ℕ} → v ≡ w → Put out at v out′ r → Put out at w out′ r
+pub put-as : {out : List ℕ} {at : ℕ} {v w out′ : List ℕ} {r : ℕ} → v ≡ w → Put out at v out′ r
+    → Put out at w out′ r
 put-as e h = rw e at h
 
 pub mark-word : {c k : ℕ} {out : List ℕ} {at : ℕ} → Marking c out at → k ≡ markAt c
@@ -228,7 +235,8 @@ module _ (x y z : ℕ) {out : List ℕ} {at : ℕ} (h : Roomy out at (wordOf x y
   pub two-start : z ≡ 0 → Going out at (wordOf x y z) ((x ∷ []) ∷ (y ∷ []) ∷ []) out at
   two-start e = going-start _ (two-bytes x y z f e) (h .room)
 
-  pub three-start : (z ≡ 0 → ⊥) → Going out at (wordOf x y z) ((x ∷ []) ∷ (y ∷ []) ∷ (z ∷ []) ∷ []) out at
+  pub three-start : (z ≡ 0 → ⊥)
+      → Going out at (wordOf x y z) ((x ∷ []) ∷ (y ∷ []) ∷ (z ∷ []) ∷ []) out at
   three-start g = going-start _ (three-bytes x y z f g) (h .room)
 
 pub mark-roomy : {c k : ℕ} {out : List ℕ} {at : ℕ} → Marking c out at → k ≡ markAt c

@@ -22,14 +22,16 @@ line-next names xs i h =
     rw (append-nil, add-one i)
     (ap (lineFrom names i) (drop-cons xs i 0 h))
 
-module _ (names list : List ℕ) (count i : ℕ) (there : count ≤ length list) {out₀ w out : List ℕ} {at : ℕ} where
+module _ (names list : List ℕ) (count i : ℕ) (there : count ≤ length list) {out₀ w out : List ℕ}
+    {at : ℕ} where
   pub line-going : i < count
       → Going out₀ 0 w (lineFrom names i (drop i (take count list)) ∷ []) out at
       → Going out₀ 0 w
       (gap i ∷ word names (getD list i 0) ∷ lineFrom names (i + 1) (drop (i + 1) (take count list)) ∷ []) out at
   line-going k g =
       let l = length-take-le count list there in
-      going-parts (append-nil _ ∙ line-next names (take count list) i (omega arith) ∙ rw (getD-take count list i 0 k)) g
+      going-parts
+      (append-nil _ ∙ line-next names (take count list) i (omega arith) ∙ rw (getD-take count list i 0 k)) g
 
   pub line-done : count ≤ i → Going out₀ 0 w (lineFrom names i (drop i (take count list)) ∷ []) out at
       → Put out₀ 0 w out at

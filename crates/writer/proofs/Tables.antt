@@ -9,23 +9,28 @@ use lib.Dec.{eqb, leb}
 use lib.ListN.{getD}
 use borrow.Author.Tests.{eqb-true, le-leb, lt-leb}
 use Rattle.grammar.specs.Tokens.{table, kindIn, kind}
-use Rattle.tokens.proofs.Ranges.{all-from, all-from-law}
+use Rattle.alf.proofs.Ranges.{all-from, all-from-law}
 use Rattle.writer.specs.Signs.{codeAt, levelAt, opener, closer}
 
 -- the tables in the code
-table-law : (xs : List ℕ) (f : ℕ → ℕ) (lo n b : ℕ) → all-from (λ c. eqb (getD xs (c - lo) 0) (f c)) lo n ≡ true
+table-law : (xs : List ℕ) (f : ℕ → ℕ) (lo n b : ℕ)
+    → all-from (λ c. eqb (getD xs (c - lo) 0) (f c)) lo n ≡ true
     → lo ≤ b → b < lo + n → getD xs (b - lo) 0 ≡ f b
 table-law xs f lo n b t l u = eqb-true _ _ (all-from-law (λ c. eqb (getD xs (c - lo) 0) (f c)) lo n b t l u)
 
 abbrev codes : List ℕ
-codes = 40 ∷ 41 ∷ 42 ∷ 43 ∷ 44 ∷ 45 ∷ 46 ∷ 47 ∷ 48 ∷ 49 ∷ 50 ∷ 51 ∷ 52 ∷ 53 ∷ 40 ∷ 41 ∷ 40 ∷ 40 ∷ 40 ∷ 40 ∷ []
+codes =
+    40 ∷ 41 ∷ 42 ∷ 43 ∷ 44 ∷ 45 ∷ 46 ∷ 47 ∷ 48 ∷ 49 ∷ 50 ∷ 51 ∷ 52 ∷ 53 ∷ 40 ∷ 41 ∷
+    40 ∷ 40 ∷ 40 ∷ 40 ∷ []
 
 pub code-table : (b : ℕ) → 40 ≤ b → b < 60 → getD codes (b - 40) 0 ≡ codeAt b
 unfolding codeAt
 code-table b l u = table-law codes codeAt 40 20 b refl l (omega arith)
 
 abbrev levels : List ℕ
-levels = 3 ∷ 5 ∷ 2 ∷ 2 ∷ 2 ∷ 2 ∷ 2 ∷ 2 ∷ 2 ∷ 2 ∷ 4 ∷ 4 ∷ 4 ∷ 4 ∷ 3 ∷ 5 ∷ 3 ∷ 3 ∷ 3 ∷ 3 ∷ []
+levels =
+    3 ∷ 5 ∷ 2 ∷ 2 ∷ 2 ∷ 2 ∷ 2 ∷ 2 ∷ 2 ∷ 2 ∷ 4 ∷ 4 ∷ 4 ∷ 4 ∷ 3 ∷ 5 ∷ 3 ∷ 3 ∷
+    3 ∷ 3 ∷ []
 
 pub level-table : (b : ℕ) → 40 ≤ b → b < 60 → getD levels (b - 40) 0 ≡ levelAt b
 unfolding levelAt codeAt kind kindIn table

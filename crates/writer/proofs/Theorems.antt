@@ -22,7 +22,7 @@ use Rattle.alf.specs.Bytes.{binaryByte, edgeNumber}
 use Rattle.alf.proofs.Bools.{never}
 use Rattle.alf.proofs.Outcomes.{AllFixed, at-fixed, first-fixed, comes-unique}
 use Rattle.tokens.specs.Texts.{Reads}
-use Rattle.tokens.proofs.Ranges.{all-from, all-from-law}
+use Rattle.alf.proofs.Ranges.{all-from, all-from-law}
 use Rattle.grammar.specs.declared.Token.{Token}
 use Rattle.grammar.specs.Tokens as grammar
 use Rattle.grammar.specs.Tokens.{Kind, operand, prefix, question, colon, opening, closing, other, table, kindIn, kind}

@@ -11,6 +11,7 @@ use borrow.Author.Tests.{eqb-true, ltb-true, ne-eqb, le-leb}
 use Rattle.alf.specs.Words.{if_then_else_, all}
 use Rattle.alf.specs.Names.{isLetter, isDecimal, startsName, goesOnName, isName, nameAt}
 use Rattle.alf.proofs.Bools.{never, and-left, and-right}
+use Rattle.alf.proofs.NameBytes.{starts-goes-on}
 use Rattle.tokens.specs.Taking.{nameBytes, Taken}
 use Rattle.tokens.specs.Steps.{nameStep, stepOf, step}
 use Rattle.grammar.specs.declared.Token.{Token}
@@ -24,21 +25,18 @@ unfolding nameBytes goesOnName startsName isLetter isDecimal
 behind-none end = refl
 behind-none blank = refl
 
-all-bytes : (w : List ℕ) {rest : List ℕ} → Behind rest → all goesOnName w ≡ true → nameBytes (w ++ rest) ≡ length w
+all-bytes : (w : List ℕ) {rest : List ℕ} → Behind rest → all goesOnName w ≡ true
+    → nameBytes (w ++ rest) ≡ length w
 unfolding nameBytes all
 all-bytes [] b h = behind-none b
 all-bytes (x ∷ w) b h =
     rw (and-left (goesOnName x) _ h, all-bytes w b (and-right (goesOnName x) _ h))
 
-starts-on : (b : ℕ) → startsName b ≡ true → goesOnName b ≡ true
-unfolding goesOnName
-starts-on b h = rw h
-
 pub name-bytes : (b : ℕ) (w : List ℕ) {rest : List ℕ} → Behind rest → isName (b ∷ w) ≡ true
     → nameBytes (b ∷ (w ++ rest)) ≡ suc (length w)
 unfolding isName all
 name-bytes b w k h =
-    let s = starts-on b (and-left (startsName b) _ h) in
+    let s = starts-goes-on b (and-left (startsName b) _ h) in
     all-bytes (b ∷ w) k (rw s (and-left (all goesOnName w) _ (and-right (startsName b) _ h)))
 
 name-size : (b : ℕ) (w : List ℕ) → isName (b ∷ w) ≡ true → length w < 32
@@ -61,7 +59,8 @@ name-taken (x ∷ w) {rest} b h =
 
 -- a token that can be written: a name of the list, or a sign
 pub data Known (names : List ℕ) (t : Token) : Type 0 where
-  a-name : t .code ≡ 0 → t .place < length names / 32 → isName (nameAt names (t .place)) ≡ true → Known names t
+  a-name : t .code ≡ 0 → t .place < length names / 32 → isName (nameAt names (t .place)) ≡ true
+      → Known names t
   a-sign : Sign (t .code) → Known names t
 
 pub sign-positive : {c : ℕ} → Sign c → 0 < c

@@ -27,7 +27,8 @@ fn lay_out(tree: &[u8], names: usize, list: &mut [u8; 1024]) -> usize
 // Their text; its length.
 fn spell_out(names: &[u8], list: &[u8; 1024], count: usize, buffer: &mut [u8; 33792]) -> usize
     requires { ⌜ Linable (now names) (now list) count ⌝ }
-    ensures { λ r. ⌜ Holds (now (buffer .exit)) r (lineFrom (now (names .entry)) 0 (take count (now (list .entry)))) ⌝ }
+    ensures { λ r. ⌜ Holds (now (buffer .exit)) r
+        (lineFrom (now (names .entry)) 0 (take count (now (list .entry)))) ⌝ }
 {
     put_line(names, &list[..], count, &mut buffer[..])
 }
@@ -50,7 +51,8 @@ fn deliver(text: &[u8], out: &mut [u8]) -> Outcome
 // Where the names are checked.
 fn write_tree(names: &[u8], tree: &[u8], sort: Sort, out: &mut [u8]) -> Outcome
     requires { ⌜ Named (now names) ⌝ }
-    ensures { λ r. ⌜ Writes (now (names .entry)) (now (tree .entry)) sort (now (out .entry)) (now (out .exit)) r ⌝ }
+    ensures { λ r. ⌜ Writes (now (names .entry)) (now (tree .entry)) sort (now (out .entry))
+        (now (out .exit)) r ⌝ }
 {
     let n = names.len() / 32;
     if !accepts(tree, n, sort) {
@@ -65,7 +67,8 @@ fn write_tree(names: &[u8], tree: &[u8], sort: Sort, out: &mut [u8]) -> Outcome
 
 // The text of a tree into a lent buffer; its length. Refused with 18, 12, 10, 1 or 9, in this order.
 pub fn write_expression(names: &[u8], tree: &[u8], sort: Sort, out: &mut [u8]) -> Outcome
-    ensures { λ r. ⌜ Writes (now (names .entry)) (now (tree .entry)) sort (now (out .entry)) (now (out .exit)) r ⌝ }
+    ensures { λ r. ⌜ Writes (now (names .entry)) (now (tree .entry)) sort (now (out .entry))
+        (now (out .exit)) r ⌝ }
 {
     let checked = check_names(names);
     match checked {

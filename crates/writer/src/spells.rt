@@ -186,7 +186,8 @@ fn put_gap(i: usize, out: &mut [u8], at: usize) -> usize
 // The text of the first `count` signs; its length.
 pub fn put_line(names: &[u8], list: &[u8], count: usize, out: &mut [u8]) -> usize
     requires { ⌜ Lining (now names) (now list) count (now out) ⌝ }
-    ensures { λ r. ⌜ Lined (now (names .entry)) (now (list .entry)) count (now (out .entry)) (now (out .exit)) r ⌝ }
+    ensures { λ r. ⌜ Lined (now (names .entry)) (now (list .entry)) count (now (out .entry))
+        (now (out .exit)) r ⌝ }
 {
     let mut at: usize = 0;
     let mut i: usize = 0;

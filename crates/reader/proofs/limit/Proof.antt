@@ -1,7 +1,8 @@
 -- `limit` meets its contract. Assumes nothing.
 use borrow.Author.Needs.{needs}
 use mathlib.Core.Path.{sym, _∙_}
-use Rattle.reader.proofs.Limiting.{limit-refused, left-over, limit-boolean, limit-asks, limit-over, limit-within}
+use Rattle.reader.proofs.Limiting.{limit-refused, left-over, limit-boolean, limit-asks}
+use Rattle.reader.proofs.Limiting.{limit-over, limit-within}
 use Rattle.reader.proofs.limit.Statement.{statement}
 use Rattle.reader.proofs.limit.Tie as tie
 

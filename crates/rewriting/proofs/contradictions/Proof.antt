@@ -1,5 +1,5 @@
 -- `contradictions` meets its contract. Assumes nothing.
-use Rattle.rewriting.proofs.Calls.{decided-no, decided-yes}
+use Rattle.limits.proofs.Deciding.{decided-no, decided-yes}
 use Rattle.rewriting.proofs.Reporting.{report-18, report-10, report-on}
 use borrow.Author.Needs.{needs}
 use Rattle.rewriting.proofs.contradictions.Statement.{statement}

@@ -1,5 +1,6 @@
 -- `rewrite` meets its contract. Assumes nothing.
-use Rattle.rewriting.proofs.Calls.{decided-no, decided-yes, refused-18, refused-10, passed-on}
+use Rattle.limits.proofs.Deciding.{decided-no, decided-yes}
+use Rattle.rewriting.proofs.Calls.{refused-18, refused-10, passed-on}
 use borrow.Author.Needs.{needs}
 use Rattle.rewriting.proofs.rewrite.Statement.{statement}
 use Rattle.rewriting.proofs.rewrite.Tie as tie

@@ -1,6 +1,7 @@
 -- `write_tree` meets its contract. Assumes nothing.
 use borrow.Author.Needs.{needs}
-use Rattle.writer.proofs.Calls.{refused-tree, decided-no, decided-yes, laid, lined, holds-within, holds-count}
+use Rattle.limits.proofs.Deciding.{decided-no, decided-yes}
+use Rattle.writer.proofs.Calls.{refused-tree, laid, lined, holds-within, holds-count}
 use Rattle.writer.proofs.Calls.{wrote}
 use Rattle.writer.proofs.write_tree.Statement.{statement}
 use Rattle.writer.proofs.write_tree.Tie as tie

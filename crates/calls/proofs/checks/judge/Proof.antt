@@ -2,7 +2,7 @@
 use borrow.Author.Tests.{not-true, not-false}
 use Rattle.calls.proofs.Verdicts.{judge-18, judge-10, judge-rest, judge-good}
 use Rattle.calls.proofs.Checked.{code-15, codes-good, good-codes}
-use Rattle.calls.proofs.Deciding.{not-said, said}
+use Rattle.limits.proofs.Deciding.{not-said, said}
 use borrow.Author.Needs.{needs}
 use Rattle.calls.proofs.checks.judge.Statement.{statement}
 use Rattle.calls.proofs.checks.judge.Tie as tie

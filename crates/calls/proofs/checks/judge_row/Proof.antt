@@ -1,7 +1,7 @@
 -- `checks::judge_row` meets its contract. Assumes nothing.
 use Rattle.calls.proofs.Verdicts.{judge-18, judge-10, judge-rest, judge-good}
 use Rattle.calls.proofs.Checked.{code-15, row-19, row-good, good-codes}
-use Rattle.calls.proofs.Deciding.{not-said, said}
+use Rattle.limits.proofs.Deciding.{not-said, said}
 use borrow.Author.Needs.{needs}
 use Rattle.calls.proofs.checks.judge_row.Statement.{statement}
 use Rattle.calls.proofs.checks.judge_row.Tie as tie

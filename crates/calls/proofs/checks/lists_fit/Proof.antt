@@ -1,7 +1,7 @@
 -- `checks::lists_fit` meets its contract. Assumes nothing.
 use borrow.Author.Needs.{needs}
 use Rattle.limits.specs.Accepted.{Decides}
-use Rattle.calls.proofs.Deciding.{not-said, said, same-decided}
+use Rattle.limits.proofs.Deciding.{not-said, said, same-decided}
 use Rattle.calls.proofs.checks.lists_fit.Statement.{statement}
 use Rattle.calls.proofs.checks.lists_fit.Tie as tie
 

@@ -1,6 +1,6 @@
 -- `correcting::correction_fits` meets its contract. Assumes nothing.
 use Rattle.limits.specs.Accepted.{Decides}
-use Rattle.calls.proofs.Deciding.{same-decided}
+use Rattle.limits.proofs.Deciding.{same-decided}
 use borrow.Author.Needs.{needs}
 use Rattle.calls.proofs.correcting.correction_fits.Statement.{statement}
 use Rattle.calls.proofs.correcting.correction_fits.Tie as tie

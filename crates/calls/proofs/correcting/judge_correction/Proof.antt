@@ -2,7 +2,7 @@
 use Rattle.calls.proofs.Verdicts.{judge-18, judge-10, judge-rest, judge-good}
 use Rattle.calls.proofs.Checked.{code-15, good-codes}
 use Rattle.calls.proofs.Corrects.{worse-15, correction-19, correction-good}
-use Rattle.calls.proofs.Deciding.{not-said, said}
+use Rattle.limits.proofs.Deciding.{not-said, said}
 use borrow.Author.Needs.{needs}
 use Rattle.calls.proofs.correcting.judge_correction.Statement.{statement}
 use Rattle.calls.proofs.correcting.judge_correction.Tie as tie

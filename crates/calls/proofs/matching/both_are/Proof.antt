@@ -1,7 +1,7 @@
 -- `matching::both_are` meets its contract. Assumes nothing.
 use mathlib.Core.Bool.{false}
 use Rattle.limits.specs.Accepted.{Decides}
-use Rattle.calls.proofs.Deciding.{same-decided, eqb-decides}
+use Rattle.limits.proofs.Deciding.{same-decided, eqb-decides}
 use borrow.Author.Needs.{needs}
 use Rattle.calls.proofs.matching.both_are.Statement.{statement}
 use Rattle.calls.proofs.matching.both_are.Tie as tie

@@ -2,7 +2,7 @@
 use native.Mathlib.Omega.{arith}
 use borrow.Author.Needs.{needs}
 use Rattle.rewriting.proofs.Bounds.{accepted-limited}
-use Rattle.calls.proofs.Deciding.{said, not-said, told, denied}
+use Rattle.limits.proofs.Deciding.{said, not-said, told, decided-no}
 use Rattle.calls.proofs.Pushes.{few-steps, queue-many, queue-tree, queue-kept}
 use Rattle.calls.proofs.pushing.queue_good.Statement.{statement}
 use Rattle.calls.proofs.pushing.queue_good.Tie as tie
@@ -14,7 +14,7 @@ accepts-requires : tie.Need-accepts-requires
 accepts-requires c κs = search needs
 
 returns-2 : tie.Need-returns-2
-returns-2 c = queue-tree _ _ _ (denied _ (c .before .accepts .ensures) (c .if2 .taken))
+returns-2 c = queue-tree _ _ _ (decided-no _ (c .before .accepts .ensures) (c .if2 .taken))
 
 steps-of-requires : tie.Need-steps-of-requires
 steps-of-requires c κs = told _ (c .before .accepts .ensures) (said _ (c .if2 .left))

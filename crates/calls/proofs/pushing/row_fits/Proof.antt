@@ -1,7 +1,7 @@
 -- `pushing::row_fits` meets its contract. Assumes nothing.
 use native.Mathlib.Omega.{arith}
 use Rattle.limits.specs.Accepted.{Decides}
-use Rattle.calls.proofs.Deciding.{same-decided, eqb-decides}
+use Rattle.limits.proofs.Deciding.{same-decided, eqb-decides}
 use borrow.Author.Needs.{needs}
 use Rattle.calls.proofs.pushing.row_fits.Statement.{statement}
 use Rattle.calls.proofs.pushing.row_fits.Tie as tie

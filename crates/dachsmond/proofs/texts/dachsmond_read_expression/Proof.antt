@@ -15,7 +15,8 @@ tell-expression-requires c κs = search needs
 
 returns : tie.Need-returns
 returns c =
-    handed _ (rw (c .before .before .sort-of .ensures) at (c .before .read-expression .ensures)) (c .tell-expression .ensures)
+    handed _ (rw (c .before .before .sort-of .ensures) at (c .before .read-expression .ensures))
+    (c .tell-expression .ensures)
 
 pub dachsmond-read-expression-spec : {M : Type 1} → statement M
 dachsmond-read-expression-spec =

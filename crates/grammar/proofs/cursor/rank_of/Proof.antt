@@ -5,9 +5,9 @@ use mathlib.Core.Path.{_≡_, refl}
 use mathlib.Core.Bool.{true}
 use lib.Dec.{eqb}
 use borrow.Author.Tests.{eqb-true}
+use Rattle.alf.proofs.Ranges.{all-from, all-from-law}
 use Rattle.grammar.specs.Tokens.{table, kindIn, kind}
 use Rattle.grammar.specs.Stops.{rank}
-use Rattle.grammar.proofs.Ranges.{all-from, in-range}
 use Rattle.grammar.proofs.cursor.rank_of.Statement.{statement}
 use Rattle.grammar.proofs.cursor.rank_of.Tie as tie
 
@@ -18,7 +18,7 @@ ranked :
     lo ≤ b →
     b < lo + n →
     f b ≡ rank (kind b)
-ranked f lo n b t h k = eqb-true _ _ (in-range (λ k. eqb (f k) (rank (kind k))) lo n b t h k)
+ranked f lo n b t h k = eqb-true _ _ (all-from-law (λ k. eqb (f k) (rank (kind k))) lo n b t h k)
 
 returns : tie.Need-returns
 returns c = ranked (λ k. 3) 40 1 _ (unfold kind kindIn table in refl) (omega arith) (omega arith)

@@ -5,7 +5,8 @@ use native.Mathlib.Omega.{arith}
 use borrow.Author.Needs.{needs}
 use Rattle.alf.specs.Alternatives.{alternatives}
 use Rattle.trees.specs.Parts.{vectorAt}
-use Rattle.limits.proofs.Measures.{Measuring, first-measure, next-measure, measured-all, chosen-at, chosen-there}
+use Rattle.limits.proofs.Measures.{Measuring, first-measure, next-measure, measured-all}
+use Rattle.limits.proofs.Measures.{chosen-at, chosen-there}
 use Rattle.limits.proofs.Measures.{over-number, over-steps, over-tests, within}
 use Rattle.limits.proofs.sizes.measure.Statement.{statement}
 use Rattle.limits.proofs.sizes.measure.Tie as tie

@@ -2,7 +2,7 @@
 use native.Mathlib.Omega.{arith}
 use borrow.Author.Needs.{needs}
 use Rattle.limits.specs.Accepted.{Decides}
-use Rattle.calls.proofs.Deciding.{said, denied, told, same-decided}
+use Rattle.limits.proofs.Deciding.{said, decided-no, told, same-decided}
 use Rattle.listed_calls.proofs.accepting.are_shaped.Statement.{statement}
 use Rattle.listed_calls.proofs.accepting.are_shaped.Tie as tie
 
@@ -24,7 +24,7 @@ are-stepped-requires c κs = search needs
 returns-4 : tie.Need-returns-4
 unfolding Decides
 returns-4 c = λ s.
-    denied (c .before .are-stepped .result) (c .before .are-stepped .ensures) (c .if4 .taken) (s .stepped)
+    decided-no (c .before .are-stepped .result) (c .before .are-stepped .ensures) (c .if4 .taken) (s .stepped)
 
 sums-to-requires : tie.Need-sums-to-requires
 sums-to-requires c κs = search needs
@@ -32,7 +32,7 @@ sums-to-requires c κs = search needs
 returns-5 : tie.Need-returns-5
 unfolding Decides
 returns-5 c = λ s.
-    denied (c .before .sums-to .result) (c .before .sums-to .ensures) (c .if5 .taken) (s .all-steps)
+    decided-no (c .before .sums-to .result) (c .before .sums-to .ensures) (c .if5 .taken) (s .all-steps)
 
 sums-to-requires-2 : tie.Need-sums-to-requires-2
 sums-to-requires-2 c κs = search needs
@@ -40,7 +40,7 @@ sums-to-requires-2 c κs = search needs
 returns-6 : tie.Need-returns-6
 unfolding Decides
 returns-6 c = λ s.
-    denied (c .before .sums-to2 .result) (c .before .sums-to2 .ensures) (c .if6 .taken) (s .all-tests)
+    decided-no (c .before .sums-to2 .result) (c .before .sums-to2 .ensures) (c .if6 .taken) (s .all-tests)
 
 are-light-requires : tie.Need-are-light-requires
 are-light-requires c κs =

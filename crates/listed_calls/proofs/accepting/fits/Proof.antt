@@ -1,7 +1,7 @@
 -- `accepting::fits` meets its contract. Assumes nothing.
 use borrow.Author.Needs.{needs}
 use Rattle.limits.specs.Accepted.{Decides}
-use Rattle.calls.proofs.Deciding.{said, denied, told, same-decided}
+use Rattle.limits.proofs.Deciding.{said, decided-no, told, same-decided}
 use Rattle.listed_calls.proofs.Acceptance.{accepted-shaped, shaped-accepted}
 use Rattle.listed_calls.proofs.accepting.fits.Statement.{statement}
 use Rattle.listed_calls.proofs.accepting.fits.Tie as tie
@@ -12,7 +12,7 @@ are-shaped-requires c κs = search needs
 returns : tie.Need-returns
 unfolding Decides
 returns c = λ a.
-    denied (c .before .are-shaped .result) (c .before .are-shaped .ensures) (c .if1 .taken)
+    decided-no (c .before .are-shaped .result) (c .before .are-shaped .ensures) (c .if1 .taken)
     (accepted-shaped _ _ _ _ _ _ a)
 
 are-known-requires : tie.Need-are-known-requires
@@ -21,7 +21,7 @@ are-known-requires c κs = search needs
 returns-2 : tie.Need-returns-2
 unfolding Decides
 returns-2 c = λ a.
-    denied (c .before .are-known .result) (c .before .are-known .ensures) (c .if2 .taken) (a .known)
+    decided-no (c .before .are-known .result) (c .before .are-known .ensures) (c .if2 .taken) (a .known)
 
 are-operands-requires : tie.Need-are-operands-requires
 are-operands-requires c κs = search needs

@@ -5,7 +5,7 @@ use native.Mathlib.Omega.{arith}
 use borrow.Author.Needs.{needs}
 use lib.ListN.{length, drop, take}
 use Rattle.limits.specs.Accepted.{Decides}
-use Rattle.calls.proofs.Deciding.{said, denied, told}
+use Rattle.limits.proofs.Deciding.{said, decided-no, told}
 use Rattle.listed_calls.proofs.Sums.{Lighting, lighting-first, lighting-room, lighting-over, lighting-next}
 use Rattle.listed_calls.proofs.Sums.{lighting-end}
 use Rattle.listed_calls.proofs.counting.are_light.Statement.{statement}
@@ -36,7 +36,7 @@ unfolding Decides
 returns c = λ h.
     let c4 = c .before .before .before .before in
     lighting-over (c4 .loop .inv) (omega arith)
-    (denied (c .before .few-tests .result) (c .before .few-tests .ensures) (c .if1 .taken)) h
+    (decided-no (c .before .few-tests .result) (c .before .few-tests .ensures) (c .if1 .taken)) h
 
 add-s : tie.Need-add-s Inv-loop μ-loop
 add-s c =

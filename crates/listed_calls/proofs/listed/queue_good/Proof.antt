@@ -1,6 +1,6 @@
 -- `listed::queue_good` meets its contract. Assumes nothing.
 use native.Mathlib.Omega.{arith}
-use Rattle.calls.proofs.Deciding.{said, denied, told}
+use Rattle.limits.proofs.Deciding.{said, decided-no, told}
 use Rattle.listed_calls.proofs.Acceptance.{accepted-short}
 use Rattle.listed_calls.proofs.Calls.{queue-many, queue-lists, longest-here, queue-kept}
 use borrow.Author.Needs.{needs}
@@ -14,7 +14,7 @@ fits-requires : tie.Need-fits-requires
 fits-requires c κs = search needs
 
 returns-2 : tie.Need-returns-2
-returns-2 c = queue-lists _ _ _ _ _ _ _ (denied _ (c .before .fits2 .ensures) (c .if2 .taken))
+returns-2 c = queue-lists _ _ _ _ _ _ _ (decided-no _ (c .before .fits2 .ensures) (c .if2 .taken))
 
 longest-requires : tie.Need-longest-requires
 longest-requires c κs = search needs

@@ -7,7 +7,7 @@ use lib.ListN.{length, drop, take}
 use Rattle.limits.specs.Accepted.{Decides}
 use Rattle.listed_calls.specs.Lists.{Operand}
 use Rattle.listed_calls.proofs.Each.{Upto, upto-more, upto-all}
-use Rattle.calls.proofs.Deciding.{said, denied, told}
+use Rattle.limits.proofs.Deciding.{said, decided-no, told}
 use Rattle.listed_calls.proofs.operands.are_operands.Statement.{statement}
 use Rattle.listed_calls.proofs.operands.are_operands.Tie as tie
 
@@ -35,7 +35,7 @@ is-operand-requires c κs = search needs
 returns : tie.Need-returns Inv-loop μ-loop
 unfolding Decides
 returns c = λ h.
-    denied (c .before .is-operand .result) (c .before .is-operand .ensures) (c .if1 .taken)
+    decided-no (c .before .is-operand .result) (c .before .is-operand .ensures) (c .if1 .taken)
     (h (c .before .before .before .before .loop .i) (omega arith))
 
 add-i : tie.Need-add-i Inv-loop μ-loop

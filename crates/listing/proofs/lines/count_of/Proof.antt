@@ -4,7 +4,7 @@ use borrow.Author.Needs.{needs}
 use Prim.Native.Nat.{_-_}
 use lib.Dec.{eqb}
 use lib.ListN.{length, getD}
-use Rattle.matcher.proofs.Filling.{one-small}
+use Rattle.alf.proofs.Counts.{one-small}
 use Rattle.listing.proofs.Parts.{Counting, counting-first, counting-small, counting-next, counting-end}
 use Rattle.listing.proofs.lines.count_of.Statement.{statement}
 use Rattle.listing.proofs.lines.count_of.Tie as tie

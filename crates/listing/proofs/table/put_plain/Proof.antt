@@ -13,7 +13,8 @@ use Rattle.listing.proofs.table.put_plain.Statement.{statement}
 use Rattle.listing.proofs.table.put_plain.Tie as tie
 
 abbrev Inv-loop : tie.InvT-loop
-Inv-loop pattern out₀ at i₀ out i = (i ≤ length pattern) × Put out₀ at (take i (map plain pattern)) out (at + i)
+Inv-loop pattern out₀ at i₀ out i =
+    (i ≤ length pattern) × Put out₀ at (take i (map plain pattern)) out (at + i)
 
 abbrev μ-loop : tie.MeasureT-loop
 μ-loop pattern out₀ at i₀ out i = length pattern - i

@@ -7,7 +7,8 @@ use lib.Dec.{eqb}
 use Rattle.alf.specs.Values.{stateAt}
 use Rattle.matcher.specs.Shapes.{alternativesOf}
 use Rattle.matcher.proofs.Filling.{row-asked, Counting, counting-first, counting-next}
-use Rattle.matcher.proofs.Filling.{counting-end, counted-small, one-small}
+use Rattle.matcher.proofs.Filling.{counting-end, counted-small}
+use Rattle.alf.proofs.Counts.{one-small}
 use Rattle.matcher.proofs.tables.totals.Statement.{statement}
 use Rattle.matcher.proofs.tables.totals.Tie as tie
 

@@ -12,11 +12,13 @@ use Rattle.rewriting.proofs.lists.fill.Statement.{statement}
 use Rattle.rewriting.proofs.lists.fill.Tie as tie
 
 abbrev Inv-loop : tie.InvT-loop
-Inv-loop tree names steps₀ tests₀ edges₀ operands₀ end count s₀ from₀ t₀ steps tests edges operands s from t =
+Inv-loop tree names steps₀ tests₀ edges₀ operands₀ end count s₀ from₀ t₀
+    steps tests edges operands s from t =
     Filling (alternativesAt tree names) steps₀ tests₀ edges₀ operands₀ steps tests edges operands s from t
 
 abbrev μ-loop : tie.MeasureT-loop
-μ-loop tree names steps₀ tests₀ edges₀ operands₀ end count s₀ from₀ t₀ steps tests edges operands s from t =
+μ-loop tree names steps₀ tests₀ edges₀ operands₀ end count s₀ from₀ t₀
+    steps tests edges operands s from t =
     count - t
 
 count-of-requires : tie.Need-count-of-requires Inv-loop μ-loop

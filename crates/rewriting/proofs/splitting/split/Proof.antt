@@ -1,5 +1,6 @@
 -- `rewriting::splitting::split` meets its contract. Assumes nothing.
-use Rattle.rewriting.proofs.Splits.{split-left, split-right, split-left-first, split-right-first, split-together}
+use Rattle.rewriting.proofs.Splits.{split-left, split-right, split-left-first}
+use Rattle.rewriting.proofs.Splits.{split-right-first, split-together}
 use borrow.Author.Needs.{needs}
 use Rattle.rewriting.proofs.splitting.split.Statement.{statement}
 use Rattle.rewriting.proofs.splitting.split.Tie as tie

@@ -12,7 +12,8 @@ use Rattle.tokens.proofs.steps.find.Statement.{statement}
 use Rattle.tokens.proofs.steps.find.Tie as tie
 
 abbrev Inv-loop : tie.InvT-loop
-Inv-loop text at rows i₀ i = (i ≤ 26) × (firstOf (drop i spellings) (drop at text) ≡ firstOf spellings (drop at text))
+Inv-loop text at rows i₀ i =
+    (i ≤ 26) × (firstOf (drop i spellings) (drop at text) ≡ firstOf spellings (drop at text))
 
 abbrev μ-loop : tie.MeasureT-loop
 μ-loop text at rows i₀ i = 26 - i

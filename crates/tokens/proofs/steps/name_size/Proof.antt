@@ -12,7 +12,8 @@ use Rattle.tokens.proofs.steps.name_size.Statement.{statement}
 use Rattle.tokens.proofs.steps.name_size.Tie as tie
 
 abbrev Inv-loop : tie.InvT-loop
-Inv-loop text at i₀ i = (at ≤ i) × (i ≤ length text) × (i + nameBytes (drop i text) ≡ at + nameBytes (drop at text))
+Inv-loop text at i₀ i =
+    (at ≤ i) × (i ≤ length text) × (i + nameBytes (drop i text) ≡ at + nameBytes (drop at text))
 
 abbrev μ-loop : tie.MeasureT-loop
 μ-loop text at i₀ i = length text - i

@@ -10,7 +10,8 @@ use Rattle.traces.proofs.copies.copy.Statement.{statement}
 use Rattle.traces.proofs.copies.copy.Tie as tie
 
 abbrev Inv-loop : tie.InvT-loop
-Inv-loop src from n dst₀ to i₀ dst i = (i ≤ n) × (length dst ≡ length dst₀) × Copied src from dst₀ to i dst
+Inv-loop src from n dst₀ to i₀ dst i =
+    (i ≤ n) × (length dst ≡ length dst₀) × Copied src from dst₀ to i dst
 
 abbrev μ-loop : tie.MeasureT-loop
 μ-loop src from n dst₀ to i₀ dst i = n - i

@@ -14,7 +14,8 @@ use Rattle.traces.proofs.copies.copy_names.Tie as tie
 
 abbrev Inv-loop : tie.InvT-loop
 Inv-loop file k out₀ q₀ i₀ out q i =
-    (i ≤ k) × (length out ≡ length out₀) × (q ≡ nameEnd file i) × (out ≡ namesOf file i ++ drop (i * 32) out₀)
+    (i ≤ k) × (length out ≡ length out₀) × (q ≡ nameEnd file i) ×
+    (out ≡ namesOf file i ++ drop (i * 32) out₀)
 
 abbrev μ-loop : tie.MeasureT-loop
 μ-loop file k out₀ q₀ i₀ out q i = k - i

@@ -8,7 +8,8 @@ use Rattle.traces.proofs.parts.codes_to.Statement.{statement}
 use Rattle.traces.proofs.parts.codes_to.Tie as tie
 
 abbrev Inv-loop : tie.InvT-loop
-Inv-loop codes from to i₀ i = (from ≤ i) × (i ≤ to) × ((j : ℕ) → from ≤ j → j < i → getD codes j 0 ≤ 7)
+Inv-loop codes from to i₀ i =
+    (from ≤ i) × (i ≤ to) × ((j : ℕ) → from ≤ j → j < i → getD codes j 0 ≤ 7)
 
 abbrev μ-loop : tie.MeasureT-loop
 μ-loop codes from to i₀ i = to - i

@@ -10,7 +10,8 @@ use Rattle.traces.proofs.write.put_names.Statement.{statement}
 use Rattle.traces.proofs.write.put_names.Tie as tie
 
 abbrev Inv-loop : tie.InvT-loop
-Inv-loop names k out₀ at₀ i₀ out at i = (i ≤ k) × (length out ≡ length out₀) × NamesPut names i out₀ out at
+Inv-loop names k out₀ at₀ i₀ out at i =
+    (i ≤ k) × (length out ≡ length out₀) × NamesPut names i out₀ out at
 
 abbrev μ-loop : tie.MeasureT-loop
 μ-loop names k out₀ at₀ i₀ out at i = k - i

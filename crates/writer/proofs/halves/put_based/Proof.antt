@@ -24,7 +24,8 @@ returns c =
     let c6 = c .before .before .before .before .before .before in
     let c10 = c6 .before .before .before .before in
     let c13 = c10 .before .before .before in
-    let g = going-start ((39 ∷ []) ∷ (98 ∷ []) ∷ (halfByte (c13 .args .h) ∷ []) ∷ []) refl (c13 .pre .room) in
+    let g =
+    going-start ((39 ∷ []) ∷ (98 ∷ []) ∷ (halfByte (c13 .args .h) ∷ []) ∷ []) refl (c13 .pre .room) in
     let g1 = going-on g (c10 .push .ensures) in
     let g2 = going-on g1 (c6 .push2 .ensures) in
     let g3 = going-on g2 (c .before .before .put-half .ensures) in

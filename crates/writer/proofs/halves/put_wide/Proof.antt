@@ -21,7 +21,8 @@ returns : tie.Need-returns
 returns c =
     let c6 = c .before .before .before .before .before .before in
     let c9 = c6 .before .before .before in
-    let g = going-start (based (halfByte (c9 .args .f)) ∷ based (halfByte (c9 .args .t)) ∷ []) refl (c9 .pre .room) in
+    let g =
+    going-start (based (halfByte (c9 .args .f)) ∷ based (halfByte (c9 .args .t)) ∷ []) refl (c9 .pre .room) in
     let g1 = going-on g (c6 .put-based .ensures) in
     let g2 = going-on g1 (c .before .before .put-based2 .ensures) in
     going-end g2

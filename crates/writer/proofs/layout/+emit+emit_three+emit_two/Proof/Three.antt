@@ -10,7 +10,8 @@ use Rattle.writer.proofs.layout.+emit+emit_three+emit_two.Proof.Calls.{
 use Rattle.writer.proofs.layout.emit_three.Reads as emit-three
 use Rattle.writer.proofs.layout.+emit+emit_three+emit_two.Lts-emit_three as emit-three-lts
 
-pub emit-three-closed : {M : Type 1} (t : ℕ) → emit-three-lts.Closed (calls-emit-three t) (emit-three-at t) emit-three.Post M
+pub emit-three-closed : {M : Type 1} (t : ℕ)
+    → emit-three-lts.Closed (calls-emit-three t) (emit-three-at t) emit-three.Post M
 emit-three-closed t = emit-three-lts.spec (calls-emit-three t) (emit-three-at t) emit-three.Post
     (λ c.
     let c33 = c .before .before in

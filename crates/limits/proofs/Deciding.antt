@@ -1,23 +1,19 @@
 -- A test that decides something, and what follows from its answer.
 --   told, tells      what a test says yes to is so; what is so it says yes to
---   true?            a test that does not say no says yes
 --   same-decided     the test of something that is the same
 --   decided-true     a test decides whether it says yes
 --   both-decided     two tests
 --   eqb-decides      two numbers
 --   said, not-said   the test of an `if` that is turned round
---   denied           what it then says no to is not so
+--   decided-no, decided-yes      what it then says no to is not so, and what it says yes to is
 -- Assumes nothing.
 use mathlib.Core.Path.{_≡_, refl, sym}
 use mathlib.Core.Bool.{Bool, true, false, not, _&&_}
-use mathlib.Core.List.{List}
-use Prim.Native.Nat.{ℕ, _<_, _≤_}
-use native.Mathlib.Omega.{arith}
+use Prim.Native.Nat.{ℕ}
 use lib.Dec.{eqb}
-use lib.ListN.{length, getD}
 use borrow.Author.Tests.{eqb-true, eqb-false}
 use Rattle.alf.proofs.Bools.{never}
 use Rattle.limits.specs.Accepted.{Decides}
 
 module _ {P : Type 0} where
   pub told : (b : Bool) → Decides b P → b ≡ true → P
@@ -34,10 +30,6 @@ pub same-decided : (P Q : Type 0) (b : Bool) → (P → Q) → (Q → P) → Dec
 unfolding Decides
 same-decided P Q true f g d = f d
 same-decided P Q false f g d = λ q. d (g q)
-
-pub true? : (b : Bool) → ((b ≡ true → ⊥) → ⊥) → b ≡ true
-true? true h = refl
-true? false h = absurd (h (λ e. never e))
 
 pub decided-true : (b : Bool) → Decides b (b ≡ true)
 unfolding Decides
@@ -67,5 +59,8 @@ pub not-said : (b : Bool) → not b ≡ true → b ≡ true → ⊥
 not-said true h e = never h
 not-said false h e = never e
 
-pub denied : {P : Type 0} (b : Bool) → Decides b P → not b ≡ true → P → ⊥
-denied b d h p = not-said b h (tells b d p)
+pub decided-no : {P : Type 0} (b : Bool) → Decides b P → not b ≡ true → P → ⊥
+decided-no b d h p = not-said b h (tells b d p)
+
+pub decided-yes : {P : Type 0} (b : Bool) → Decides b P → not b ≡ false → P
+decided-yes b d h = told b d (said b h)
