@@ -109,7 +109,8 @@ module _ (names : ℕ) (tree : List ℕ) where
             λ i. (l .steps-are i, l .tests-are i, l .edges-are i, l .operands-are i);
       }
 
-  pub contradictions : (flags : List ℕ) → Promised Refused (λ r m. rewriting.Contradicts names tree flags m r) flags
+  pub contradictions : (flags : List ℕ)
+      → Promised Refused (λ r m. rewriting.Contradicts names tree flags m r) flags
   unfolding rewriting.after
   contradictions flags =
       record { one = λ a b m n x y. contradicts-unique names tree flags x y; stays = λ r m x. x .memory }

@@ -85,9 +85,11 @@ module _ {file text : List ℕ} (q : Question file text) where
   match-told i = Found (record { answer = answerAt q i; tries = triesAt q i })
 
   -- Reading. The file, given room for its trace.
-  pub file-read : (n₀ t₀ s₀ : List ℕ) {n₁ t₁ s₁ : List ℕ} (r : files.Reading) → length (q .names) ≤ length n₀
+  pub file-read : (n₀ t₀ s₀ : List ℕ) {n₁ t₁ s₁ : List ℕ} (r : files.Reading)
+      → length (q .names) ≤ length n₀
       → q .rows ≤ length t₀ → q .rows * k ≤ length s₀ → Reads file n₀ t₀ s₀ n₁ t₁ s₁ r
-      → OneReading r n₁ t₁ s₁ (Read k (q .rows)) (over (q .names) n₀) (over (q .times) t₀) (over (q .states) s₀)
+      → OneReading r n₁ t₁ s₁ (Read k (q .rows)) (over (q .names) n₀) (over (q .times) t₀)
+      (over (q .states) s₀)
   file-read n₀ t₀ s₀ r a b c w = trace-laws.read-write (q .trace) n₀ t₀ s₀ r a b c (rw (q .read) at w)
 
   pub text-read : {r : texts.Read} → Reading (q .names) text sort.Vector r → r ≡ made (vector (q .pattern))
@@ -133,9 +135,11 @@ module _ {file text : List ℕ} (q : Question file text) where
   all-rows (outcome.Done m) a t w = (
     ap outcome.Done (w .comes .1),
     w .answers-memory
-        ∙ ap (λ (p : Vector). listed 0 (q .rows) (λ i. numberOf (rowAnswer (stateAt k (q .states)) p i))) (tree-is q),
+        ∙ ap (λ (p : Vector). listed 0 (q .rows) (λ i. numberOf (rowAnswer (stateAt k (q .states)) p i)))
+        (tree-is q),
     w .tried-memory
-        ∙ ap (λ (p : Vector). listed 0 (q .rows) (λ i. tries (stateAt k (q .states)) (alternatives p) i)) (tree-is q),
+        ∙ ap (λ (p : Vector). listed 0 (q .rows) (λ i. tries (stateAt k (q .states)) (alternatives p) i))
+        (tree-is q),
   )
   all-rows (outcome.Refused r) a t w =
       absurd
@@ -190,7 +194,8 @@ module _ {file text : List ℕ} (q : Question file text) where
   unfolding stepsOf
   longest-pos = steps-pos (expression (treeOf q) k)
 
-  module _ {n : ℕ} {rows : ℕ → List ℕ} {queues : ℕ → Queue} {results : ℕ → Matching} (first : queues 0 .kept .0 ≡ 0)
+  module _ {n : ℕ} {rows : ℕ → List ℕ} {queues : ℕ → Queue} {results : ℕ → Matching}
+      (first : queues 0 .kept .0 ≡ 0)
       (full : (i : ℕ) → i < n → length (rows i) ≡ k) (codes : (i : ℕ) → i < n → Codes (rows i))
       (pushed : (i : ℕ) → i < n → Push k (treeOf q) (queues i) (rows i) (results i) (queues (suc i))) where
     not-refused : (i : ℕ) → i < n → results i ≡ Found (told-by (results i))

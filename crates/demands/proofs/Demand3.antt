@@ -59,8 +59,8 @@ module _ {file text : List ℕ} (q : Question file text) where
       ),
     )
 
-    pub correction-done : {states′ answers′ : List ℕ} (o : Outcome) → Corrects answers r new states′ answers′ o
-        → o ≡ Done 1
+    pub correction-done : {states′ answers′ : List ℕ} (o : Outcome)
+        → Corrects answers r new states′ answers′ o → o ≡ Done 1
     unfolding Comes
     correction-done (Done m) w = ap Done (w .comes .1)
     correction-done (Refused e) w = absurd (refused-passed _ _ _ passed (w .comes))
@@ -78,7 +78,8 @@ module _ {file text : List ℕ} (q : Question file text) where
     unfolding after
     correction-stored = w .states-memory
 
-    pub rewritten-right : (i : ℕ) → r ≤ i → i ≤ last r → getD answers′ i 0 ≡ numberOf (answerOn q states′ i)
+    pub rewritten-right : (i : ℕ) → r ≤ i → i ≤ last r
+        → getD answers′ i 0 ≡ numberOf (answerOn q states′ i)
     rewritten-right i a b =
         correction-reaches (tree-accepted q) w i a (rw steps-is b) ∙ answer-is states′ i
 

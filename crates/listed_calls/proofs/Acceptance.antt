@@ -135,7 +135,8 @@ boolean-kind broken h = never h
 boolean-kind (push (boolean c) s) h = refl
 boolean-kind (push (vector p) s) h = never h
 
-pub operand-start : {t : List ℕ} {names end kind start : ℕ} → Ending t names end kind start → kind ≡ 1 → start < end
+pub operand-start : {t : List ℕ} {names end kind start : ℕ} → Ending t names end kind start → kind ≡ 1
+    → start < end
 operand-start e k = e .from (omega arith) .before
 
 module _ (tree : List ℕ) (names end : ℕ) where

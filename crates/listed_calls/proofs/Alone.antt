@@ -69,7 +69,8 @@ unfolding Decodes
 decodes-few w names e h = sym (stack-few w names (length w)) ∙ h
 
 stack-over : (t : List ℕ) (names m n : ℕ) (c : Boolean) → m + n ≤ length t
-    → Decodes names (take n (drop m t)) (boolean c) → stackAt t names (m + n) ≡ push (boolean c) (stackAt t names m)
+    → Decodes names (take n (drop m t)) (boolean c)
+    → stackAt t names (m + n) ≡ push (boolean c) (stackAt t names m)
 stack-over t names m n c l h =
     stack-few t names (m + n)
     ∙ runs-on t (min names 32) m n l
@@ -92,7 +93,8 @@ module _ (t : List ℕ) (names end m : ℕ) where
           omega (arith, part-length, p)
 
       -- the expression that it is, on top of what is before it
-      over : (c : Boolean) → Decodes names part (boolean c) → stackAt t names end ≡ push (boolean c) (stackAt t names m)
+      over : (c : Boolean) → Decodes names part (boolean c)
+          → stackAt t names end ≡ push (boolean c) (stackAt t names m)
       over c h =
           let e : m + (end - m) ≡ end = omega arith in
           ap (stackAt t names) (sym e) ∙ stack-over t names m (end - m) c (omega arith) h

@@ -48,7 +48,8 @@ module _ (st : Boolean → ℕ → ℕ) (xs : List Alternative) where
   sum-rows (suc n) = omega (arith, sum-events n)
 
 pub listed-totals-together : {names n : ℕ} {tree steps tests edges operands states : List ℕ} {t : Total}
-    → ListedTotals names n tree steps tests edges operands states (Counted t) → t .yes + t .no + t .unknown ≡ n - 1
+    → ListedTotals names n tree steps tests edges operands states (Counted t)
+    → t .yes + t .no + t .unknown ≡ n - 1
 unfolding Counts
 listed-totals-together {names} {n} {tree} {steps} {tests} {edges} {operands} {states} w =
     let t = w .comes .1 in

@@ -31,8 +31,8 @@ fn back(end: usize, most: usize) -> usize
     end - most
 }
 
-// Whether the bytes before `end` end with a boolean tree that a text gives by itself. Such a tree has at most 256 bytes,
-// so no more are looked at, however long the list is.
+// Whether the bytes before `end` end with a boolean tree that a text gives by itself. Such a tree has at most 256
+// bytes, so no more are looked at, however long the list is.
 pub fn is_operand(tree: &[u8], names: usize, end: usize) -> bool
     ensures { λ r. ⌜ Decides r (Operand (now (tree .entry)) names end) ⌝ }
 {
