@@ -8,3 +8,7 @@ pub record FirstBad (states : List ℕ) (r : ℕ) : Type 0 where
   pub within : r ≤ length states
   pub before : (i : ℕ) → i < r → getD states i 0 < 8
   pub there : r < length states → 7 < getD states r 0
+
+-- none of them is above r
+pub record Bounds (states : List ℕ) (r : ℕ) : Type 0 where
+  pub all : (i : ℕ) → i < length states → getD states i 0 ≤ r

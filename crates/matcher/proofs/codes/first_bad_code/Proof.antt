@@ -1,56 +1,26 @@
--- `matcher::codes::first_bad_code` meets its contract. The loop's invariant: no code before i is above 7.
+-- `matcher::codes::first_bad_code` meets its contract: where the largest code is below 8, none is above 7.
 -- Assumes nothing.
-use Prim.Native.Nat.{ℕ, _-_, _<_, _≤_}
 use native.Mathlib.Omega.{arith}
-use lib.ListN.{length, getD}
-use Rattle.matcher.proofs.Coding.{codes-more}
+use borrow.Author.Needs.{needs}
 use Rattle.matcher.proofs.codes.first_bad_code.Statement.{statement}
 use Rattle.matcher.proofs.codes.first_bad_code.Tie as tie
 
-abbrev Inv-loop : tie.InvT-loop
-Inv-loop states i₀ i = (i ≤ length states) × ((k : ℕ) → k < i → getD states k 0 < 8)
+largest-requires : tie.Need-largest-requires
+largest-requires c κs = search needs
 
-abbrev μ-loop : tie.MeasureT-loop
-μ-loop states i₀ i = length states - i
-
-loop-holds : tie.Need-loop-holds Inv-loop μ-loop
-loop-holds c = (omega arith, λ k h. absurd (omega arith))
-
-shared-slice-read-if1 : tie.Need-shared-slice-read-if1 Inv-loop μ-loop
-shared-slice-read-if1 c = omega arith
-
-returns : tie.Need-returns Inv-loop μ-loop
+returns : tie.Need-returns
 returns c =
-    let c3 = c .before .before .before in
-    record { within = c3 .loop .inv .0; before = c3 .loop .inv .1; there = λ l. c .if1 .taken }
+    record {
+      within = omega arith;
+      before = λ i l. omega (arith, c .before .largest .ensures .all i l, c .if1 .taken);
+      there = λ l. absurd (omega arith);
+    }
 
-add-i : tie.Need-add-i Inv-loop μ-loop
-add-i c = omega arith
+search-requires : tie.Need-search-requires
+search-requires c κs = search needs
 
-loop-less : tie.Need-loop-less Inv-loop μ-loop
-loop-less c = omega arith
-
-loop-again : tie.Need-loop-again Inv-loop μ-loop
-loop-again c =
-    let c3 = c .before .before .before in
-    let c4 = c3 .before in
-    (omega arith, codes-more (c4 .args .states .now) (c3 .loop .i) (c3 .loop .inv .1) (c .if1 .left))
-
-returns-2 : tie.Need-returns-2 Inv-loop μ-loop
-returns-2 c =
-    let i = c .before .loop .inv in
-    record { within = i .0; before = i .1; there = λ l. absurd (omega arith) }
+returns-2 : tie.Need-returns-2
+returns-2 c = search needs
 
 pub first-bad-code-spec : {M : Type 1} → statement M
-first-bad-code-spec =
-    tie.close
-    (tie.spec
-    Inv-loop
-    μ-loop
-    loop-holds
-    shared-slice-read-if1
-    returns
-    add-i
-    loop-less
-    loop-again
-    returns-2)
+first-bad-code-spec = tie.close (tie.spec largest-requires returns search-requires returns-2)
