@@ -1,0 +1,121 @@
+-- Shut out: accepting what a row of the table shuts out, at its edge, and giving another number than the first
+-- one's.
+--   names-33, rows-65536     33 names, 65,536 rows: refused with 18 at 0, whatever else is handed in
+--   row-n                    row n of n good rows: 19 at 0
+--   code-8                   the first code above 7: 15 at its place, though the row number is bad too
+--   new-code-8               a code above 7 of a correction's new row: 15 at its own place, before 19
+--   new-row-short            a new row of another length: 18
+--   queue-over-K             a queue that keeps more than K rows: 10
+--   short-tried              a list of tries of another length: 18
+--   text-4097                a text of 4,097 bytes: 1 at 4,096
+-- Of any call, number and place are `no-other` of Refusing, RefusingRows, RefusingUpdates, RefusingLists,
+-- RefusingTexts.
+use Prim.Native.Nat.{ℕ, _<_, _≤_}
+use native.Mathlib.Omega.{arith}
+use mathlib.Core.Path.{_≡_, refl}
+use mathlib.Core.Logic.{_⊎_, inl, inr}
+use mathlib.Core.List.{List, [], _∷_, _++_}
+use lib.ListN.{length, getD}
+use Rattle.alf.specs.declared.Sort.{Sort}
+use Rattle.alf.specs.declared.Sort.the-variants.{Vector}
+use Rattle.alf.specs.declared.Outcome.{Outcome}
+use Rattle.alf.specs.declared.Outcome.the-variants as outcome
+use Rattle.alf.specs.Alternatives.{stepsOf}
+use Rattle.alf.specs.Refusals.{RefusedWith, Passed, bad-code}
+use Rattle.limits.specs.Accepted.{Accepted}
+use Rattle.names.proofs.Orders.{refused-first, refused-then}
+use Rattle.names.specs.Check.{namesOrder}
+use Rattle.tokens.specs.Texts.{order}
+use Rattle.reader.specs.declared.Read.{Read}
+use Rattle.reader.specs.Reads.{refusedWith}
+use Rattle.reader.specs.Reading.{treeOrder, readOrder, Reading}
+use Rattle.updates.specs.declared.queues.Queue.{Queue}
+use Rattle.calls.specs.declared.matching.Matching.{Matching}
+use Rattle.calls.specs.declared.matching.Matching.the-variants as matching
+use Rattle.calls.specs.Matching.{expression, RowMatch, AllMatched}
+use Rattle.calls.specs.Correcting.{Correction}
+use Rattle.calls.specs.Pushing.{RowFits, Push}
+use Rattle.calls.specs.Orders.{Rows}
+use Rattle.calls.proofs.Routes.{codes-never}
+use Rattle.shut_out.specs.Reasons.{refusal}
+use Rattle.shut_out.proofs.Refusing.{GoodNames, names-pass}
+use Rattle.shut_out.proofs.RefusingTexts.{read-expression}
+use Rattle.shut_out.proofs.RefusingRows.{GoodTrace, match-row, match-all}
+use Rattle.shut_out.proofs.RefusingUpdates.{correct, push}
+
+module _ {k n : ℕ} {tree codes : List ℕ} {row : ℕ} (x : Matching) (w : RowMatch k n tree codes row x) where
+  pub names-33 : 32 < k → x ≡ matching.Refused (refusal 18 0)
+  unfolding RefusedWith
+  names-33 h =
+      match-row k n tree codes row .no-other 18 0
+      (inl (refl, record { given = λ l. omega (arith, h, l .name-count .1); there = refl })) x tt w .0
+
+  pub rows-65536 : 65535 < n → x ≡ matching.Refused (refusal 18 0)
+  unfolding RefusedWith
+  rows-65536 h =
+      match-row k n tree codes row .no-other 18 0
+      (inl (refl, record { given = λ l. omega (arith, h, l .row-count .1); there = refl })) x tt w .0
+
+  module _ (a : Accepted k Vector tree) where
+    pub row-n : GoodTrace k n codes → n ≤ row → x ≡ matching.Refused (refusal 19 0)
+    unfolding RefusedWith
+    row-n g h =
+        match-row k n tree codes row .no-other 19 0
+        (inr (
+          λ p z. z .given (g .lists),
+          inr (
+            λ p z. z .given a,
+            inr (codes-never codes (g .codes), inl (refl, record { given = h; there = refl })),
+          ),
+        )) x tt w .0
+
+    pub code-8 : {i : ℕ} → Rows k n (length codes) → bad-code codes i → x ≡ matching.Refused (refusal 15 i)
+    unfolding RefusedWith
+    code-8 {i} l b =
+        match-row k n tree codes row .no-other 15 i
+        (inr (λ p z. z .given l, inr (λ p z. z .given a, inl (refl, b)))) x tt w .0
+
+module _ {k n : ℕ} {tree codes answers : List ℕ} {row : ℕ} {new codes′ answers′ : List ℕ} (o : Outcome)
+    (w : Correction k n tree codes answers row new codes′ answers′ o) where
+  pub new-row-short : (length new ≡ k → ⊥) → o ≡ outcome.Refused (refusal 18 0)
+  unfolding RefusedWith
+  new-row-short h =
+      correct k n tree codes answers row new .no-other 18 0
+      (inl (refl, record { given = λ l. h (l .full); there = refl })) o (codes′, answers′) w .0
+
+  pub new-code-8 : {i : ℕ} → GoodTrace k n codes → Accepted k Vector tree → length answers ≡ n → length new ≡ k
+      → bad-code new i → o ≡ outcome.Refused (refusal 15 i)
+  unfolding RefusedWith
+  new-code-8 {i} g a room full b =
+      correct k n tree codes answers row new .no-other 15 i
+      (inr (
+        λ p z. z .given (record { room = room; full = full; rows = g .lists }),
+        inr (λ p z. z .given a, inr (codes-never codes (g .codes), inl (refl, b))),
+      )) o (codes′, answers′) w .0
+
+pub queue-over-K : {k : ℕ} {tree : List ℕ} {queue : Queue} {row : List ℕ} {queue′ : Queue} (x : Matching)
+    → Push k tree queue row x queue′ → RowFits k (length row) → stepsOf (expression tree k) < queue .kept .0
+    → x ≡ matching.Refused (refusal 10 0)
+unfolding RefusedWith
+queue-over-K {k} {tree} {queue} {row} {queue′} x w f h =
+    push k tree queue row .no-other 10 0
+    (inr (
+      λ p z. z .given f,
+      inl (refl, record { given = λ g. omega (arith, h, g .kept .few); there = refl }),
+    )) x queue′ w .0
+
+pub short-tried : {k n : ℕ} {tree codes answers tried answers′ tried′ : List ℕ} (o : Outcome)
+    → AllMatched k n tree codes answers tried answers′ tried′ o → (length tried ≡ n → ⊥)
+    → o ≡ outcome.Refused (refusal 18 0)
+unfolding RefusedWith
+short-tried {k} {n} {tree} {codes} {answers} {tried} {answers′} {tried′} o w h =
+    match-all k n tree codes answers tried .no-other 18 0
+    (inl (refl, record { given = λ l. h (l .0 .1); there = refl })) o (answers′, tried′) w .0
+
+pub text-4097 : {names text : List ℕ} {sort : Sort} (x : Read) → GoodNames names → 4096 < length text
+    → Reading names text sort x → x ≡ refusedWith 1 4096
+unfolding RefusedWith order
+text-4097 {names} {text} {sort} x g h w =
+    read-expression names text sort .no-other 1 4096
+    (refused-then (namesOrder names) (order text ++ treeOrder names text sort) 1 4096 (names-pass names g)
+    (inl (refl, record { given = h; there = refl }))) x tt w .0

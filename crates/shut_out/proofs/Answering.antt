@@ -1,0 +1,205 @@
+-- Shut out: "one answer for all rows (demand 2 with T)"; and unknown given as no. On table T, for whatever the
+-- contracts allow:
+--   one-answer-for-all, one-match-for-all, one-number-for-all    no result is allowed at every row; no list of one
+--   one-value-for-all                                            nor of one value
+--   row-0-answered, row-0-tried, row-0-changed                   row 0 has no event, no tries, no changes (any trace)
+--   unknown-as-no, unknown-as-no-matched, unknown-as-no-listed   row 4 of case 1
+--   flag-turned                                                  01 A is not reported as contradictory
+-- The idea: T answers 3 at row 0, 1 at row 1 and 2 at row 4, which is computed; a contract allows no other.
+use Prim.Native.Nat.{ℕ, zero, suc, _+_, _<_}
+use native.Mathlib.Omega.{arith}
+use mathlib.Core.Path.{_≡_, refl, sym, ap, _∙_}
+use mathlib.Core.List.{List, [], _∷_, _++_}
+use lib.ListN.{length, getD, drop, replicate}
+use Rattle.alf.specs.declared.Answer.{Answer}
+use Rattle.alf.specs.declared.Answer.the-variants.{No, NoEvent}
+use Rattle.alf.specs.declared.Outcome.{Outcome}
+use Rattle.alf.specs.declared.Outcome.the-variants as outcome
+use Rattle.alf.specs.Words.{greatest, listed, count, some, all}
+use Rattle.alf.specs.States.{reduce}
+use Rattle.alf.specs.Expressions.{Vector}
+use Rattle.alf.specs.Values.{state, settled, value, stateAt, valueAt}
+use Rattle.alf.specs.declared.changes.Changes.{Changes}
+use Rattle.alf.specs.Bytes.{halfNumber, edgeNumber, booleanBytes, vectorBytes, bytesOf, halfAt, edgeAt, leafAt, oneAt}
+use Rattle.alf.specs.Bytes.{operationAt, isBoolean, topBoolean, topVector, under, ifSo, run, stackAt}
+use Rattle.trees.specs.Parts.{booleanAt}
+use Rattle.alf.specs.Windows.{asked, digitAsked, letterAsked, edgeOn, answer, best, named, rowAnswer}
+use Rattle.alf.specs.Windows.{numberOf}
+use Rattle.alf.specs.Alternatives.{isName, halves, literalsAt, possible, contradictory}
+use Rattle.alf.specs.Alternatives.{alternatives, tries, tried}
+use Rattle.alf.specs.Traces.{changed, mask, changeMask}
+use Rattle.alf.specs.Refusals.{Comes}
+use Rattle.alf.specs.TableT.{names, rows, states}
+use Rattle.matcher.specs.declared.answers.Matched.{Matched}
+use Rattle.rewriting.specs.Lists.{laid}
+use Rattle.rewriting.specs.Possible.{flagOf, flagList}
+use Rattle.rewriting.specs.Calls as rewriting
+use Rattle.rewriting.specs.Calls.{ownAt, Contradicts}
+use Rattle.changes.specs.declared.RowChanges.the-variants as row-changes
+use Rattle.changes.specs.Call as changes
+use Rattle.calls.specs.declared.written.Told.{Told}
+use Rattle.calls.specs.declared.written.Told.the-variants as told
+use Rattle.calls.specs.declared.matching.Matching.{Matching}
+use Rattle.calls.specs.declared.matching.Matching.the-variants as matching
+use Rattle.calls.specs.Written.{Tells, RowAnswer, AllValues, after}
+use Rattle.calls.specs.Matching.{expression, Finds, RowMatch, AllMatched}
+use Rattle.calls.proofs.Routes.{answered, matched}
+use Rattle.shut_out.specs.Asked as T
+use Rattle.shut_out.specs.Asked.{rises, just-A}
+use Rattle.shut_out.proofs.RefusingRows.{match-all}
+use Rattle.shut_out.proofs.OnT.{trace-good, rises-accepted, rises-is}
+
+-- what is answered at a row of T, by document 01's number
+abbrev pub at : Vector → ℕ → ℕ
+at p i = numberOf (rowAnswer (stateAt names states) p i)
+
+-- the numbers that are told: of an answer, and of tries
+unfoldable pub number : Told → ℕ
+number (told.Answered a) = numberOf a
+number (told.Refused r) = 4
+
+unfoldable pub numberFound : Matching → ℕ
+numberFound (matching.Found m) = numberOf (m .answer)
+numberFound (matching.Refused r) = 4
+
+unfoldable pub triesFound : Matching → ℕ
+triesFound (matching.Found m) = m .tries
+triesFound (matching.Refused r) = 0
+
+-- case 1, computed at the rows that are used
+rises-0 : at rises 0 ≡ 3
+unfolding rowAnswer numberOf
+rises-0 = refl
+
+pub rises-1 : at rises 1 ≡ 1
+unfolding states rowAnswer numberOf named best answer greatest state edgeOn asked digitAsked letterAsked reduce
+rises-1 = refl
+
+pub rises-4 : at rises 4 ≡ 2
+unfolding states rowAnswer numberOf named best answer greatest state edgeOn asked digitAsked letterAsked reduce
+rises-4 = refl
+
+row-number : (i : ℕ) → i < rows → (x : Told) → RowAnswer names rows (T.asked rises) states i x
+    → number x ≡ at rises i
+unfolding number
+row-number i l x w =
+    ap number (answered (trace-good .lists) rises-accepted (trace-good .codes) l x w)
+    ∙ ap (λ (p : Vector). at p i) rises-is
+
+row-found : (i : ℕ) → i < rows → (x : Matching) → RowMatch names rows (T.asked rises) states i x
+    → numberFound x ≡ at rises i
+unfolding numberFound
+row-found i l x w =
+    ap numberFound (matched (trace-good .lists) rises-accepted (trace-good .codes) l x w)
+    ∙ ap (λ (p : Vector). at p i) rises-is
+
+-- "one answer for all rows"
+pub one-answer-for-all : (x : Told)
+    → ((i : ℕ) → i < rows → RowAnswer names rows (T.asked rises) states i x) → ⊥
+one-answer-for-all x w =
+    let a = sym (row-number 0 (omega arith) x (w 0 (omega arith)))
+    ∙ row-number 1 (omega arith) x (w 1 (omega arith)) in
+    omega (arith, a, rises-0, rises-1)
+
+pub one-match-for-all : (x : Matching)
+    → ((i : ℕ) → i < rows → RowMatch names rows (T.asked rises) states i x) → ⊥
+one-match-for-all x w =
+    let a = sym (row-found 0 (omega arith) x (w 0 (omega arith))) ∙ row-found 1 (omega arith) x (w 1 (omega arith)) in
+    omega (arith, a, rises-0, rises-1)
+
+-- unknown given as no
+pub unknown-as-no : RowAnswer names rows (T.asked rises) states 4 (told.Answered No) → ⊥
+unfolding number numberOf
+unknown-as-no w = omega (arith, row-number 4 (omega arith) _ w, rises-4)
+
+pub unknown-as-no-matched : (t : ℕ)
+    → RowMatch names rows (T.asked rises) states 4 (matching.Found (record { answer = No; tries = t })) → ⊥
+unfolding numberFound numberOf
+unknown-as-no-matched t w = omega (arith, row-found 4 (omega arith) _ w, rises-4)
+
+-- the same of a whole list of answers, and of values: case 8
+at-front : (l m : List ℕ) → l ≡ m → (i : ℕ) → getD l i 0 ≡ getD m i 0
+at-front l m e i = ap (λ (x : List ℕ). getD x i 0) e
+
+module _ {answers tried answers′ tried′ : List ℕ} (room : length answers ≡ rows) (space : length tried ≡ rows) where
+  list-right : (o : Outcome)
+      → AllMatched names rows (T.asked rises) states answers tried answers′ tried′ o
+      → answers′ ≡ listed 0 rows (at (expression (T.asked rises) names))
+  unfolding Comes after
+  list-right (outcome.Done k) w = w .answers-memory
+  list-right (outcome.Refused r) w =
+      absurd
+      (match-all names rows (T.asked rises) states answers tried .no-refusal
+      (record { trace = trace-good; accepted = rises-accepted; room = (room, space) }) r (answers′, tried′) w)
+
+  entry : (o : Outcome) → AllMatched names rows (T.asked rises) states answers tried answers′ tried′ o
+      → (getD answers′ 0 0 ≡ 3) × (getD answers′ 1 0 ≡ 1) × (getD answers′ 4 0 ≡ 2)
+  unfolding listed
+  entry o w =
+      let e = list-right o w ∙ ap (λ (p : Vector). listed 0 rows (at p)) rises-is in
+      (at-front _ _ e 0 ∙ rises-0, at-front _ _ e 1 ∙ rises-1, at-front _ _ e 4 ∙ rises-4)
+
+  pub one-number-for-all : (o : Outcome) (k : ℕ)
+      → AllMatched names rows (T.asked rises) states answers tried answers′ tried′ o
+      → answers′ ≡ replicate rows k → ⊥
+  one-number-for-all o k w e =
+      let x = entry o w in
+      omega (arith, x .0, x .1, at-front _ _ e 0, at-front _ _ e 1)
+
+  pub unknown-as-no-listed : (o : Outcome)
+      → AllMatched names rows (T.asked rises) states answers tried answers′ tried′ o
+      → getD answers′ 4 0 ≡ 0 → ⊥
+  unknown-as-no-listed o w e = omega (arith, entry o w .2, e)
+
+-- row 0 has no event, no alternative is tried there, and nothing changed; whatever the tree and the trace
+pub row-0-answered : {k n : ℕ} {tree codes : List ℕ} (a : Answer) → RowAnswer k n tree codes 0 (told.Answered a)
+    → (a ≡ NoEvent → ⊥) → ⊥
+unfolding Tells rowAnswer
+row-0-answered a w differ = differ (w .comes .1)
+
+pub row-0-tried : {k n : ℕ} {tree codes : List ℕ} (m : Matched) → RowMatch k n tree codes 0 (matching.Found m)
+    → 0 < m .tries → ⊥
+unfolding Finds tries
+row-0-tried m w h = omega (arith, h, w .comes .1 .count)
+
+none-changed : (k : ℕ) (codes : List ℕ) (j : ℕ) → mask j (changed k codes 0) ≡ 0
+unfolding mask changed
+none-changed k codes zero = refl
+none-changed k codes (suc j) = omega (arith, none-changed k codes j)
+
+pub row-0-changed : (k n : ℕ) (codes : List ℕ) (c : Changes) → changes.Comes k n codes 0 (row-changes.Changed c)
+    → (c .mask ≡ 0 → ⊥) → ⊥
+unfolding changes.Comes changeMask
+row-0-changed k n codes c w differ = differ (w .1 .changed ∙ none-changed k codes k)
+
+-- one value for all rows: A is 0 at row 0 and 1 at row 1
+A-0 : valueAt names states (booleanAt just-A names (length just-A)) 0 ≡ 0
+unfolding booleanBytes bytesOf leafAt operationAt run stackAt topBoolean states value settled state reduce
+A-0 = refl
+
+A-1 : valueAt names states (booleanAt just-A names (length just-A)) 1 ≡ 1
+unfolding booleanBytes bytesOf leafAt operationAt run stackAt topBoolean states value settled state reduce
+A-1 = refl
+
+pub one-value-for-all : {out out′ : List ℕ} (v m : ℕ) → AllValues names rows just-A states out out′ (outcome.Done m)
+    → out′ ≡ replicate rows v → ⊥
+unfolding after listed
+one-value-for-all v m w e =
+    let a = sym (at-front _ _ (w .memory) 0) ∙ at-front _ _ e 0 in
+    let b = sym (at-front _ _ (w .memory) 1) ∙ at-front _ _ e 1 in
+    omega (arith, a, b, A-0, A-1)
+
+-- the report of contradictory alternatives turned round
+flag-0 : flagList names (ownAt (T.asked rises) names) ≡ 0 ∷ []
+unfolding
+    edgeNumber halfNumber booleanBytes vectorBytes bytesOf halfAt edgeAt leafAt oneAt operationAt isBoolean topBoolean
+    topVector under ifSo run stackAt alternatives flagList flagOf contradictory possible literalsAt halves isName some
+    all asked digitAsked letterAsked reduce
+flag-0 = refl
+
+pub flag-turned : {flags flags′ : List ℕ} (m : ℕ) → Contradicts names (T.asked rises) flags flags′ (outcome.Done m)
+    → getD flags′ 0 0 ≡ 1 → ⊥
+unfolding rewriting.after laid
+flag-turned {flags} {flags′} m w e =
+    let a = at-front _ _ (w .memory ∙ ap (λ (l : List ℕ). l ++ drop (length l) flags) flag-0) 0 in
+    omega (arith, a, e)

@@ -1,0 +1,167 @@
+-- Shut out: "a queue right at its first event only (demand 2, every row); an invented number of tries or total (tied
+-- above to order and to the answers)". On table T, for whatever the contracts allow:
+--   one-number-of-tries, tries-unlike                            no number of tries is allowed at every event
+--   invented-total, totals-nothing, unknown-counted-as-no        no totals but 1, 3, 1
+--   first-event-only                                             a queue that goes on answering its first event
+--   stands-still, keeps-nothing                                  one that keeps nothing, whatever the tree
+use Prim.Native.Nat.{ℕ, suc, _+_, _*_, _<_}
+use native.Mathlib.Omega.{arith}
+use mathlib.Core.Path.{_≡_, refl, sym, ap, _∙_}
+use mathlib.Core.List.{List}
+use lib.ListN.{length, drop}
+use Rattle.alf.specs.declared.Answer.{Answer}
+use Rattle.alf.specs.declared.Answer.the-variants.{No, Yes, Unknown}
+use Rattle.alf.specs.Words.{greatest, leastOf, count, all}
+use Rattle.alf.specs.States.{reduce}
+use Rattle.alf.specs.Expressions.{Vector}
+use Rattle.alf.specs.Values.{state, stateAt}
+use Rattle.alf.specs.Windows.{asked, digitAsked, letterAsked, edgeOn, answer, best, named, rowAnswer}
+use Rattle.alf.specs.Windows.{numberOf}
+use Rattle.alf.specs.Alternatives.{alternatives, rewritten, tries, tried, atRow, stepsFrom, stepAt, testAt, stepsOf}
+use Rattle.alf.specs.Traces.{total}
+use Rattle.alf.specs.TableT.{names, rows, times, states}
+use Rattle.alf.proofs.TraceNearness.{steps-pos}
+use Rattle.traces.specs.Format.{codesOf}
+use Rattle.traces.proofs.Putting.{codes-all}
+use Rattle.matcher.specs.declared.answers.Matched.{Matched}
+use Rattle.matcher.specs.declared.tables.Total.{Total}
+use Rattle.updates.specs.declared.queues.Queue.{Queue}
+use Rattle.updates.specs.Copies.{Codes}
+use Rattle.updates.specs.Queues.{fed}
+use Rattle.updates.proofs.Codes.{codes-take, codes-drop}
+use Rattle.calls.specs.declared.written.Told.the-variants as told
+use Rattle.calls.specs.declared.matching.Matching.{Matching}
+use Rattle.calls.specs.declared.matching.Matching.the-variants as matching
+use Rattle.calls.specs.declared.matching.Counting.the-variants as counting
+use Rattle.calls.specs.Orders.{Rows}
+use Rattle.calls.specs.Written.{Tells}
+use Rattle.calls.specs.Matching.{expression, triesOn, Finds, Counts, RowMatch, RowTotals}
+use Rattle.calls.specs.Pushing.{Takes, Push}
+use Rattle.calls.proofs.Routes.{matched, found, row-passed, three-routes}
+use Rattle.shut_out.specs.Asked as T
+use Rattle.shut_out.specs.Asked.{rises, one-of}
+use Rattle.shut_out.proofs.OnT.{trace-good, rises-accepted, one-of-accepted, rises-is, one-of-is}
+use Rattle.shut_out.proofs.Answering.{at, numberFound, triesFound, rises-1, rises-4}
+use Rattle.shut_out.proofs.RefusingUpdates.{Pushable, push}
+
+-- "an invented number of tries": 01 A | 10 B is yes at row 1 by its first alternative, at row 2 by its second
+tries-1 : tries (stateAt names states) (alternatives one-of) 1 ≡ 1
+unfolding
+    states alternatives rewritten tries tried atRow stepsFrom stepAt testAt leastOf state edgeOn asked digitAsked
+    letterAsked reduce
+tries-1 = refl
+
+tries-2 : tries (stateAt names states) (alternatives one-of) 2 ≡ 2
+unfolding
+    states alternatives rewritten tries tried atRow stepsFrom stepAt testAt leastOf state edgeOn asked digitAsked
+    letterAsked reduce
+tries-2 = refl
+
+row-tries : (i : ℕ) → i < rows → (x : Matching) → RowMatch names rows (T.asked one-of) states i x
+    → triesFound x ≡ tries (stateAt names states) (alternatives one-of) i
+unfolding triesFound
+row-tries i l x w =
+    ap triesFound (matched (trace-good .lists) one-of-accepted (trace-good .codes) l x w)
+    ∙ ap (λ (p : Vector). tries (stateAt names states) (alternatives p) i) one-of-is
+
+pub one-number-of-tries : (t : ℕ) (answers : ℕ → Answer)
+    → ((i : ℕ) → 0 < i → i < rows
+    → RowMatch names rows (T.asked one-of) states i (matching.Found (record { answer = answers i; tries = t })))
+    → ⊥
+unfolding triesFound
+one-number-of-tries t answers w =
+    let a = row-tries 1 (omega arith) _ (w 1 (omega arith) (omega arith)) in
+    let b = row-tries 2 (omega arith) _ (w 2 (omega arith) (omega arith)) in
+    omega (arith, a, b, tries-1, tries-2)
+
+-- whatever the tree and the trace: no number but that of the alternatives up to the first yes, or of all
+pub tries-unlike : {k n : ℕ} {tree codes : List ℕ} {row : ℕ} (m : Matched)
+    → RowMatch k n tree codes row (matching.Found m) → (m .tries ≡ triesOn k tree codes row → ⊥) → ⊥
+unfolding Finds
+tries-unlike m w h = h (w .comes .1 .count)
+
+-- "an invented .. total": case 1 has one yes, three no, one unknown
+total-yes : total (stateAt names states) rises rows Yes ≡ 1
+unfolding total count states rowAnswer numberOf named best answer greatest state edgeOn asked digitAsked letterAsked
+    reduce
+total-yes = refl
+
+total-no : total (stateAt names states) rises rows No ≡ 3
+unfolding total count states rowAnswer numberOf named best answer greatest state edgeOn asked digitAsked letterAsked
+    reduce
+total-no = refl
+
+total-unknown : total (stateAt names states) rises rows Unknown ≡ 1
+unfolding total count states rowAnswer numberOf named best answer greatest state edgeOn asked digitAsked letterAsked
+    reduce
+total-unknown = refl
+
+pub invented-total : (t : Total) → RowTotals names rows (T.asked rises) states (counting.Counted t)
+    → (t .yes ≡ 1) × (t .no ≡ 3) × (t .unknown ≡ 1)
+unfolding Counts
+invented-total t w =
+    let c = rw rises-is at (w .comes .1) in
+    (c .yeses ∙ total-yes, c .noes ∙ total-no, c .unknowns ∙ total-unknown)
+
+pub totals-nothing : (t : Total) → RowTotals names rows (T.asked rises) states (counting.Counted t)
+    → t .yes + t .no + t .unknown ≡ 0 → ⊥
+totals-nothing t w e = omega (arith, e, invented-total t w .0)
+
+pub unknown-counted-as-no : (t : Total) → RowTotals names rows (T.asked rises) states (counting.Counted t)
+    → t .no ≡ 4 → ⊥
+unknown-counted-as-no t w e = omega (arith, e, invented-total t w .1)
+
+-- "a queue right at its first event only": the rows of T are pushed, the first into a queue that keeps nothing
+fed-is : fed (codesOf names states) rows ≡ states
+unfolding fed codesOf states
+fed-is = refl
+
+row-full : (i : ℕ) → i < rows → length (codesOf names states i) ≡ names
+unfolding codesOf
+row-full i l = codes-all names times states rows (trace-good .lists .all) i l
+
+row-codes : (i : ℕ) → i < rows → Codes (codesOf names states i)
+unfolding codesOf
+row-codes i l =
+    codes-take names (drop (i * names) states) (codes-drop (i * names) states (trace-good .codes))
+
+module _ {queues : ℕ → Queue} {results : ℕ → Matching} (first : queues 0 .kept .0 ≡ 0)
+    (pushed : (i : ℕ) → i < rows
+    → Push names (T.asked rises) (queues i) (codesOf names states i) (results i) (queues (suc i))) where
+  queue-number : (i : ℕ) → i < rows → numberFound (results i) ≡ at rises i
+  unfolding Tells Finds numberFound
+  queue-number i l =
+      let fits : Rows names rows (length (fed (codesOf names states) rows)) = rw fed-is (trace-good .lists) in
+      let codes : Codes (fed (codesOf names states) rows) = rw fed-is (trace-good .codes) in
+      let passed = row-passed (fed (codesOf names states) rows) rows i fits rises-accepted codes l in
+      let r = three-routes (trace-good .lists .name-count) rises-accepted first row-full row-codes pushed
+      (trace-good .lists .row-count) i l
+      (told.Answered
+      (rowAnswer (stateAt names (fed (codesOf names states) rows)) (expression (T.asked rises) names) i))
+      (record { comes = (passed, refl) }) (found names (T.asked rises) (fed (codesOf names states) rows) i)
+      (record { comes = (passed, record { is = refl; count = refl }) }) in
+      ap numberFound (r .2)
+      ∙ ap
+      (λ (s : List ℕ). numberOf (rowAnswer (stateAt names s) (expression (T.asked rises) names) i)) fed-is
+      ∙ ap (λ (p : Vector). at p i) rises-is
+
+  pub first-event-only : ((i : ℕ) → 0 < i → i < rows → results i ≡ results 1) → ⊥
+  first-event-only same =
+      let a = sym (queue-number 4 (omega arith))
+      ∙ (ap numberFound (same 4 (omega arith) (omega arith)) ∙ queue-number 1 (omega arith)) in
+      omega (arith, a, rises-1, rises-4)
+
+-- whatever the tree: what is pushed is kept, as long as K rows are not kept yet
+pub stands-still : {k : ℕ} {tree : List ℕ} {queue : Queue} {row : List ℕ} {queue′ : Queue}
+    → Pushable k tree queue row → queue .kept .0 < stepsOf (expression tree k) → (x : Matching)
+    → Push k tree queue row x queue′ → queue′ .kept .0 ≡ queue .kept .0 → ⊥
+unfolding Takes stepsOf
+stands-still {k} {tree} {queue} {row} {queue′} g l (matching.Found m) w e = omega (arith, l, e, w .comes .1 .kept)
+stands-still {k} {tree} {queue} {row} {queue′} g l (matching.Refused r) w e =
+    push k tree queue row .no-refusal g r queue′ w
+
+pub keeps-nothing : {k : ℕ} {tree : List ℕ} {queue : Queue} {row : List ℕ} {queue′ : Queue}
+    → Pushable k tree queue row → (x : Matching) → Push k tree queue row x queue′
+    → queue .kept .0 ≡ 0 → queue′ .kept .0 ≡ 0 → ⊥
+keeps-nothing {k} {tree} g x w a b =
+    stands-still g (omega (arith, a, steps-pos (expression tree k))) x w (b ∙ sym a)

@@ -1,0 +1,180 @@
+-- Shut out: "refusing everything". Each public call has input, on table T, for which its contract allows no refusal:
+-- so no program meets the contract that refuses all. What good input is, in general, stands in Refusing,
+-- RefusingRows and RefusingUpdates. The calls over texts stand in EveryText, those over lists in EveryList.
+use Prim.Native.Nat.{ℕ, _-_, _<_, _≤_, max}
+use native.Mathlib.Omega.{arith}
+use mathlib.Core.Path.{_≡_, refl}
+use mathlib.Core.List.{List}
+use lib.ListN.{length, getD}
+use Rattle.alf.specs.declared.Refusal.{Refusal}
+use Rattle.alf.specs.declared.Sort.the-variants as sort
+use Rattle.alf.specs.declared.Outcome.the-variants as outcome
+use Rattle.alf.specs.Expressions.{boolean}
+use Rattle.alf.specs.Bytes.{halfNumber, edgeNumber, booleanBytes, vectorBytes, bytesOf}
+use Rattle.alf.specs.Bytes.{halfAt, edgeAt, leafAt, oneAt, operationAt}
+use Rattle.alf.specs.Bytes.{isBoolean, topBoolean, topVector, under, ifSo, run, stackAt, Decodes}
+use Rattle.alf.specs.Alternatives.{alternatives, each}
+use Rattle.alf.specs.Refusals.{NameCount}
+use Rattle.alf.specs.TableT.{names, rows, times, states, A}
+use Rattle.alf.proofs.TraceNearness.{steps-pos}
+use Rattle.trees.specs.Brackets.{booleanDepth, depthOf}
+use Rattle.limits.specs.Accepted.{sortOf, overSize, Accepted}
+use Rattle.writer.specs.Spelled.{text}
+use Rattle.rewriting.specs.Codes.{placed}
+use Rattle.rewriting.specs.Lists.{joined, alternativesAt, stepList, testList, edgeList, operandList}
+use Rattle.rewriting.specs.Possible.{flagList}
+use Rattle.rewriting.specs.Calls.{ownAt, Rewrites, Contradicts}
+use Rattle.updates.specs.declared.queues.Queue.{Queue}
+use Rattle.updates.specs.Copies.{Codes}
+use Rattle.calls.specs.declared.written.Told.the-variants as told
+use Rattle.calls.specs.declared.matching.Matching.the-variants as matching
+use Rattle.calls.specs.declared.matching.Counting.the-variants as counting
+use Rattle.calls.specs.Written.{RowState, RowValue, AllValues, RowAnswer}
+use Rattle.calls.specs.Windows.{WindowAnswer}
+use Rattle.calls.specs.Matching.{expression, RowMatch, AllMatched, RowTotals}
+use Rattle.calls.specs.Correcting.{Correction}
+use Rattle.calls.specs.Pushing.{Push}
+use Rattle.calls.proofs.Routes.{holding-first}
+use Rattle.listing.specs.Listing.{listing}
+use Rattle.listing.specs.Calls.{ListsText, Delivers}
+use Rattle.shut_out.specs.Asked.{asked, rises, just-A}
+use Rattle.shut_out.proofs.Reasons.{Four}
+use Rattle.shut_out.proofs.Refusing as texts
+use Rattle.shut_out.proofs.RefusingRows as over-rows
+use Rattle.shut_out.proofs.RefusingUpdates as updating
+use Rattle.shut_out.proofs.OnT.{trace-good, rises-accepted}
+
+-- Rewriting.
+lists-one : (length (stepList (alternativesAt (asked rises) names)) ≡ 1)
+    × (length (testList (alternativesAt (asked rises) names)) ≡ 1)
+    × (length (edgeList (alternativesAt (asked rises) names)) ≡ 1)
+    × (length (operandList (alternativesAt (asked rises) names)) ≡ 1)
+unfolding
+    edgeNumber halfNumber booleanBytes vectorBytes bytesOf halfAt edgeAt leafAt oneAt operationAt isBoolean topBoolean
+    topVector under ifSo run stackAt placed joined alternatives stepList testList edgeList operandList
+lists-one = (refl, refl, refl, refl)
+
+flags-one : length (flagList names (ownAt (asked rises) names)) ≡ 1
+unfolding
+    edgeNumber halfNumber booleanBytes vectorBytes bytesOf halfAt edgeAt leafAt oneAt operationAt isBoolean topBoolean
+    topVector under ifSo run stackAt alternatives flagList
+flags-one = refl
+
+pub three : NameCount names
+three = (omega arith, omega arith)
+
+pub rewrite : (s t e o : List ℕ) (r : Refusal) (m : Four) → 1 ≤ length s → 1 ≤ length t → 1 ≤ length e
+    → 1 ≤ length o → Rewrites names (asked rises) s t e o (m .0) (m .1) (m .2) (m .3) (outcome.Refused r) → ⊥
+rewrite s t e o r m a b c d w =
+    texts.rewrite names (asked rises) s t e o .no-refusal
+    (record {
+      name-count = three;
+      accepted = rises-accepted;
+      steps-room = omega (arith, a, lists-one .0);
+      tests-room = omega (arith, b, lists-one .1);
+      edges-room = omega (arith, c, lists-one .2);
+      operands-room = omega (arith, d, lists-one .3);
+    }) r m w
+
+pub contradictions : {flags flags′ : List ℕ} (r : Refusal) → 1 ≤ length flags
+    → Contradicts names (asked rises) flags flags′ (outcome.Refused r) → ⊥
+contradictions {flags} {flags′} r room w =
+    texts.contradictions names (asked rises) flags .no-refusal
+    (record { name-count = three; accepted = rises-accepted; room = omega (arith, room, flags-one) }) r flags′ w
+
+-- Rows: of the boolean expression A, and of 01 A.
+pub A-accepted : Accepted names sort.Boolean just-A
+unfolding
+    booleanBytes bytesOf leafAt operationAt run stackAt Decodes sortOf overSize booleanDepth depthOf
+A-accepted =
+    record {
+      expression = boolean A;
+      decodes = refl;
+      sorted = refl;
+      tokens = omega arith;
+      brackets = omega arith;
+      sized = refl;
+    }
+
+module _ (r : Refusal) where
+  module _ (i : ℕ) (l : i < rows) where
+    good-A : over-rows.GoodRow names rows just-A sort.Boolean states i
+    good-A = record { trace = trace-good; accepted = A-accepted; there = l }
+
+    good-rises : over-rows.GoodRow names rows (asked rises) sort.Vector states i
+    good-rises = record { trace = trace-good; accepted = rises-accepted; there = l }
+
+    pub row-state : RowState names rows just-A states i (outcome.Refused r) → ⊥
+    row-state w = over-rows.row-state names rows just-A states i .no-refusal good-A r tt w
+
+    pub row-value : RowValue names rows just-A states i (outcome.Refused r) → ⊥
+    row-value w = over-rows.row-value names rows just-A states i .no-refusal good-A r tt w
+
+    pub row-answer : RowAnswer names rows (asked rises) states i (told.Refused r) → ⊥
+    row-answer w = over-rows.row-answer names rows (asked rises) states i .no-refusal good-rises r tt w
+
+    pub match-row : RowMatch names rows (asked rises) states i (matching.Refused r) → ⊥
+    match-row w = over-rows.match-row names rows (asked rises) states i .no-refusal good-rises r tt w
+
+  pub window-answer : (a b : ℕ) → max a b < rows → WindowAnswer names rows (asked rises) states a b (told.Refused r)
+      → ⊥
+  window-answer a b l w =
+      over-rows.window-answer names rows (asked rises) states a b .no-refusal (good-rises (max a b) l) r tt w
+
+  pub values : {out out′ : List ℕ} → length out ≡ rows
+      → AllValues names rows just-A states out out′ (outcome.Refused r) → ⊥
+  values {out} {out′} room w =
+      over-rows.values names rows just-A states out .no-refusal
+      (record { trace = trace-good; accepted = A-accepted; room = room }) r out′ w
+
+  pub match-all : {answers tried answers′ tried′ : List ℕ} → length answers ≡ rows → length tried ≡ rows
+      → AllMatched names rows (asked rises) states answers tried answers′ tried′ (outcome.Refused r) → ⊥
+  match-all {answers} {tried} {answers′} {tried′} a t w =
+      over-rows.match-all names rows (asked rises) states answers tried .no-refusal
+      (record { trace = trace-good; accepted = rises-accepted; room = (a, t) }) r (answers′, tried′) w
+
+  pub totals : RowTotals names rows (asked rises) states (counting.Refused r) → ⊥
+  totals w =
+      over-rows.totals names rows (asked rises) states .no-refusal
+      (record { trace = trace-good; accepted = rises-accepted; room = tt }) r tt w
+
+  pub correct : {answers new states′ answers′ : List ℕ} {i : ℕ} → length answers ≡ rows → length new ≡ names
+      → Codes new → i < rows
+      → Correction names rows (asked rises) states answers i new states′ answers′ (outcome.Refused r) → ⊥
+  correct {answers} {new} {states′} {answers′} {i} a f c l w =
+      updating.correct names rows (asked rises) states answers i new .no-refusal
+      (record { trace = trace-good; accepted = rises-accepted; room = a; full = f; codes = c; there = l }) r
+      (states′, answers′) w
+
+  -- a queue that keeps nothing yet
+  pub push : {queue queue′ : Queue} {row : List ℕ} → queue .kept .0 ≡ 0 → length row ≡ names → Codes row
+      → Push names (asked rises) queue row (matching.Refused r) queue′ → ⊥
+  push {queue} {queue′} {row} e f c w =
+      let h = holding-first names 1 queue e in
+      updating.push names (asked rises) queue row .no-refusal
+      (record {
+        handed =
+            record {
+              accepted = rises-accepted;
+              kept =
+                  record {
+                    few = omega (arith, e, steps-pos (expression (asked rises) names));
+                    codes = h .codes;
+                  };
+            };
+        fits = record { name-count = three; full = f };
+        codes = c;
+      }) r queue′ w
+
+  -- The listing of T with any answers, and each line of the table: where there is room.
+  pub list : {answers out out′ : List ℕ} → length answers ≡ rows
+      → ((i : ℕ) → i < length answers → getD answers i 0 ≤ 3) → length (listing times answers) ≤ length out
+      → ListsText times answers out out′ (outcome.Refused r) → ⊥
+  unfolding times
+  list {answers} {out} {out′} a k room w =
+      texts.list out times answers .no-refusal
+      (record { lists = record { rows = (omega arith, omega arith); same = a }; known = k; room = room }) r out′ w
+
+  pub line : {text out out′ : List ℕ} → length text ≤ length out
+      → Delivers text out out′ (outcome.Refused r) → ⊥
+  line {text} {out} {out′} room w = texts.line out text .no-refusal room r out′ w

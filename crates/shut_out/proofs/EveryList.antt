@@ -1,0 +1,108 @@
+-- Shut out: "refusing everything", for the calls over alternatives handed in: 01 A as lists, on table T.
+use Prim.Native.Nat.{ℕ, zero, suc, _+_, _<_, _≤_}
+use native.Mathlib.Omega.{arith}
+use mathlib.Core.Path.{_≡_, refl}
+use mathlib.Core.Bool.{true, false}
+use mathlib.Core.List.{List, [], _∷_}
+use lib.ListN.{length, getD}
+use Rattle.alf.specs.declared.Refusal.{Refusal}
+use Rattle.alf.specs.declared.Outcome.the-variants as outcome
+use Rattle.alf.specs.Words.{greatestOf, sumOf}
+use Rattle.alf.specs.Bytes.{halfNumber, edgeNumber, booleanBytes, vectorBytes, bytesOf}
+use Rattle.alf.specs.Bytes.{halfAt, edgeAt, leafAt, oneAt, operationAt}
+use Rattle.alf.specs.Bytes.{isBoolean, topBoolean, under, ifSo, run, stackAt}
+use Rattle.alf.specs.Alternatives.{overLimit, tests}
+use Rattle.alf.specs.TableT.{names, rows, states}
+use Rattle.trees.specs.Parts.{top}
+use Rattle.limits.specs.Accepted.{Decides}
+use Rattle.matcher.specs.Shapes.{cut, sum, testsOf, alternativesOf}
+use Rattle.updates.specs.declared.queues.Queue.{Queue}
+use Rattle.updates.specs.Copies.{Codes}
+use Rattle.calls.specs.declared.matching.Matching.the-variants as matching
+use Rattle.calls.specs.declared.matching.Counting.the-variants as counting
+use Rattle.calls.proofs.Routes.{holding-first}
+use Rattle.listed_calls.specs.Lists.{Operand, AcceptedAlternatives}
+use Rattle.listed_calls.specs.Listed as listed
+use Rattle.shut_out.specs.Asked.{asked, rises}
+use Rattle.shut_out.proofs.RefusingLists as over-lists
+use Rattle.shut_out.proofs.OnT.{trace-good}
+use Rattle.shut_out.proofs.EveryCall.{A-accepted, three}
+
+-- one alternative of one step of one test: edge 11 is 01, and its operand ends behind byte 0 of the tree
+abbrev one : List ℕ
+one = 1 ∷ []
+
+abbrev edge-01 : List ℕ
+edge-01 = 11 ∷ []
+
+operand : Operand (asked rises) names 1
+unfolding
+    edgeNumber halfNumber booleanBytes vectorBytes bytesOf leafAt operationAt isBoolean under run stackAt top
+operand =
+    record {
+      ends = record { within = omega arith; whole = refl };
+      start = 0;
+      from = record { is = refl; before = omega arith; left = refl };
+      accepted = A-accepted;
+    }
+
+pub one-accepted : AcceptedAlternatives names (asked rises) one one edge-01 one
+unfolding
+    edgeNumber halfNumber booleanBytes vectorBytes bytesOf halfAt edgeAt leafAt operationAt isBoolean topBoolean under
+    run stackAt cut sum testsOf alternativesOf overLimit tests greatestOf sumOf
+one-accepted =
+    record {
+      all-steps = refl;
+      all-tests = refl;
+      all-operands = refl;
+      within = refl;
+      some = omega arith;
+      stepped = λ k l. one-there k l;
+      known = λ k l. edge-there k l;
+      operand = λ k l. operand-there k l;
+    }
+  where
+    one-there : (k : ℕ) → k < 1 → 0 < getD one k 0
+    one-there zero l = omega arith
+    one-there (suc k) l = absurd (omega arith)
+
+    edge-there : (k : ℕ) → k < 1 → getD edge-01 k 0 ≤ 82
+    edge-there zero l = omega arith
+    edge-there (suc k) l = absurd (omega arith)
+
+    operand-there : (k : ℕ) → k < 1 → Operand (asked rises) names (getD one k 0)
+    operand-there zero l = operand
+    operand-there (suc k) l = absurd (omega arith)
+
+pub listed-fits : Decides false (AcceptedAlternatives names (asked rises) one one edge-01 one) → ⊥
+listed-fits d = over-lists.fits-not-refused names rows (asked rises) one one edge-01 one states one-accepted d
+
+module _ (r : Refusal) where
+  pub listed-match-row : (i : ℕ) → i < rows
+      → listed.ListedMatch names rows (asked rises) one one edge-01 one states i (matching.Refused r) → ⊥
+  listed-match-row i l w =
+      over-lists.listed-match-row names rows (asked rises) one one edge-01 one states i .no-refusal
+      (record { trace = trace-good; accepted = one-accepted; asked = l }) r tt w
+
+  pub listed-match-all : {answers tried answers′ tried′ : List ℕ} → length answers ≡ rows → length tried ≡ rows
+      → listed.ListedAll names rows (asked rises) one one edge-01 one states answers tried answers′ tried′
+      (outcome.Refused r) → ⊥
+  listed-match-all {answers} {tried} {answers′} {tried′} a t w =
+      over-lists.listed-match-all names rows (asked rises) one one edge-01 one states answers tried .no-refusal
+      (record { trace = trace-good; accepted = one-accepted; asked = (a, t) }) r (answers′, tried′) w
+
+  pub listed-totals : listed.ListedTotals names rows (asked rises) one one edge-01 one states (counting.Refused r) → ⊥
+  listed-totals w =
+      over-lists.listed-totals names rows (asked rises) one one edge-01 one states .no-refusal
+      (record { trace = trace-good; accepted = one-accepted; asked = tt }) r tt w
+
+  pub listed-push : {queue queue′ : Queue} {row : List ℕ} → queue .kept .0 ≡ 0 → length row ≡ names → Codes row
+      → listed.ListedPush names (asked rises) one one edge-01 one queue row (matching.Refused r) queue′ → ⊥
+  listed-push {queue} {queue′} {row} e f c w =
+      let h = holding-first names 1 queue e in
+      over-lists.listed-push names (asked rises) one one edge-01 one queue row .no-refusal
+      (record {
+        handed = record { accepted = one-accepted; kept = record { few = omega (arith, e); codes = h .codes } };
+        fits = record { name-count = three; full = f };
+        codes = c;
+      }) r queue′ w

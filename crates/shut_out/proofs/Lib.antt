@@ -1,0 +1,64 @@
+-- What is shut out, and by which theorem. Document 01, "What a reader may rely on": "Shut out by name: refusing
+-- everything (the table says 'exactly when'); one answer for all rows (demand 2 with T); a correction that changes
+-- nothing (demand 3, whose list may be junk); a queue right at its first event only (demand 2, every row); an invented
+-- number of tries or total (tied above to order and to the answers)." Each is said of the contracts, so of every
+-- program that meets them; and Attached says that these contracts are those of the functions.
+--
+-- refusing everything, a good input among it
+--     `no-refusal` of each call (Refusing..); on T, under its name (EveryText, EveryCall, EveryList)
+-- accepting what a row of the table shuts out
+--     `no-acceptance` of each call (Refusing..)
+-- another number, another place, another order
+--     `no-other` of each call (Refusing..)
+-- at the edges: 33 names, 65,536 rows, row n, code 8, 4,097 bytes
+--     `names-33`, `rows-65536`, `row-n`, `code-8`, .. (Accepting)
+-- a refusal that has written something
+--     `no-other` (Refusing..); `wrote-and-refused`, .. (Writing)
+-- one answer, one value for all rows
+--     `one-answer-for-all`, `one-match-for-all`, `one-number-for-all`, `one-value-for-all` (Answering)
+-- unknown given as no
+--     `unknown-as-no`, `unknown-as-no-matched`, `unknown-as-no-listed` (Answering)
+-- row 0 answered, tried, changed
+--     `row-0-answered`, `row-0-tried`, `row-0-changed` (Answering)
+-- a report of contradictory alternatives turned round
+--     `flag-turned` (Answering)
+-- an invented number of tries
+--     `one-number-of-tries`, `tries-unlike` (Counting)
+-- an invented total; nothing counted; unknown counted as no
+--     `invented-total`, `totals-nothing`, `unknown-counted-as-no` (Counting)
+-- a queue right at its first event only; one that keeps nothing
+--     `first-event-only`, `stands-still`, `keeps-nothing` (Counting); `listed-stands-still` (NothingElse)
+-- a correction that changes nothing
+--     `changes-nothing`, `changes-nothing-on-T` (Correcting)
+-- one that stops at row r, or anywhere before min(r+K, n-1)
+--     `stops-at-row-r`, `stops-at-row-3`, `leaves-junk` (Correcting)
+-- one that writes elsewhere, or stores nothing
+--     `writes-elsewhere`, `stores-nothing` (Correcting)
+-- a text with a pair of brackets more
+--     `brackets-more` (Writing), `brackets-more-on-T` (EveryText)
+-- a file read with its rows swapped, or any other state or time
+--     `rows-swapped`, `other-state`, `other-time` (Writing)
+-- any other result, text, file or list than the one defined
+--     `no-other-answer`, `no-other-text`, .. (NothingElse)
+-- a contract that is not the function's own, or that asks something
+--     each call under its name (Attached, AttachedLists), each function for C (AttachedForC, AttachedListsForC)
+pub mod Reasons
+pub mod Refusing
+pub mod RefusingRows
+pub mod RefusingUpdates
+pub mod RefusingLists
+pub mod RefusingTexts
+pub mod OnT
+pub mod EveryText
+pub mod EveryCall
+pub mod EveryList
+pub mod Accepting
+pub mod Answering
+pub mod Counting
+pub mod Correcting
+pub mod Writing
+pub mod NothingElse
+pub mod Attached
+pub mod AttachedLists
+pub mod AttachedForC
+pub mod AttachedListsForC

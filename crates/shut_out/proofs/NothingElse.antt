@@ -1,0 +1,192 @@
+-- Shut out: any answer, number, text, file or list other than the one that document 01 defines, however a program
+-- came to it: a wrong table of states, an edge asked with its rows exchanged, steps in another order, a token at
+-- another place. Where a call is done, this is what it told, and this is what stands in the memory lent to it; past
+-- an output it is as it was. That nothing else is a refusal of good input, or a refusal, stands in Refusing and its
+-- like.
+use Prim.Native.Nat.{ℕ, _+_, _<_, _≤_, min}
+use native.Mathlib.Omega.{arith}
+use mathlib.Core.Path.{_≡_}
+use mathlib.Core.List.{List, _++_}
+use lib.ListN.{length, drop}
+use Rattle.alf.specs.declared.Answer.{Answer}
+use Rattle.alf.specs.declared.Sort.{Sort}
+use Rattle.alf.specs.declared.Outcome.the-variants.{Done}
+use Rattle.alf.specs.declared.changes.Changes.{Changes}
+use Rattle.alf.specs.Expressions.{Expression}
+use Rattle.alf.specs.Words.{listed}
+use Rattle.alf.specs.Values.{stateAt, valueAt}
+use Rattle.alf.specs.Windows.{rowAnswer, named}
+use Rattle.alf.specs.Alternatives.{tries}
+use Rattle.alf.specs.Traces.{changeMask, changeCount, corrected}
+use Rattle.alf.specs.Refusals.{Comes}
+use Rattle.trees.specs.Parts.{booleanAt, vectorAt}
+use Rattle.reader.specs.declared.Read.{Read}
+use Rattle.reader.specs.Reads.{made}
+use Rattle.reader.specs.Reading.{Gives, Reading}
+use Rattle.reader.proofs.Unique.{read-complete}
+use Rattle.writer.specs.Writing as writing
+use Rattle.traces.specs.Format.{fileOf}
+use Rattle.traces.specs.Reading.{over}
+use Rattle.traces.specs.Writing as files
+use Rattle.changes.specs.declared.RowChanges.the-variants.{Changed}
+use Rattle.changes.specs.Call as changes
+use Rattle.rewriting.specs.Lists.{alternativesAt, stepList, testList, edgeList, operandList, laid}
+use Rattle.rewriting.specs.Possible.{flagList}
+use Rattle.rewriting.specs.Calls as rewriting
+use Rattle.matcher.specs.declared.answers.Matched.{Matched}
+use Rattle.matcher.specs.declared.tables.Total.{Total}
+use Rattle.matcher.specs.Shapes.{alternativesOf}
+use Rattle.matcher.specs.Answers.{Matches}
+use Rattle.matcher.specs.Tables as tables
+use Rattle.updates.specs.declared.queues.Queue.{Queue}
+use Rattle.updates.specs.Corrections.{longestOf}
+use Rattle.updates.specs.Queues.{Pushes}
+use Rattle.calls.specs.declared.written.Told.the-variants.{Answered}
+use Rattle.calls.specs.declared.matching.Matching.the-variants.{Found}
+use Rattle.calls.specs.declared.matching.Counting.the-variants.{Counted}
+use Rattle.calls.specs.Written.{RowState, RowValue, AllValues, RowAnswer, Tells, after}
+use Rattle.calls.specs.Windows.{WindowAnswer, answerOver}
+use Rattle.calls.specs.Matching.{Finds, Counts, RowMatch, AllMatched, RowTotals, MatchesTree, TotalsTree}
+use Rattle.calls.specs.Matching.{answersOn, triesOn}
+use Rattle.calls.specs.Correcting.{Correction, rewritten}
+use Rattle.calls.specs.Pushing.{Takes, Push, PushesTree}
+use Rattle.listed_calls.specs.Listed as listed-calls
+use Rattle.listed_calls.specs.Listed.{alternativesIn}
+use Rattle.listing.specs.Listing.{listing}
+use Rattle.listing.specs.Calls.{ListsText, Delivers}
+use Rattle.shut_out.proofs.Refusing.{GoodNames, names-pass}
+
+-- Texts and files.
+pub no-other-expression : {names text : List ℕ} {sort : Sort} {x : Expression} {r : Read} → GoodNames names
+    → length text ≤ 4096 → Gives names text sort x → Reading names text sort r → r ≡ made x
+no-other-expression {names} g l v w = read-complete (names-pass names g) l v w
+
+module _ {out out′ : List ℕ} {m : ℕ} where
+  pub no-other-text : {names tree : List ℕ} {sort : Sort} → writing.Writes names tree sort out out′ (Done m)
+      → (m ≡ length (writing.textAt names tree))
+      × (out′ ≡ writing.textAt names tree ++ drop (length (writing.textAt names tree)) out)
+  unfolding Comes writing.after
+  no-other-text w = (w .outcome .1, w .memory)
+
+  pub no-other-file : {names times states : List ℕ} {n : ℕ} → files.Writes names times states n out out′ (Done m)
+      → (m ≡ length (fileOf names times states n)) × (out′ ≡ over (fileOf names times states n) out)
+  unfolding Comes files.after
+  no-other-file w = (w .outcome .1, w .memory)
+
+  pub no-other-listing : {times answers : List ℕ} → ListsText times answers out out′ (Done m)
+      → (m ≡ length (listing times answers))
+      × (out′ ≡ listing times answers ++ drop (length (listing times answers)) out)
+  unfolding Comes writing.after
+  no-other-listing w = (w .outcome .1, w .memory)
+
+  pub no-other-line : {text : List ℕ} → Delivers text out out′ (Done m)
+      → (m ≡ length text) × (out′ ≡ text ++ drop (length text) out)
+  unfolding Comes writing.after
+  no-other-line w = (w .outcome .1, w .memory)
+
+-- Rewriting.
+module _ {k : ℕ} {tree : List ℕ} {m : ℕ} where
+  pub no-other-lists : {s t e o s′ t′ e′ o′ : List ℕ} → rewriting.Rewrites k tree s t e o s′ t′ e′ o′ (Done m)
+      → (s′ ≡ laid (stepList (alternativesAt tree k)) s) × (t′ ≡ laid (testList (alternativesAt tree k)) t)
+      × (e′ ≡ laid (edgeList (alternativesAt tree k)) e) × (o′ ≡ laid (operandList (alternativesAt tree k)) o)
+  unfolding rewriting.after
+  no-other-lists w =
+      let l = w .memory in (l .steps-are, l .tests-are, l .edges-are, l .operands-are)
+
+  pub no-other-flags : {flags flags′ : List ℕ} → rewriting.Contradicts k tree flags flags′ (Done m)
+      → flags′ ≡ laid (flagList k (rewriting.ownAt tree k)) flags
+  unfolding rewriting.after
+  no-other-flags w = w .memory
+
+-- Rows.
+pub no-other-changes : (k n : ℕ) (codes : List ℕ) (row : ℕ) (c : Changes)
+    → changes.Comes k n codes row (Changed c)
+    → (c .mask ≡ changeMask k codes row) × (c .many ≡ changeCount k codes row)
+unfolding changes.Comes
+no-other-changes k n codes row c w = (w .1 .changed, w .1 .number)
+
+module _ {k n : ℕ} {tree codes : List ℕ} where
+  module _ {row : ℕ} where
+    pub no-other-state : {m : ℕ} → RowState k n tree codes row (Done m)
+        → m ≡ stateAt k codes (booleanAt tree k (length tree)) row
+    unfolding Comes
+    no-other-state w = w .comes .1
+
+    pub no-other-value : {m : ℕ} → RowValue k n tree codes row (Done m)
+        → m ≡ valueAt k codes (booleanAt tree k (length tree)) row
+    unfolding Comes
+    no-other-value w = w .comes .1
+
+    pub no-other-answer : {b : Answer} → RowAnswer k n tree codes row (Answered b)
+        → b ≡ rowAnswer (stateAt k codes) (vectorAt tree k (length tree)) row
+    unfolding Tells
+    no-other-answer w = w .comes .1
+
+    pub no-other-match : {m : Matched} → RowMatch k n tree codes row (Found m)
+        → MatchesTree k tree codes row (m .answer) (m .tries)
+    unfolding Finds
+    no-other-match w = w .comes .1
+
+  pub no-other-on-window : {a b : ℕ} {c : Answer} → WindowAnswer k n tree codes a b (Answered c)
+      → c ≡ named (answerOver k tree codes a b)
+  unfolding Tells
+  no-other-on-window w = w .comes .1
+
+  pub no-other-values : {out out′ : List ℕ} {m : ℕ} → AllValues k n tree codes out out′ (Done m)
+      → out′ ≡ listed 0 n (valueAt k codes (booleanAt tree k (length tree)))
+  unfolding after
+  no-other-values w = w .memory
+
+  pub no-other-answers : {answers tried answers′ tried′ : List ℕ} {m : ℕ}
+      → AllMatched k n tree codes answers tried answers′ tried′ (Done m)
+      → (answers′ ≡ listed 0 n (answersOn k tree codes)) × (tried′ ≡ listed 0 n (triesOn k tree codes))
+  unfolding after
+  no-other-answers w = (w .answers-memory, w .tried-memory)
+
+  pub no-other-totals : {t : Total} → RowTotals k n tree codes (Counted t)
+      → TotalsTree k n tree codes (t .yes) (t .no) (t .unknown)
+  unfolding Counts
+  no-other-totals w = w .comes .1
+
+  pub no-other-correction : {answers : List ℕ} {row : ℕ} {new codes′ answers′ : List ℕ} {m : ℕ}
+      → Correction k n tree codes answers row new codes′ answers′ (Done m)
+      → (codes′ ≡ corrected k codes row new)
+      × (answers′ ≡ rewritten k n tree answers row (corrected k codes row new))
+  unfolding after
+  no-other-correction w = (w .states-memory, w .answers-memory)
+
+pub no-other-push : {k : ℕ} {tree : List ℕ} {queue : Queue} {row : List ℕ} {queue′ : Queue} {m : Matched}
+    → Push k tree queue row (Found m) queue′ → PushesTree k tree queue row (m .answer) (m .tries) queue′
+unfolding Takes
+no-other-push w = w .comes .1
+
+-- Alternatives handed in.
+module _ {k n : ℕ} {tree s t e o codes : List ℕ} where
+  pub no-other-listed-match : {row : ℕ} {m : Matched}
+      → listed-calls.ListedMatch k n tree s t e o codes row (Found m)
+      → Matches (stateAt k codes) (alternativesIn k n tree s t e o codes) row (m .answer) (m .tries)
+  unfolding Finds
+  no-other-listed-match w = w .comes .1
+
+  pub no-other-listed-answers : {answers tried answers′ tried′ : List ℕ} {m : ℕ}
+      → listed-calls.ListedAll k n tree s t e o codes answers tried answers′ tried′ (Done m)
+      → (answers′ ≡ listed 0 n (tables.numberAt (stateAt k codes) (alternativesIn k n tree s t e o codes)))
+      × (tried′ ≡ listed 0 n (tries (stateAt k codes) (alternativesIn k n tree s t e o codes)))
+  unfolding after
+  no-other-listed-answers w = (w .answers-memory, w .tried-memory)
+
+  pub no-other-listed-totals : {z : Total} → listed-calls.ListedTotals k n tree s t e o codes (Counted z)
+      → tables.Totals (stateAt k codes) (alternativesIn k n tree s t e o codes) n (z .yes) (z .no) (z .unknown)
+  unfolding Counts
+  no-other-listed-totals w = w .comes .1
+
+module _ {k : ℕ} {tree s t e o : List ℕ} {queue : Queue} {row : List ℕ} {queue′ : Queue} where
+  pub no-other-listed-push : {m : Matched} → listed-calls.ListedPush k tree s t e o queue row (Found m) queue′
+      → Pushes k (alternativesOf tree k s t e o) queue row (m .answer) (m .tries) queue′
+  unfolding listed-calls.Takes
+  no-other-listed-push w = w .comes .1
+
+  -- so what is pushed is kept, as long as K rows are not kept yet
+  pub listed-stands-still : {m : Matched} → listed-calls.ListedPush k tree s t e o queue row (Found m) queue′
+      → queue .kept .0 < longestOf (alternativesOf tree k s t e o) → queue′ .kept .0 ≡ queue .kept .0 → ⊥
+  listed-stands-still w l same = omega (arith, no-other-listed-push w .kept, l, same)

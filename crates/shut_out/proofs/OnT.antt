@@ -1,0 +1,202 @@
+-- Table T is good input: its lists fit, its codes are codes, the patterns are accepted; and the trees are the
+-- patterns.
+--   trace-good, rises-accepted, one-of-accepted, pulse-accepted
+--   rises-is, one-of-is, pulse-is
+use Prim.Native.Nat.{ℕ, zero, suc, _+_, _*_, _^_, _<_, _≤_}
+use native.Mathlib.Omega.{arith}
+use borrow.Author.Tests.{ltb-true}
+use mathlib.Core.Path.{_≡_, refl, sym, ap, _∙_}
+use mathlib.Core.Bool.{Bool, true, false, _&&_}
+use mathlib.Core.List.{List, [], _∷_}
+use lib.Dec.{ltb}
+use lib.ListN.{length, getD}
+use Rattle.alf.specs.declared.Sort.the-variants as sort
+use Rattle.alf.specs.Words.{greatestOf, sumOf, all}
+use Rattle.alf.specs.Names.{isLetter, isDecimal, startsName, goesOnName, isName, slot, untilZero, nameAt, slotOf}
+use Rattle.alf.specs.Names.{GoodSlot}
+use Rattle.alf.specs.Expressions.{vector}
+use Rattle.alf.specs.Bytes.{binaryByte, joinByte, halfNumber, edgeNumber, booleanBytes, vectorBytes, bytesOf}
+use Rattle.alf.specs.Bytes.{binaryAt, joinAt, halfAt, edgeAt, leafAt, pairAt, threeAt, oneAt, operationAt}
+use Rattle.alf.specs.Bytes.{isBoolean, isVector, topBoolean, topVector, under, ifSo, run, stackAt, Decodes}
+use Rattle.alf.specs.Alternatives.{alternatives, rewritten, each, overLimit, tests}
+use Rattle.alf.specs.TableT.{names, rows, times, states, pulse}
+use Rattle.alf.proofs.Bools.{and-left, and-right}
+use Rattle.names.specs.Check.{Slots}
+use Rattle.traces.specs.Format.{Trace, count}
+use Rattle.trees.specs.Brackets.{joinLevel, levelOf, bracketed, booleanDepth, vectorDepth, depthOf}
+use Rattle.limits.specs.Accepted.{sortOf, overSize, Accepted}
+use Rattle.updates.specs.Copies.{Codes}
+use Rattle.calls.specs.Orders.{Rows}
+use Rattle.calls.specs.Matching.{expression}
+use Rattle.shut_out.specs.Asked.{asked, letters, rises, one-of}
+use Rattle.shut_out.proofs.Refusing.{GoodNames}
+use Rattle.shut_out.proofs.RefusingRows.{GoodTrace}
+
+unfoldable pub below : List ℕ → Bool
+below [] = true
+below (x ∷ l) = ltb x 8 && below l
+
+pub codes-below : (l : List ℕ) → below l ≡ true → Codes l
+unfolding below
+codes-below [] h i k = absurd (omega arith)
+codes-below (x ∷ l) h zero k = ltb-true x 8 (and-left (ltb x 8) (below l) h)
+codes-below (x ∷ l) h (suc i) k = codes-below l (and-right (ltb x 8) (below l) h) i (omega arith)
+
+pub trace-good : GoodTrace names rows states
+unfolding states below
+trace-good =
+    record {
+      lists =
+          record { name-count = (omega arith, omega arith); row-count = (omega arith, omega arith); all = refl };
+      codes = codes-below states refl;
+    }
+
+pub rises-accepted : Accepted names sort.Vector (asked rises)
+unfolding
+    halfNumber edgeNumber joinByte booleanBytes vectorBytes bytesOf joinAt halfAt edgeAt leafAt pairAt oneAt
+    operationAt isBoolean isVector topBoolean topVector under ifSo run stackAt Decodes sortOf overSize overLimit
+    alternatives
+    rewritten each tests greatestOf sumOf joinLevel levelOf bracketed booleanDepth vectorDepth depthOf
+rises-accepted =
+    record {
+      expression = vector rises;
+      decodes = refl;
+      sorted = refl;
+      tokens = omega arith;
+      brackets = omega arith;
+      sized = refl;
+    }
+
+pub rises-is : expression (asked rises) names ≡ rises
+unfolding
+    halfNumber edgeNumber joinByte booleanBytes vectorBytes bytesOf joinAt halfAt edgeAt leafAt pairAt oneAt
+    operationAt isBoolean isVector topBoolean topVector under ifSo run stackAt
+rises-is = refl
+
+pub one-of-accepted : Accepted names sort.Vector (asked one-of)
+unfolding
+    halfNumber edgeNumber joinByte booleanBytes vectorBytes bytesOf joinAt halfAt edgeAt leafAt pairAt oneAt
+    operationAt isBoolean isVector topBoolean topVector under ifSo run stackAt Decodes sortOf overSize overLimit
+    alternatives
+    rewritten each tests greatestOf sumOf joinLevel levelOf bracketed booleanDepth vectorDepth depthOf
+one-of-accepted =
+    record {
+      expression = vector one-of;
+      decodes = refl;
+      sorted = refl;
+      tokens = omega arith;
+      brackets = omega arith;
+      sized = refl;
+    }
+
+pub one-of-is : expression (asked one-of) names ≡ one-of
+unfolding
+    halfNumber edgeNumber joinByte booleanBytes vectorBytes bytesOf joinAt halfAt edgeAt leafAt pairAt oneAt
+    operationAt isBoolean isVector topBoolean topVector under ifSo run stackAt
+one-of-is = refl
+
+pub pulse-accepted : Accepted names sort.Vector (asked pulse)
+unfolding
+    halfNumber edgeNumber joinByte booleanBytes vectorBytes bytesOf joinAt halfAt edgeAt leafAt pairAt oneAt
+    operationAt isBoolean isVector topBoolean topVector under ifSo run stackAt Decodes sortOf overSize overLimit
+    alternatives
+    rewritten each tests greatestOf sumOf joinLevel levelOf bracketed booleanDepth vectorDepth depthOf
+pulse-accepted =
+    record {
+      expression = vector pulse;
+      decodes = refl;
+      sorted = refl;
+      tokens = omega arith;
+      brackets = omega arith;
+      sized = refl;
+    }
+
+pub pulse-is : expression (asked pulse) names ≡ pulse
+unfolding
+    halfNumber edgeNumber joinByte booleanBytes vectorBytes bytesOf joinAt halfAt edgeAt leafAt pairAt oneAt
+    operationAt isBoolean isVector topBoolean topVector under ifSo run stackAt
+pulse-is = refl
+
+-- The names, and T as a trace.
+pub letters-length : length letters ≡ 96
+unfolding slotOf
+letters-length = refl
+
+pub letters-count : count letters ≡ names
+unfolding slotOf
+letters-count = refl
+
+first-byte : (k : ℕ) → k < names → getD (nameAt letters k) 0 0 ≡ 65 + k
+unfolding slotOf slot untilZero
+first-byte zero l = refl
+first-byte (suc zero) l = refl
+first-byte (suc (suc zero)) l = refl
+first-byte (suc (suc (suc k))) l = absurd (omega arith)
+
+letter-named : (k : ℕ) → k < names → isName (nameAt letters k) ≡ true
+unfolding slotOf slot untilZero isName startsName isLetter isDecimal goesOnName all
+letter-named zero l = refl
+letter-named (suc zero) l = refl
+letter-named (suc (suc zero)) l = refl
+letter-named (suc (suc (suc k))) l = absurd (omega arith)
+
+letter-filled : (k : ℕ) → k < names → slot letters k ≡ slotOf (nameAt letters k)
+unfolding slotOf slot untilZero
+letter-filled zero l = refl
+letter-filled (suc zero) l = refl
+letter-filled (suc (suc zero)) l = refl
+letter-filled (suc (suc (suc k))) l = absurd (omega arith)
+
+letter-good : (k : ℕ) → k < names → GoodSlot letters k
+letter-good k l =
+    record {
+      named = letter-named k l;
+      filled = letter-filled k l;
+      new = λ j h e.
+          let a = sym (first-byte j (omega arith)) ∙ (ap (λ (x : List ℕ). getD x 0 0) e ∙ first-byte k l) in
+          omega (arith, a, h);
+    }
+
+slots : Slots letters
+unfolding slotOf
+slots = record { whole = refl; some = omega arith; few = omega arith }
+
+pub letters-good : GoodNames letters
+letters-good = record { slots = slots; good = λ k l. letter-good k (omega (arith, l, letters-count)) }
+
+stamps-rise : (r : ℕ) → suc r < rows → getD times r 0 < getD times (suc r) 0
+unfolding times
+stamps-rise zero l = omega arith
+stamps-rise (suc zero) l = omega arith
+stamps-rise (suc (suc zero)) l = omega arith
+stamps-rise (suc (suc (suc zero))) l = omega arith
+stamps-rise (suc (suc (suc (suc zero)))) l = omega arith
+stamps-rise (suc (suc (suc (suc (suc r))))) l = absurd (omega arith)
+
+stamps-small : (r : ℕ) → getD times r 0 < 2 ^ 32
+unfolding times
+stamps-small zero = omega arith
+stamps-small (suc zero) = omega arith
+stamps-small (suc (suc zero)) = omega arith
+stamps-small (suc (suc (suc zero))) = omega arith
+stamps-small (suc (suc (suc (suc zero)))) = omega arith
+stamps-small (suc (suc (suc (suc (suc zero))))) = omega arith
+stamps-small (suc (suc (suc (suc (suc (suc r)))))) = omega arith
+
+pub trace-T : Trace letters times states rows
+unfolding times
+trace-T =
+    record {
+      slots = slots;
+      good = letters-good .good;
+      lists =
+          record {
+            some = omega arith;
+            few = omega arith;
+            times-all = refl;
+            states-all = rw letters-count (trace-good .lists .all);
+          };
+      rising = stamps-rise;
+      codes = λ i l. omega (arith, trace-good .codes i l);
+      words = stamps-small;
+    }

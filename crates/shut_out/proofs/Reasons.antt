@@ -1,0 +1,65 @@
+-- The law of all calls: a contract that tells a refusal by its order, and allows one result, refuses exactly when the
+-- table says.
+--   Kept         what is asked of a contract
+--   exactly      what follows
+--   comes-parts  of a call whose result is an `Outcome`
+use Prim.Native.Nat.{ℕ}
+use mathlib.Core.Path.{_≡_, refl}
+use mathlib.Core.Logic.{_⊎_, inl, inr}
+use mathlib.Core.List.{List, [], _∷_}
+use Rattle.alf.specs.declared.Refusal.{Refusal}
+use Rattle.alf.specs.declared.Outcome.{Outcome}
+use Rattle.alf.specs.declared.Outcome.the-variants.{Done, Refused}
+use Rattle.alf.specs.Refusals.{Order, RefusedWith, Passed, Comes}
+use Rattle.alf.proofs.Outcomes.{refused-passed}
+use Rattle.demands.specs.Promises.{One}
+use Rattle.shut_out.specs.Reasons.{Held, IsRefusal, refusal, Exactly}
+
+pub passed-held : (o : Order) → Passed o → Held o → ⊥
+unfolding Passed Held
+passed-held [] a h = h
+passed-held (c ∷ cs) a (inl h) = a .0 (h .0) (h .1)
+passed-held (c ∷ cs) a (inr h) = passed-held cs (a .1) h
+
+pub record Kept {R M : Type 0} (order : Order) (refused : Refusal → R) (allows : R → M → Type 0) (before : M)
+    : Type 0 where
+  pub reason : (r : Refusal) (m : M) → allows (refused r) m → RefusedWith order (r .number) (r .place)
+  pub parts : (x : R) (m : M) → allows x m → Passed order ⊎ IsRefusal refused x
+  pub refuses : (n p : ℕ) → RefusedWith order n p → allows (refused (refusal n p)) before
+  pub one : (a b : R) (m n : M) → allows a m → allows b n → (a ≡ b) × (m ≡ n)
+
+module _ {R M : Type 0} {order : Order} {refused : Refusal → R} {allows : R → M → Type 0} {before : M} where
+  pub exactly : {good : Type 0} → (good → Passed order) → Kept order refused allows before
+      → Exactly good order refused allows before
+  exactly pass k =
+      record {
+        no-refusal = λ g r m w. refused-passed order _ _ (pass g) (k .reason r m w);
+        no-acceptance = λ h x m w. go h x (k .parts x m w);
+        no-other = λ n p h x m w. k .one x (refused (refusal n p)) m before w (k .refuses n p h);
+      }
+    where
+      go : Held order → (x : R) → Passed order ⊎ IsRefusal refused x → IsRefusal refused x
+      go h x (inl a) = absurd (passed-held order a h)
+      go h x (inr r) = r
+
+pub comes-parts : (o : Order) (made : ℕ → Type 0) (x : Outcome) → Comes o made x → Passed o ⊎ IsRefusal Refused x
+unfolding Comes
+comes-parts o made (Done k) w = inl (w .0)
+comes-parts o made (Refused r) w = inr (r, refl)
+
+-- what a call is lent to write to: nothing, or some lists; of one that is lent nothing there is one result
+abbrev pub None : Type 0
+None = Unit {0}
+
+abbrev pub Two : Type 0
+Two = List ℕ × List ℕ
+
+abbrev pub Three : Type 0
+Three = List ℕ × List ℕ × List ℕ
+
+abbrev pub Four : Type 0
+Four = List ℕ × List ℕ × List ℕ × List ℕ
+
+pub both : {R : Type 0} {allows : R → Type 0} → One allows
+    → (a b : R) (m n : None) → allows a → allows b → (a ≡ b) × (m ≡ n)
+both o a b m n x y = (o a b x y, refl)

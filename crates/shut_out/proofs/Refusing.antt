@@ -1,0 +1,224 @@
+-- Shut out: "refusing everything (the table says 'exactly when')". For each public call, under its name in Demand1:
+-- what good input is, that its contract allows no refusal of it; that where a row of the table holds it allows
+-- nothing but a refusal, with the number and the place of the first row that holds; and that refused, nothing is
+-- written. Here: names, texts, files, rewriting, listing. The calls over rows stand in RefusingRows, reading in
+-- RefusingTexts.
+use Prim.Native.Nat.{ℕ, _*_, _/_, _<_, _≤_}
+use native.Mathlib.Omega.{arith}
+use mathlib.Core.Path.{_≡_, refl}
+use mathlib.Core.Logic.{_⊎_, inl, inr}
+use mathlib.Core.List.{List}
+use lib.ListN.{length, getD}
+use Rattle.alf.specs.declared.Sort.{Sort}
+use Rattle.alf.specs.declared.Sort.the-variants.{Vector}
+use Rattle.alf.specs.declared.Outcome.the-variants as outcome
+use Rattle.alf.specs.Names.{GoodSlot}
+use Rattle.alf.specs.Refusals.{Passed, Comes, NameCount, RefusedWith}
+use Rattle.names.specs.Check.{Slots, namesOrder}
+use Rattle.writer.specs.Writing as writing
+use Rattle.traces.specs.Format.{Trace, fileOf}
+use Rattle.traces.specs.Writing as files
+use Rattle.trace_laws.proofs.RoundTrips.{writing-passes}
+use Rattle.limits.specs.Accepted.{Accepted}
+use Rattle.rewriting.specs.Lists.{alternativesAt, stepList, testList, edgeList, operandList}
+use Rattle.rewriting.specs.Possible.{flagList}
+use Rattle.rewriting.specs.Calls as rewriting
+use Rattle.listing.specs.Listing.{listing}
+use Rattle.listing.specs.Calls as lines
+use Rattle.demands.proofs.Demand1 as one
+use Rattle.shut_out.specs.Reasons.{Exactly}
+use Rattle.shut_out.proofs.Reasons.{Kept, exactly, comes-parts, None, Four, both}
+
+-- Texts.
+pub record GoodNames (names : List ℕ) : Type 0 where
+  pub slots : Slots names
+  pub good : (k : ℕ) → k < length names / 32 → GoodSlot names k
+
+module _ (names : List ℕ) where
+  pub names-pass : GoodNames names → Passed (namesOrder names)
+  unfolding Passed
+  names-pass g = (λ p a. a .given (g .slots), (λ p a. a .given .1 (g .good p (a .given .0)), tt))
+
+  pub check-names : Exactly {M = None} (GoodNames names) (namesOrder names) outcome.Refused
+      (λ r m. Comes (namesOrder names) (λ k. k ≡ length names / 32) r) tt
+  unfolding Comes
+  check-names =
+      exactly names-pass
+      (record {
+        reason = λ r m w. w;
+        parts = λ x m w. comes-parts (namesOrder names) (λ k. k ≡ length names / 32) x w;
+        refuses = λ n p h. h;
+        one = both (one.check-names names);
+      })
+
+  module _ (tree : List ℕ) (sort : Sort) (out : List ℕ) where
+    pub record Writable : Type 0 where
+      pub names-good : GoodNames names
+      pub accepted : Accepted (writing.countOf names) sort tree
+      pub short : length (writing.textAt names tree) ≤ 4096
+      pub room : length (writing.textAt names tree) ≤ length out
+
+    write-passes : Writable → Passed (writing.order names tree sort (length out))
+    unfolding Passed writing.order
+    write-passes g = (
+      λ p a. a .given (g .names-good .slots),
+      (
+        λ p a. a .given .1 (g .names-good .good p (a .given .0)),
+        (
+          λ p a. a .given (g .accepted),
+          (λ p a. omega (arith, a .given, g .short), (λ p a. omega (arith, a .given, g .room), tt)),
+        ),
+      ),
+    )
+
+    pub write-expression : Exactly Writable (writing.order names tree sort (length out)) outcome.Refused
+        (λ r m. writing.Writes names tree sort out m r) out
+    unfolding Comes writing.after
+    write-expression =
+        exactly write-passes
+        (record {
+          reason = λ r m w. w .outcome;
+          parts = λ x m w. comes-parts _ _ x (w .outcome);
+          refuses = λ n p h. record { outcome = h; memory = refl };
+          one = one.write-expression names tree sort out .one;
+        })
+
+-- Trace files.
+module _ (names times states : List ℕ) (n : ℕ) (out : List ℕ) where
+  pub record FileWritable : Type 0 where
+    pub trace : Trace names times states n
+    pub room : length (fileOf names times states n) ≤ length out
+
+  pub write-trace : Exactly FileWritable (files.writeOrder names times states n (length out)) outcome.Refused
+      (λ r m. files.Writes names times states n out m r) out
+  unfolding Comes files.after
+  write-trace =
+      exactly (λ g. writing-passes (g .trace) (g .room))
+      (record {
+        reason = λ r m w. w .outcome;
+        parts = λ x m w. comes-parts _ _ x (w .outcome);
+        refuses = λ k p h. record { outcome = h; memory = refl };
+        one = one.write-trace names times states n out .one;
+      })
+
+-- Rewriting.
+module _ (names : ℕ) (tree : List ℕ) where
+  module _ (steps tests edges operands : List ℕ) where
+    pub record Rewritable : Type 0 where
+      pub name-count : NameCount names
+      pub accepted : Accepted names Vector tree
+      pub steps-room : length (stepList (alternativesAt tree names)) ≤ length steps
+      pub tests-room : length (testList (alternativesAt tree names)) ≤ length tests
+      pub edges-room : length (edgeList (alternativesAt tree names)) ≤ length edges
+      pub operands-room : length (operandList (alternativesAt tree names)) ≤ length operands
+
+    rewrite-passes : Rewritable
+        → Passed (rewriting.treeOrder names tree
+        (rewriting.roomOrder (alternativesAt tree names) steps tests edges operands))
+    unfolding Passed rewriting.treeOrder rewriting.roomOrder
+    rewrite-passes g = (
+      λ p a. a .given (g .name-count),
+      (
+        λ p a. a .given (g .accepted),
+        (
+          λ p a. omega (arith, a .given, g .steps-room),
+          (
+            λ p a. omega (arith, a .given, g .tests-room),
+            (λ p a. omega (arith, a .given, g .edges-room), (λ p a. omega (arith, a .given, g .operands-room), tt)),
+          ),
+        ),
+      ),
+    )
+
+    pub rewrite : Exactly {M = Four} Rewritable
+        (rewriting.treeOrder names tree
+        (rewriting.roomOrder (alternativesAt tree names) steps tests edges operands)) outcome.Refused
+        (λ r m. rewriting.Rewrites names tree steps tests edges operands (m .0) (m .1) (m .2) (m .3) r)
+        (steps, tests, edges, operands)
+    unfolding Comes rewriting.after
+    rewrite =
+        exactly rewrite-passes
+        (record {
+          reason = λ r m w. w .outcome;
+          parts = λ x m w. comes-parts _ _ x (w .outcome);
+          refuses = λ k p h.
+              record {
+                outcome = h;
+                memory = record { steps-are = refl; tests-are = refl; edges-are = refl; operands-are = refl };
+              };
+          one = one.rewrite names tree steps tests edges operands .one;
+        })
+
+  module _ (flags : List ℕ) where
+    pub record Reportable : Type 0 where
+      pub name-count : NameCount names
+      pub accepted : Accepted names Vector tree
+      pub room : length (flagList names (rewriting.ownAt tree names)) ≤ length flags
+
+    report-passes : Reportable
+        → Passed (rewriting.treeOrder names tree (rewriting.flagOrder names (rewriting.ownAt tree names) flags))
+    unfolding Passed rewriting.treeOrder rewriting.flagOrder
+    report-passes g = (
+      λ p a. a .given (g .name-count),
+      (λ p a. a .given (g .accepted), (λ p a. omega (arith, a .given, g .room), tt)),
+    )
+
+    pub contradictions : Exactly Reportable
+        (rewriting.treeOrder names tree (rewriting.flagOrder names (rewriting.ownAt tree names) flags))
+        outcome.Refused (λ r m. rewriting.Contradicts names tree flags m r) flags
+    unfolding Comes rewriting.after
+    contradictions =
+        exactly report-passes
+        (record {
+          reason = λ r m w. w .outcome;
+          parts = λ x m w. comes-parts _ _ x (w .outcome);
+          refuses = λ k p h. record { outcome = h; memory = refl };
+          one = one.contradictions names tree flags .one;
+        })
+
+-- The listing, and each line of the table.
+module _ (out : List ℕ) where
+  module _ (times answers : List ℕ) where
+    pub record Listable : Type 0 where
+      pub lists : lines.Lists (length times) (length answers)
+      pub known : (i : ℕ) → i < length answers → getD answers i 0 ≤ 3
+      pub room : length (listing times answers) ≤ length out
+
+    list-passes : Listable → Passed (lines.listOrder times answers (length out))
+    unfolding Passed
+    list-passes g = (
+      λ p a. a .given (g .lists),
+      (
+        λ p a. omega (arith, a .given .1, g .known p (a .given .0)),
+        (λ p a. omega (arith, a .given, g .room), tt),
+      ),
+    )
+
+    pub list : Exactly Listable (lines.listOrder times answers (length out)) outcome.Refused
+        (λ r m. lines.ListsText times answers out m r) out
+    unfolding Comes writing.after
+    list =
+        exactly list-passes
+        (record {
+          reason = λ r m w. w .outcome;
+          parts = λ x m w. comes-parts _ _ x (w .outcome);
+          refuses = λ k p h. record { outcome = h; memory = refl };
+          one = one.list times answers out .one;
+        })
+
+  module _ (text : List ℕ) where
+    line-passes : length text ≤ length out → Passed (lines.lineOrder text (length out))
+    unfolding Passed
+    line-passes g = (λ p a. omega (arith, a .given, g), tt)
+
+    pub line : Exactly (length text ≤ length out) (lines.lineOrder text (length out)) outcome.Refused
+        (λ r m. lines.Delivers text out m r) out
+    unfolding Comes writing.after
+    line =
+        exactly line-passes
+        (record {
+          reason = λ r m w. w .outcome;
+          parts = λ x m w. comes-parts _ _ x (w .outcome);
+          refuses = λ k p h. record { outcome = h; memory = refl };
+          one = one.line text out .one;
+        })

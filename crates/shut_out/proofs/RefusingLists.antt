@@ -1,0 +1,126 @@
+-- Shut out: "refusing everything (the table says 'exactly when')", for the calls over alternatives handed in as lists.
+use Prim.Native.Nat.{ℕ, _<_, _≤_}
+use mathlib.Core.Path.{_≡_, refl}
+use mathlib.Core.Bool.{true, false}
+use mathlib.Core.Logic.{_⊎_, inl, inr}
+use mathlib.Core.List.{List}
+use lib.ListN.{length}
+use Rattle.alf.specs.declared.Outcome.the-variants as outcome
+use Rattle.alf.specs.Refusals.{Passed, Comes}
+use Rattle.limits.specs.Accepted.{Decides}
+use Rattle.updates.specs.declared.queues.Queue.{Queue}
+use Rattle.updates.specs.Copies.{Codes}
+use Rattle.calls.specs.declared.matching.Matching.{Matching}
+use Rattle.calls.specs.declared.matching.Matching.the-variants as matching
+use Rattle.calls.specs.declared.matching.Counting.the-variants as counting
+use Rattle.calls.specs.Orders.{Rows}
+use Rattle.calls.specs.Written.{after}
+use Rattle.calls.specs.Matching.{Finds, Counts}
+use Rattle.calls.specs.Pushing.{RowFits}
+use Rattle.calls.proofs.Routes.{row-passed, codes-passed}
+use Rattle.listed_calls.specs.Lists.{AcceptedAlternatives}
+use Rattle.listed_calls.specs.Listed as listed
+use Rattle.demands.proofs.Demand1 as one
+use Rattle.shut_out.specs.Reasons.{IsRefusal, Exactly}
+use Rattle.shut_out.proofs.Reasons.{Kept, exactly, comes-parts, None, Two, both}
+use Rattle.shut_out.proofs.RefusingRows.{GoodTrace, finds-parts, counts-parts}
+
+module _ (names n : ℕ) (tree steps tests edges operands states : List ℕ) where
+  -- whether they are accepted is answered as it is
+  pub fits-not-refused : AcceptedAlternatives names tree steps tests edges operands
+      → Decides false (AcceptedAlternatives names tree steps tests edges operands) → ⊥
+  unfolding Decides
+  fits-not-refused a d = d a
+
+  pub fits-not-accepted : (AcceptedAlternatives names tree steps tests edges operands → ⊥)
+      → Decides true (AcceptedAlternatives names tree steps tests edges operands) → ⊥
+  unfolding Decides
+  fits-not-accepted a d = a d
+
+  pub record GoodLists (lent : Type 0) : Type 0 where
+    pub trace : GoodTrace names n states
+    pub accepted : AcceptedAlternatives names tree steps tests edges operands
+    pub asked : lent
+
+  module _ (row : ℕ) where
+    match-passes : GoodLists (row < n)
+        → Passed (listed.rowOrder names n tree steps tests edges operands states row)
+    match-passes g = row-passed states n row (g .trace .lists) (g .accepted) (g .trace .codes) (g .asked)
+
+    pub listed-match-row : Exactly {M = None} (GoodLists (row < n))
+        (listed.rowOrder names n tree steps tests edges operands states row) matching.Refused
+        (λ r m. listed.ListedMatch names n tree steps tests edges operands states row r) tt
+    unfolding Finds
+    listed-match-row =
+        exactly match-passes
+        (record {
+          reason = λ r m w. w .comes;
+          parts = λ x m w. finds-parts _ _ x (w .comes);
+          refuses = λ k p h. record { comes = h };
+          one = both (one.listed-match-row names n tree steps tests edges operands states row);
+        })
+
+  module _ (answers tried : List ℕ) where
+    abbrev room : Type 0
+    room = (length answers ≡ n) × (length tried ≡ n)
+
+    all-pass : GoodLists room
+        → Passed (listed.rowsOrder names n tree steps tests edges operands states
+        (room × Rows names n (length states)))
+    all-pass g = codes-passed states (g .asked, g .trace .lists) (g .accepted) (g .trace .codes)
+
+    pub listed-match-all : Exactly {M = Two} (GoodLists room)
+        (listed.rowsOrder names n tree steps tests edges operands states (room × Rows names n (length states)))
+        outcome.Refused
+        (λ r m. listed.ListedAll names n tree steps tests edges operands states answers tried (m .0) (m .1) r)
+        (answers, tried)
+    unfolding Comes after
+    listed-match-all =
+        exactly all-pass
+        (record {
+          reason = λ r m w. w .comes;
+          parts = λ x m w. comes-parts _ _ x (w .comes);
+          refuses = λ k p h. record { comes = h; answers-memory = refl; tried-memory = refl };
+          one = one.listed-match-all names n tree steps tests edges operands states answers tried .one;
+        })
+
+  totals-pass : GoodLists (Unit {0})
+      → Passed (listed.rowsOrder names n tree steps tests edges operands states (Rows names n (length states)))
+  totals-pass g = codes-passed states (g .trace .lists) (g .accepted) (g .trace .codes)
+
+  pub listed-totals : Exactly {M = None} (GoodLists (Unit {0}))
+      (listed.rowsOrder names n tree steps tests edges operands states (Rows names n (length states)))
+      counting.Refused (λ r m. listed.ListedTotals names n tree steps tests edges operands states r) tt
+  unfolding Counts
+  listed-totals =
+      exactly totals-pass
+      (record {
+        reason = λ r m w. w .comes;
+        parts = λ x m w. counts-parts _ _ x (w .comes);
+        refuses = λ k p h. record { comes = h };
+        one = both (one.listed-totals names n tree steps tests edges operands states);
+      })
+
+module _ (names : ℕ) (tree steps tests edges operands : List ℕ) (queue : Queue) (row : List ℕ) where
+  pub record Pushable : Type 0 where
+    pub handed : listed.Handed names tree steps tests edges operands queue
+    pub fits : RowFits names (length row)
+    pub codes : Codes row
+
+  takes-parts : (x : Matching) (q : Queue) → listed.Takes names tree steps tests edges operands queue row x q
+      → Passed (listed.pushOrder names tree steps tests edges operands queue row) ⊎ IsRefusal matching.Refused x
+  unfolding listed.Takes
+  takes-parts (matching.Found m) q w = inl (w .0)
+  takes-parts (matching.Refused r) q w = inr (r, refl)
+
+  pub listed-push : Exactly Pushable (listed.pushOrder names tree steps tests edges operands queue row)
+      matching.Refused (λ r q. listed.ListedPush names tree steps tests edges operands queue row r q) queue
+  unfolding listed.Takes
+  listed-push =
+      exactly (λ g. codes-passed row (g .fits) (g .handed) (g .codes))
+      (record {
+        reason = λ r q w. w .comes .0;
+        parts = λ x q w. takes-parts x q (w .comes);
+        refuses = λ k p h. record { comes = (h, refl) };
+        one = one.listed-push names tree steps tests edges operands queue row .one;
+      })

@@ -1,0 +1,209 @@
+-- Shut out: "refusing everything (the table says 'exactly when')", for the calls over rows.
+--   GoodTrace   1 to 32 names, 1 to 65,535 rows, a state for each name of each row, no code above 7
+--   GoodRow, GoodRows   and an accepted tree, and a row of the trace, or lists of the right length
+-- The correction and the queue stand in RefusingUpdates.
+use Prim.Native.Nat.{ℕ, _<_, max}
+use native.Mathlib.Omega.{arith}
+use mathlib.Core.Path.{_≡_, refl}
+use mathlib.Core.Logic.{_⊎_, inl, inr}
+use mathlib.Core.List.{List}
+use lib.ListN.{length}
+use Rattle.alf.specs.declared.Answer.{Answer}
+use Rattle.alf.specs.declared.Sort.{Sort}
+use Rattle.alf.specs.declared.Sort.the-variants.{Boolean, Vector}
+use Rattle.alf.specs.declared.Outcome.the-variants as outcome
+use Rattle.alf.specs.Refusals.{Order, Passed, Comes}
+use Rattle.changes.specs.declared.RowChanges.{RowChanges}
+use Rattle.changes.specs.declared.RowChanges.the-variants as row-changes
+use Rattle.changes.specs.Call as changes
+use Rattle.limits.specs.Accepted.{Accepted}
+use Rattle.updates.specs.Copies.{Codes}
+use Rattle.calls.specs.declared.written.Told.{Told}
+use Rattle.calls.specs.declared.written.Told.the-variants as told
+use Rattle.calls.specs.declared.matching.Matching.{Matching}
+use Rattle.calls.specs.declared.matching.Matching.the-variants as matching
+use Rattle.calls.specs.declared.matching.Counting.{Counting}
+use Rattle.calls.specs.declared.matching.Counting.the-variants as counting
+use Rattle.calls.specs.Orders.{Rows, rowOrder, rowsOrder, traceOrder}
+use Rattle.calls.specs.Written.{Tells, RowState, RowValue, AllValues, RowAnswer, after}
+use Rattle.calls.specs.Windows.{WindowAnswer}
+use Rattle.calls.specs.Matching.{Finds, Counts, RowMatch, AllMatched, RowTotals}
+use Rattle.calls.proofs.Routes.{codes-never, row-passed, codes-passed}
+use Rattle.demands.proofs.Demand1 as one
+use Rattle.shut_out.specs.Reasons.{IsRefusal, Exactly}
+use Rattle.shut_out.proofs.Reasons.{exactly, comes-parts, None, Two, both}
+
+-- a result that is told, found, counted, changed: not refused, or a refusal
+tells-parts : (o : Order) (a : Answer) (x : Told) → Tells o a x → Passed o ⊎ IsRefusal told.Refused x
+unfolding Tells
+tells-parts o a (told.Answered b) w = inl (w .0)
+tells-parts o a (told.Refused r) w = inr (r, refl)
+
+pub finds-parts : (o : Order) (right : Answer → ℕ → Type 0) (x : Matching) → Finds o right x
+    → Passed o ⊎ IsRefusal matching.Refused x
+unfolding Finds
+finds-parts o right (matching.Found m) w = inl (w .0)
+finds-parts o right (matching.Refused r) w = inr (r, refl)
+
+pub counts-parts : (o : Order) (right : ℕ → ℕ → ℕ → Type 0) (x : Counting) → Counts o right x
+    → Passed o ⊎ IsRefusal counting.Refused x
+unfolding Counts
+counts-parts o right (counting.Counted m) w = inl (w .0)
+counts-parts o right (counting.Refused r) w = inr (r, refl)
+
+pub record GoodTrace (names n : ℕ) (states : List ℕ) : Type 0 where
+  pub lists : Rows names n (length states)
+  pub codes : Codes states
+
+-- and a tree of the sort that the call asks for, accepted; and a row of the trace
+pub record GoodRow (names n : ℕ) (tree : List ℕ) (sort : Sort) (states : List ℕ) (row : ℕ) : Type 0 where
+  pub trace : GoodTrace names n states
+  pub accepted : Accepted names sort tree
+  pub there : row < n
+
+pub record GoodRows (names n : ℕ) (lent : Type 0) (tree : List ℕ) (sort : Sort) (states : List ℕ) : Type 0 where
+  pub trace : GoodTrace names n states
+  pub accepted : Accepted names sort tree
+  pub room : lent
+
+-- The changes of a row.
+module _ (names n : ℕ) (states : List ℕ) (row : ℕ) where
+  changes-pass : GoodTrace names n states × (row < n) → Passed (changes.order names n states row)
+  unfolding Passed
+  changes-pass g =
+      let l = g .0 .lists in (
+        λ p a. a .given (record { name-count = l .name-count; row-count = l .row-count; all = l .all }),
+        (codes-never states (g .0 .codes), (λ p a. omega (arith, g .1, a .given), tt)),
+      )
+
+  changes-parts : (x : RowChanges) → changes.Comes names n states row x
+      → Passed (changes.order names n states row) ⊎ IsRefusal row-changes.Refused x
+  unfolding changes.Comes
+  changes-parts (row-changes.Changed c) w = inl (w .0)
+  changes-parts (row-changes.Refused r) w = inr (r, refl)
+
+  pub changes-at : Exactly {M = None} (GoodTrace names n states × (row < n)) (changes.order names n states row)
+      row-changes.Refused (λ r m. changes.Comes names n states row r) tt
+  unfolding changes.Comes
+  changes-at =
+      exactly changes-pass
+      (record {
+        reason = λ r m w. w;
+        parts = λ x m w. changes-parts x w;
+        refuses = λ k p h. h;
+        one = both (one.changes-at names n states row);
+      })
+
+-- A tree handed in.
+module _ (names n : ℕ) (tree states : List ℕ) where
+  row-passes : (sort : Sort) (row : ℕ) → GoodRow names n tree sort states row
+      → Passed (rowOrder names n tree sort states row)
+  row-passes sort row g = row-passed states n row (g .trace .lists) (g .accepted) (g .trace .codes) (g .there)
+
+  rows-pass : (sort : Sort) (lent : Type 0) → GoodRows names n lent tree sort states
+      → Passed (rowsOrder names n lent tree sort states)
+  rows-pass sort lent g = codes-passed states (g .room, g .trace .lists) (g .accepted) (g .trace .codes)
+
+  module _ (row : ℕ) where
+    pub row-state : Exactly {M = None} (GoodRow names n tree Boolean states row)
+        (rowOrder names n tree Boolean states row) outcome.Refused (λ r m. RowState names n tree states row r) tt
+    unfolding Comes
+    row-state =
+        exactly (row-passes Boolean row)
+        (record {
+          reason = λ r m w. w .comes;
+          parts = λ x m w. comes-parts _ _ x (w .comes);
+          refuses = λ k p h. record { comes = h };
+          one = both (one.row-state names n tree states row);
+        })
+
+    pub row-value : Exactly {M = None} (GoodRow names n tree Boolean states row)
+        (rowOrder names n tree Boolean states row) outcome.Refused (λ r m. RowValue names n tree states row r) tt
+    unfolding Comes
+    row-value =
+        exactly (row-passes Boolean row)
+        (record {
+          reason = λ r m w. w .comes;
+          parts = λ x m w. comes-parts _ _ x (w .comes);
+          refuses = λ k p h. record { comes = h };
+          one = both (one.row-value names n tree states row);
+        })
+
+    pub row-answer : Exactly {M = None} (GoodRow names n tree Vector states row)
+        (rowOrder names n tree Vector states row) told.Refused (λ r m. RowAnswer names n tree states row r) tt
+    unfolding Tells
+    row-answer =
+        exactly (row-passes Vector row)
+        (record {
+          reason = λ r m w. w .comes;
+          parts = λ x m w. tells-parts _ _ x (w .comes);
+          refuses = λ k p h. record { comes = h };
+          one = both (one.row-answer names n tree states row);
+        })
+
+    pub match-row : Exactly {M = None} (GoodRow names n tree Vector states row)
+        (rowOrder names n tree Vector states row) matching.Refused (λ r m. RowMatch names n tree states row r) tt
+    unfolding Finds
+    match-row =
+        exactly (row-passes Vector row)
+        (record {
+          reason = λ r m w. w .comes;
+          parts = λ x m w. finds-parts _ _ x (w .comes);
+          refuses = λ k p h. record { comes = h };
+          one = both (one.match-row names n tree states row);
+        })
+
+  pub window-answer : (from to : ℕ) → Exactly {M = None} (GoodRow names n tree Vector states (max from to))
+      (rowOrder names n tree Vector states (max from to)) told.Refused
+      (λ r m. WindowAnswer names n tree states from to r) tt
+  unfolding Tells
+  window-answer from to =
+      exactly (row-passes Vector (max from to))
+      (record {
+        reason = λ r m w. w .comes;
+        parts = λ x m w. tells-parts _ _ x (w .comes);
+        refuses = λ k p h. record { comes = h };
+        one = both (one.window-answer names n tree states from to);
+      })
+
+  pub values : (out : List ℕ) → Exactly (GoodRows names n (length out ≡ n) tree Boolean states)
+      (rowsOrder names n (length out ≡ n) tree Boolean states) outcome.Refused
+      (λ r m. AllValues names n tree states out m r) out
+  unfolding Comes after
+  values out =
+      exactly (rows-pass Boolean (length out ≡ n))
+      (record {
+        reason = λ r m w. w .comes;
+        parts = λ x m w. comes-parts _ _ x (w .comes);
+        refuses = λ k p h. record { comes = h; memory = refl };
+        one = one.values names n tree states out .one;
+      })
+
+  pub match-all : (answers tried : List ℕ)
+      → Exactly {M = Two} (GoodRows names n ((length answers ≡ n) × (length tried ≡ n)) tree Vector states)
+      (rowsOrder names n ((length answers ≡ n) × (length tried ≡ n)) tree Vector states) outcome.Refused
+      (λ r m. AllMatched names n tree states answers tried (m .0) (m .1) r) (answers, tried)
+  unfolding Comes after
+  match-all answers tried =
+      exactly (rows-pass Vector ((length answers ≡ n) × (length tried ≡ n)))
+      (record {
+        reason = λ r m w. w .comes;
+        parts = λ x m w. comes-parts _ _ x (w .comes);
+        refuses = λ k p h. record { comes = h; answers-memory = refl; tried-memory = refl };
+        one = one.match-all names n tree states answers tried .one;
+      })
+
+  totals-pass : GoodRows names n (Unit {0}) tree Vector states → Passed (traceOrder names n tree Vector states)
+  totals-pass g = codes-passed states (g .trace .lists) (g .accepted) (g .trace .codes)
+
+  pub totals : Exactly {M = None} (GoodRows names n (Unit {0}) tree Vector states)
+      (traceOrder names n tree Vector states) counting.Refused (λ r m. RowTotals names n tree states r) tt
+  unfolding Counts
+  totals =
+      exactly totals-pass
+      (record {
+        reason = λ r m w. w .comes;
+        parts = λ x m w. counts-parts _ _ x (w .comes);
+        refuses = λ k p h. record { comes = h };
+        one = both (one.totals names n tree states);
+      })

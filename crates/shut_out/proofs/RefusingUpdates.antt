@@ -1,0 +1,86 @@
+-- Shut out: "refusing everything (the table says 'exactly when')", for the correction of a row and the queue.
+--   Correctable, Pushable   what good input is
+--   correct, push           it is not refused, and anything else is refused as the table says
+use Prim.Native.Nat.{ℕ, _<_}
+use native.Mathlib.Omega.{arith}
+use mathlib.Core.Path.{_≡_, refl}
+use mathlib.Core.Logic.{_⊎_, inl, inr}
+use mathlib.Core.List.{List}
+use lib.ListN.{length}
+use Rattle.alf.specs.declared.Sort.the-variants.{Vector}
+use Rattle.alf.specs.declared.Outcome.the-variants as outcome
+use Rattle.alf.specs.Refusals.{Passed, Comes}
+use Rattle.limits.specs.Accepted.{Accepted}
+use Rattle.updates.specs.declared.queues.Queue.{Queue}
+use Rattle.updates.specs.Copies.{Codes}
+use Rattle.calls.specs.declared.matching.Matching.{Matching}
+use Rattle.calls.specs.declared.matching.Matching.the-variants as matching
+use Rattle.calls.specs.Written.{after}
+use Rattle.calls.specs.Correcting.{correctionOrder, Correction}
+use Rattle.calls.specs.Pushing.{RowFits, Handed, pushOrder, Takes, Push}
+use Rattle.calls.proofs.Routes.{codes-never, codes-passed}
+use Rattle.demands.proofs.Demand1 as one
+use Rattle.shut_out.specs.Reasons.{IsRefusal, Exactly}
+use Rattle.shut_out.proofs.Reasons.{exactly, comes-parts, Two}
+use Rattle.shut_out.proofs.RefusingRows.{GoodTrace}
+
+-- The correction of a row.
+module _ (names n : ℕ) (tree states : List ℕ) where
+  module _ (answers : List ℕ) (row : ℕ) (new : List ℕ) where
+    pub record Correctable : Type 0 where
+      pub trace : GoodTrace names n states
+      pub accepted : Accepted names Vector tree
+      pub room : length answers ≡ n
+      pub full : length new ≡ names
+      pub codes : Codes new
+      pub there : row < n
+
+    correct-passes : Correctable → Passed (correctionOrder names n tree states answers row new)
+    unfolding Passed
+    correct-passes g = (
+      λ p x. x .given (record { room = g .room; full = g .full; rows = g .trace .lists }),
+      (
+        λ p x. x .given (g .accepted),
+        (
+          codes-never states (g .trace .codes),
+          (codes-never new (g .codes), (λ p x. omega (arith, g .there, x .given), tt)),
+        ),
+      ),
+    )
+
+    pub correct : Exactly {M = Two} Correctable (correctionOrder names n tree states answers row new) outcome.Refused
+        (λ r m. Correction names n tree states answers row new (m .0) (m .1) r) (states, answers)
+    unfolding Comes after
+    correct =
+        exactly correct-passes
+        (record {
+          reason = λ r m w. w .comes;
+          parts = λ x m w. comes-parts _ _ x (w .comes);
+          refuses = λ k p h. record { comes = h; states-memory = refl; answers-memory = refl };
+          one = one.correct names n tree states answers row new .one;
+        })
+
+-- The queue.
+module _ (names : ℕ) (tree : List ℕ) (queue : Queue) (row : List ℕ) where
+  pub record Pushable : Type 0 where
+    pub handed : Handed names tree queue
+    pub fits : RowFits names (length row)
+    pub codes : Codes row
+
+  takes-parts : (x : Matching) (q : Queue) → Takes names tree queue row x q
+      → Passed (pushOrder names tree queue row) ⊎ IsRefusal matching.Refused x
+  unfolding Takes
+  takes-parts (matching.Found m) q w = inl (w .0)
+  takes-parts (matching.Refused r) q w = inr (r, refl)
+
+  pub push : Exactly Pushable (pushOrder names tree queue row) matching.Refused
+      (λ r q. Push names tree queue row r q) queue
+  unfolding Takes
+  push =
+      exactly (λ g. codes-passed row (g .fits) (g .handed) (g .codes))
+      (record {
+        reason = λ r q w. w .comes .0;
+        parts = λ x q w. takes-parts x q (w .comes);
+        refuses = λ k p h. record { comes = (h, refl) };
+        one = one.push names tree queue row .one;
+      })
