@@ -4,8 +4,8 @@
 //! but a queue, which is the one handed in.
 //!
 //! Names are slots of 32 bytes, filled with zeros behind the name. States are codes 0 to 7 for 0 1 X H L W Z U, row by
-//! row. A tree is the bytes of an expression, one a node, operands before their operator. A call takes up to 2 MB of
-//! stack, which the proofs say nothing of.
+//! row. A tree is the bytes of an expression, one a node, operands before their operator. A call takes less than 256 KB
+//! of stack; the proofs say nothing of that, and tests/stack measures it and reckons it from the object code.
 //!
 //! It is built beside libdachsmond.a (`rt staticlib dachsmond`, x86-64), as tests/rust-example does.
 

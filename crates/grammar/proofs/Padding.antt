@@ -1,21 +1,21 @@
 -- Laws of the answer's lists: some entries and zeros behind them, written one by one. Main names: padded-none,
--- padded-set, padded-next, accepted-all, placeAt-of. Assumes nothing.
+-- padded-set, padded-next, accepted-all, placeAt-of.
 use Prim.Native.Nat.{ℕ, zero, suc, _+_, _-_, _≤_, _<_}
 use native.Mathlib.Omega.{arith}
 use native.Mathlib.Numerals.{add-one}
 use mathlib.Core.Path.{_≡_, refl, sym, ap, _∙_}
 use mathlib.Core.Bool.{Bool, true, false}
-use mathlib.Core.List.{List, [], _∷_, _++_, map, map-append, append-assoc}
+use mathlib.Core.List.{List, [], _∷_, _++_, append-assoc}
 use lib.Dec.{ltb}
-use lib.ListN.{length, getD, take, drop, set, replicate, length-append, length-map, drop-of-length-le}
+use lib.ListN.{length, getD, take, drop, set, replicate, length-append, drop-of-length-le}
 use lib.Seq.{set-append-seam, take-suc, length-take-le}
 use borrow.Author.Tests.{ltb-true, ltb-false}
 use Rattle.alf.specs.Words.{if_then_else_}
 use Rattle.grammar.specs.declared.Token.{Token}
 use Rattle.grammar.specs.Tokens.{tokens}
 use Rattle.grammar.specs.Grammar.{placeOf}
-use Rattle.grammar.specs.Answers.{placeAt, padded, codesOf, placesOf, accepted}
-use Rattle.grammar.proofs.Lists.{tokens-length}
+use Rattle.grammar.specs.Answers.{placeAt, padded, accepted}
+use Rattle.grammar.proofs.Lists.{tokens-length, codes-front, places-front}
 
 pub padded-none : replicate 256 0 ≡ padded []
 unfolding padded
@@ -30,26 +30,27 @@ padded-set xs v h =
     (set-append-seam xs 0 (replicate (256 - length (xs ++ (v ∷ []))) 0) v ∙ sym (append-assoc xs (v ∷ []) _))
 
 pub padded-next :
-    (f : Token → ℕ) (ns : List Token) (i : ℕ) (d : Token) →
-    i < length ns →
+    (xs : List ℕ) (i d : ℕ) →
+    i < length xs →
     i < 256 →
-    set (padded (map f (take i ns))) i (f (getD ns i d)) ≡ padded (map f (take (i + 1) ns))
-padded-next f ns i d h k =
-    let l : length (map f (take i ns)) ≡ i = length-map (take i ns) f ∙ length-take-le i ns (omega arith) in
-    let t : map f (take (i + 1) ns) ≡ map f (take i ns) ++ (f (getD ns i d) ∷ []) =
-    rw (add-one, take-suc ns i d h) (map-append f (take i ns) (getD ns i d ∷ []))
-    in
-    ap (λ (n : ℕ). set (padded (map f (take i ns))) n (f (getD ns i d))) (sym l)
-    ∙ padded-set (map f (take i ns)) (f (getD ns i d)) (omega arith)
+    set (padded (take i xs)) i (getD xs i d) ≡ padded (take (i + 1) xs)
+padded-next xs i d h k =
+    let l : length (take i xs) ≡ i = length-take-le i xs (omega arith) in
+    let t : take (i + 1) xs ≡ take i xs ++ (getD xs i d ∷ []) = rw (add-one, take-suc xs i d h) in
+    ap (λ (n : ℕ). set (padded (take i xs)) n (getD xs i d)) (sym l)
+    ∙ padded-set (take i xs) (getD xs i d) (omega arith)
     ∙ ap padded (sym t)
 
 pub accepted-all :
-    (ns : List Token) (n : ℕ) (codes places : List ℕ) →
-    n ≤ length ns →
-    codes ≡ padded (codesOf (take n ns)) →
-    places ≡ padded (placesOf (take n ns)) →
-    record { ok = true; place = 0; len = n; codes = codes; places = places } ≡ accepted (take n ns)
-accepted-all ns n codes places h e f = rw (e, f, length-take-le n ns h)
+    (cs ps : List ℕ) (n : ℕ) (codes places : List ℕ) →
+    n ≤ length (tokens cs ps) →
+    codes ≡ padded (take n cs) →
+    places ≡ padded (take n ps) →
+    record { ok = true; place = 0; len = n; codes = codes; places = places } ≡ accepted (take n (tokens cs ps))
+accepted-all cs ps n codes places h e f =
+    let m = tokens-length cs ps in
+    let l : length (take n (tokens cs ps)) ≡ n = length-take-le n (tokens cs ps) h in
+    rw (e, f, l, codes-front n cs ps (omega arith) (omega arith), places-front n cs ps (omega arith) (omega arith))
 
 -- the place of the token at a number
 place-in :

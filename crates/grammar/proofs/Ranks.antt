@@ -12,7 +12,7 @@ use Rattle.grammar.specs.declared.Token.{Token}
 use Rattle.grammar.specs.Tokens.{Kind, operand, prefix, question, colon, opening, closing, other, binary}
 use Rattle.grammar.specs.Tokens.{table, kindIn, kind, kindOf, ahead}
 use Rattle.grammar.specs.Stops.{rank, starts}
-use Rattle.grammar.specs.Views.{View, going, stopped, aheadV, headV}
+use Rattle.grammar.specs.Views.{View, going, stopped, head, aheadV}
 use Rattle.grammar.proofs.Table.{binary-level}
 
 -- the kind that has a rank
@@ -103,8 +103,7 @@ not-starting other a b c = refl
 not-starting (binary l) a b c = refl
 
 -- the next token's kind; none is other
-pub head-kind : (v : View) → kindOf (headV v) ≡ aheadV v
+pub head-kind : (ts : List Token) → kindOf (head ts) ≡ ahead ts
 unfolding kind kindIn table
-head-kind (going [] out) = refl
-head-kind (going (t ∷ ts) out) = refl
-head-kind (stopped ts) = refl
+head-kind [] = refl
+head-kind (t ∷ ts) = refl

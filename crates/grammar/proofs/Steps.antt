@@ -1,11 +1,12 @@
 -- Laws of a state's view, for the functions that make one step. Main names: seen-token, seen-end, seen-off (peek),
--- ranked-law (rank_at), past-law (step), push-law (emit), halt-law (stop), eat-hit and eat-miss (eat). Assumes nothing.
+-- ranked-law (rank_at), past-law (step), push-law (emit), halt-law (stop), eat-hit and eat-miss (eat). What comes next
+-- is told without the nodes, by `coming`: head-of and rank-of carry it to the view with any list of nodes.
 use Prim.Native.Nat.{ℕ, _+_, _≤_, _<_}
 use native.Mathlib.Omega.{arith}
 use native.Mathlib.Numerals.{add-one}
 use mathlib.Core.Path.{_≡_, refl, sym, ap, _∙_}
 use mathlib.Core.Bool.{Bool, true, false}
-use mathlib.Core.List.{List}
+use mathlib.Core.List.{List, []}
 use lib.Dec.{ltb}
 use lib.ListN.{length, getD, take, drop, set, drop-of-length-le, length-set}
 use lib.Seq.{drop-cons, take-suc-set}
@@ -15,20 +16,45 @@ use Rattle.grammar.specs.declared.Token.{Token}
 use Rattle.grammar.specs.declared.State.{State}
 use Rattle.grammar.specs.Tokens.{kindOf, weight, ahead, tokens}
 use Rattle.grammar.specs.Stops.{rank}
-use Rattle.grammar.specs.Views.{View, going, stopped, nothing, aheadV, tail, past, push, halt, eaten}
-use Rattle.grammar.specs.Inner.{view, used, Fine, Here, Moved, Seen, Ranked, Stepped, Halted}
+use Rattle.grammar.specs.Views.{View, going, stopped, nothing, head, aheadV, headV, tail}
+use Rattle.grammar.specs.Views.{past, push, halt, eaten}
+use Rattle.grammar.specs.Inner.{view, coming, used, Fine, Here, Moved, Seen, Ranked, Stepped, Halted}
 use Rattle.grammar.proofs.Ranks.{head-kind}
-use Rattle.grammar.proofs.Lists.{token-at, no-token-at, counted-next, counted-take}
+use Rattle.grammar.proofs.Lists.{tokens-set, token-at, no-token-at}
+use Rattle.grammar.proofs.Lists.{counted-next, counted-take}
 
 -- a state with another number of tokens passed; with one node more; stopped
 abbrev pub stepped : State → State
-stepped s = record { at = s .at + 1; len = s .len; ok = s .ok; nodes = s .nodes }
+stepped s = record { at = s .at + 1; len = s .len; ok = s .ok }
 
-abbrev pub emitted : State → Token → State
-emitted s t = record { at = s .at; len = s .len + 1; ok = s .ok; nodes = set (s .nodes) (s .len) t }
+abbrev pub emitted : State → State
+emitted s = record { at = s .at; len = s .len + 1; ok = s .ok }
 
 abbrev pub halted : State → State
-halted s = record { at = s .at; len = s .len; ok = false; nodes = s .nodes }
+halted s = record { at = s .at; len = s .len; ok = false }
+
+-- what comes next is the same for every list of nodes
+pub ahead-of : (ts : List Token) (s : State) (ns : List Token) → aheadV (view ts s ns) ≡ ahead (coming ts s)
+unfolding view coming
+ahead-of ts s ns = go (s .ok)
+  where
+    go :
+        (b : Bool) →
+        aheadV (if b then going (drop (s .at) ts) (take (s .len) ns) else stopped (drop (s .at) ts)) ≡
+        ahead (if b then drop (s .at) ts else [])
+    go true = refl
+    go false = refl
+
+pub head-of : (ts : List Token) (s : State) (ns : List Token) → headV (view ts s ns) ≡ head (coming ts s)
+unfolding view coming
+head-of ts s ns = go (s .ok)
+  where
+    go :
+        (b : Bool) →
+        headV (if b then going (drop (s .at) ts) (take (s .len) ns) else stopped (drop (s .at) ts)) ≡
+        head (if b then drop (s .at) ts else [])
+    go true = refl
+    go false = refl
 
 -- peek
 pub seen-token :
@@ -37,21 +63,20 @@ pub seen-token :
     s .at < length cs →
     s .at < length ps →
     Seen (tokens cs ps) s (record { code = getD cs (s .at) 0; place = getD ps (s .at) 0 })
-unfolding view
+unfolding coming
 seen-token cs ps s e h k = record { is = simp e (token-at cs ps (s .at) h k) }
 
 pub seen-end : (ts : List Token) (s : State) → s .ok ≡ true → length ts ≤ s .at → Seen ts s nothing
-unfolding view
+unfolding coming
 seen-end ts s e h = record { is = simp e (no-token-at ts (s .at) h) }
 
 pub seen-off : (ts : List Token) (s : State) → s .ok ≡ false → Seen ts s nothing
-unfolding view
+unfolding coming
 seen-off ts s e = record { is = simp e }
 
 -- a token with a rank is there
-in-view : (ts : List Token) (s : State) (b : Bool) → s .ok ≡ b →
-    rank (aheadV (if b then going (drop (s .at) ts) (take (s .len) (s .nodes)) else stopped (drop (s .at) ts))) < 99 →
-    Here ts s
+in-view : (ts : List Token) (s : State) (b : Bool) → s .ok ≡ b
+    → rank (ahead (if b then drop (s .at) ts else [])) < 99 → Here ts s
 in-view ts s false e h = absurd (omega arith)
 in-view ts s true e h = go (ltb (s .at) (length ts)) refl
   where
@@ -61,29 +86,30 @@ in-view ts s true e h = go (ltb (s .at) (length ts)) refl
         let z : rank (ahead (drop (s .at) ts)) ≡ 99 = rw (drop-of-length-le ts (ltb-false _ _ f)) in
         absurd (omega arith)
 
-pub here-law : (ts : List Token) (s : State) → rank (aheadV (view ts s)) < 99 → Here ts s
-unfolding view
+pub here-law : (ts : List Token) (s : State) → rank (ahead (coming ts s)) < 99 → Here ts s
+unfolding coming
 here-law ts s h = in-view ts s (s .ok) refl h
 
 pub ranked-law : {ts : List Token} {s : State} {t : Token} {k : ℕ} → Seen ts s t → k ≡ rank (kindOf t)
     → Ranked ts s k
 ranked-law {ts} {s} {t} {k} sn e =
-    let is : k ≡ rank (aheadV (view ts s)) =
-    e ∙ ap (λ x. rank (kindOf x)) (sn .is) ∙ ap rank (head-kind (view ts s)) in
+    let is : k ≡ rank (ahead (coming ts s)) =
+    e ∙ ap (λ x. rank (kindOf x)) (sn .is) ∙ ap rank (head-kind (coming ts s)) in
     record { is = is; here = λ h. here-law ts s (omega arith) }
 
 -- step
 tail-in : (ts : List Token) (i : ℕ) → i < length ts → drop (i + 1) ts ≡ tail (drop i ts)
 tail-in ts i h = rw (add-one, drop-cons ts i nothing h)
 
-pub past-law : (ts : List Token) (s : State) → Here ts s → view ts (stepped s) ≡ past (view ts s)
+pub past-law :
+    (ts : List Token) (s : State) → Here ts s → (ns : List Token) → view ts (stepped s) ns ≡ past (view ts s ns)
 unfolding view
-past-law ts s h =
-    simp (h .goes) (ap (λ (r : List Token). going r (take (s .len) (s .nodes))) (tail-in ts (s .at) (h .left)))
+past-law ts s h ns =
+    simp (h .goes) (ap (λ (r : List Token). going r (take (s .len) ns)) (tail-in ts (s .at) (h .left)))
 
 pub used-law :
-    (ts : List Token) (s : State) → Here ts s → used ts (stepped s) ≡ used ts s + weight (aheadV (view ts s))
-unfolding used view
+    (ts : List Token) (s : State) → Here ts s → used ts (stepped s) ≡ used ts s + weight (ahead (coming ts s))
+unfolding used coming
 used-law ts s h = rw (add-one, h .goes) (counted-next ts (s .at) (h .left))
 
 pub used-small : {ts : List Token} {s : State} → Fine ts s → used ts s ≤ 256
@@ -96,36 +122,40 @@ unfolding used
 used-same ts s r e = rw e
 
 pub push-law :
-    (ts : List Token) (s : State) (t : Token) →
+    (ts : List Token) (s : State) (t : Token) (cs ps : List ℕ) →
     s .ok ≡ true →
-    s .len < length (s .nodes) →
-    view ts (emitted s t) ≡ push t (view ts s)
+    s .len < length (tokens cs ps) →
+    view ts (emitted s) (tokens (set cs (s .len) (t .code)) (set ps (s .len) (t .place))) ≡
+    push t (view ts s (tokens cs ps))
 unfolding view
-push-law ts s t ok h = simp ok (rw (add-one, take-suc-set (s .nodes) (s .len) t h))
+push-law ts s t cs ps ok h =
+    simp ok (rw (tokens-set cs ps (s .len) t, add-one, take-suc-set (tokens cs ps) (s .len) t h))
 
-pub push-off : (ts : List Token) (s : State) (t : Token) → s .ok ≡ false → view ts s ≡ push t (view ts s)
+pub push-long :
+    (t : Token) (cs ps : List ℕ) (n : ℕ) →
+    length (tokens (set cs n (t .code)) (set ps n (t .place))) ≡ length (tokens cs ps)
+push-long t cs ps n = rw (tokens-set cs ps n t) (length-set (tokens cs ps) n t)
+
+pub push-off :
+    (ts : List Token) (s : State) (t : Token) (ns : List Token) → s .ok ≡ false →
+    view ts s ns ≡ push t (view ts s ns)
 unfolding view
-push-off ts s t off = simp off
+push-off ts s t ns off = simp off
 
-pub emit-fine : (ts : List Token) (s : State) (t : Token) → Fine ts s → s .len < used ts s → Fine ts (emitted s t)
-emit-fine ts s t f h =
-    let u = used-same ts s (emitted s t) refl in
-    record {
-      inside = f .inside;
-      room = omega arith;
-      small = f .small;
-      whole = length-set (s .nodes) (s .len) t ∙ f .whole;
-    }
+pub emit-fine : (ts : List Token) (s : State) → Fine ts s → s .len < used ts s → Fine ts (emitted s)
+emit-fine ts s f h =
+    let u = used-same ts s (emitted s) refl in
+    record { inside = f .inside; room = omega arith; small = f .small }
 
 -- stop
-pub halt-law : (ts : List Token) (s : State) → view ts (halted s) ≡ halt (view ts s)
+pub halt-law : (ts : List Token) (s : State) (ns : List Token) → view ts (halted s) ns ≡ halt (view ts s ns)
 unfolding view
-halt-law ts s = go (s .ok)
+halt-law ts s ns = go (s .ok)
   where
     go :
         (b : Bool) →
         stopped (drop (s .at) ts) ≡
-        halt (if b then going (drop (s .at) ts) (take (s .len) (s .nodes)) else stopped (drop (s .at) ts))
+        halt (if b then going (drop (s .at) ts) (take (s .len) ns) else stopped (drop (s .at) ts))
     go true = refl
     go false = refl
 
@@ -133,7 +163,7 @@ pub halt-moved : (ts : List Token) (s : State) → Fine ts s → Moved ts s (hal
 halt-moved ts s f =
     let u = used-same ts s (halted s) refl in
     record {
-      fine = record { inside = f .inside; room = omega arith; small = f .small; whole = f .whole };
+      fine = record { inside = f .inside; room = omega arith; small = f .small };
       on = omega arith;
       grown = omega arith;
     }
@@ -147,9 +177,14 @@ eaten-miss : (v : View) (k : ℕ) → ¬ (rank (aheadV v) ≡ k) → halt v ≡ 
 eaten-miss (going ts out) k e = rw (ne-eqb (rank (ahead ts)) k e)
 eaten-miss (stopped ts) k e = refl
 
-module _ {ts : List Token} {s r : State} {x k : ℕ} where
-  pub eat-hit : Ranked ts s x → x ≡ k → k < 99 → Stepped ts s r → view ts r ≡ eaten k (view ts s)
-  eat-hit p e h q = q .is ∙ eaten-hit (view ts s) k h (sym (p .is) ∙ e)
+-- a rank, said of a view
+pub rank-of : {ts : List Token} {s : State} {k : ℕ} → Ranked ts s k → (ns : List Token)
+    → rank (aheadV (view ts s ns)) ≡ k
+rank-of {ts} {s} rk ns = ap rank (ahead-of ts s ns) ∙ sym (rk .is)
 
-  pub eat-miss : Ranked ts s x → ¬ (x ≡ k) → Halted ts s r → view ts r ≡ eaten k (view ts s)
-  eat-miss p e q = q .is ∙ eaten-miss (view ts s) k (λ f. e (p .is ∙ f))
+module _ {ts : List Token} {s r : State} {x k : ℕ} (p : Ranked ts s x) where
+  pub eat-hit : x ≡ k → k < 99 → Stepped ts s r → (ns : List Token) → view ts r ns ≡ eaten k (view ts s ns)
+  eat-hit e h q ns = q .is ns ∙ eaten-hit (view ts s ns) k h (rank-of p ns ∙ e)
+
+  pub eat-miss : ¬ (x ≡ k) → Halted ts s r → (ns : List Token) → view ts r ns ≡ eaten k (view ts s ns)
+  eat-miss e q ns = q .is ns ∙ eaten-miss (view ts s ns) k (λ f. e (sym (rank-of p ns) ∙ f))

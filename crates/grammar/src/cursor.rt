@@ -75,14 +75,26 @@ pub fn step(codes: &[u8], places: &[u16], s: State) -> State
 }
 
 // One node more.
-pub fn emit(codes: &[u8], places: &[u16], s: State, t: Token) -> State
-    requires { ⌜ Room (tokens (now codes) (now places)) s ⌝ }
-    ensures { λ r. ⌜ Emitted (tokens (now (codes .entry)) (now (places .entry))) t s r ⌝ }
+pub fn emit(
+    codes: &[u8],
+    places: &[u16],
+    s: State,
+    t: Token,
+    nodes: &mut [u8; 256],
+    spots: &mut [u16; 256],
+) -> State
+    requires { ⌜ Room (tokens (now codes) (now places)) s (tokens (now nodes) (now spots)) ⌝ }
+    ensures { λ r. ⌜
+        Emitted (tokens (now (codes .entry)) (now (places .entry))) t
+        s (tokens (now (nodes .entry)) (now (spots .entry)))
+        r (tokens (now (nodes .exit)) (now (spots .exit)))
+        ⌝ }
 {
     let mut o = s;
     if o.ok {
         let len = o.len;
-        o.nodes[len] = t;
+        nodes[len] = t.code;
+        spots[len] = t.place;
         o.len = len + 1;
     }
     o

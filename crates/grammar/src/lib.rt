@@ -1,5 +1,6 @@
 // The grammar of document 01: from tokens to the nodes of their tree, operands before their operator, or to the place
 // where no expression goes on. `level` has a function for each level of the operators, `cursor` their single steps.
+// The nodes are written to two lent lists, `nodes` (codes) and `spots` (places): what a call holds is numbers alone.
 mod cursor;
 mod level;
 
@@ -17,12 +18,11 @@ pub struct Token {
     pub place: u16,
 }
 
-// What a parser has at hand: the number of the next token, whether it goes on, and the nodes written.
+// How far a parser is: the number of the next token, how many nodes it wrote, and whether it goes on.
 pub struct State {
     pub at: usize,
     pub len: usize,
     pub ok: bool,
-    pub nodes: [Token; 256],
 }
 
 // A parser's answer: the nodes of the tree, with zeros behind them, or the place of the refusal.
@@ -35,18 +35,19 @@ pub struct Parsed {
 }
 
 // A whole text: an expression and nothing behind it, or where it is refused.
-fn read_all(codes: &[u8], places: &[u16]) -> State
-    requires { ⌜ Given (now codes) (now places) ⌝ }
-    ensures { λ r. ⌜ Finished (tokens (now (codes .entry)) (now (places .entry))) r ⌝ }
+fn read_all(codes: &[u8], places: &[u16], nodes: &mut [u8; 256], spots: &mut [u16; 256]) -> State
+    requires { ⌜ Given (now codes) (now places) (tokens (now nodes) (now spots)) ⌝ }
+    ensures { λ r. ⌜
+        Finished (tokens (now (codes .entry)) (now (places .entry)))
+        r (tokens (now (nodes .exit)) (now (spots .exit)))
+        ⌝ }
 {
-    let nodes = [Token { code: 0, place: 0 }; 256];
     let s = State {
         at: 0,
         len: 0,
         ok: true,
-        nodes,
     };
-    let r = level6(codes, places, s);
+    let r = level6(codes, places, s, nodes, spots);
     let at = r.at;
     if at < codes.len() {
         return stop(codes, places, r);
@@ -64,19 +65,17 @@ fn place_at(places: &[u16], at: usize, bytes: usize) -> usize
     bytes
 }
 
-// The nodes as codes and places.
-fn accept(s: State) -> Parsed
-    requires { ⌜ Full s ⌝ }
-    ensures { λ r. ⌜ r ≡ accepted (take (s .len) (s .nodes)) ⌝ }
+// The first nodes, and zeros behind them.
+fn accept(nodes: &[u8; 256], spots: &[u16; 256], len: usize) -> Parsed
+    requires { ⌜ Full len (tokens (now nodes) (now spots)) ⌝ }
+    ensures { λ r. ⌜ r ≡ accepted (take len (tokens (now (nodes .entry)) (now (spots .entry)))) ⌝ }
 {
-    let len = s.len;
     let mut codes = [0u8; 256];
     let mut places = [0u16; 256];
     let mut i = 0;
     while i < len {
-        let t = s.nodes[i];
-        codes[i] = t.code;
-        places[i] = t.place;
+        codes[i] = nodes[i];
+        places[i] = spots[i];
         i = i + 1;
     }
     Parsed {
@@ -110,9 +109,11 @@ pub fn parse(codes: &[u8], places: &[u16], count: usize, bytes: usize) -> Parsed
 {
     let cs = &codes[..count];
     let ps = &places[..count];
-    let s = read_all(cs, ps);
+    let mut nodes = [0u8; 256];
+    let mut spots = [0u16; 256];
+    let s = read_all(cs, ps, &mut nodes, &mut spots);
     if s.ok {
-        return accept(s);
+        return accept(&nodes, &spots, s.len);
     }
     refuse(place_at(ps, s.at, bytes))
 }

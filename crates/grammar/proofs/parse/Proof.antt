@@ -13,13 +13,15 @@ slice-aggregate-ps : tie.Need-slice-aggregate-ps
 slice-aggregate-ps c = sym (length-take-le _ _ (c .before .before .before .before .pre .places-hold))
 
 read-all-requires : tie.Need-read-all-requires
-read-all-requires c κs = given (c .before .before .before .before .pre)
+read-all-requires c κs = given (c .before .before .before .before .before .before .pre)
 
 accept-requires : tie.Need-accept-requires
-accept-requires c κs = full (c .before .read-all .ensures)
+accept-requires c κs = full (c .before .before .before .read-all .ensures)
 
 returns : tie.Need-returns
-returns c = answer-tree (c .before .before .read-all .ensures) (c .before .if1 .taken) (c .accept .ensures)
+returns c =
+    let i = c .before .before .before in
+    answer-tree (i .before .read-all .ensures) (i .if1 .taken) (c .accept .ensures)
 
 place-at-requires : tie.Need-place-at-requires
 place-at-requires c κs = search needs
@@ -30,7 +32,8 @@ refuse-requires c κs = search needs
 returns-2 : tie.Need-returns-2
 returns-2 c =
     let s = c .before .before .before in
-    answer-refused _ _ (given (s .before .before .before .before .before .pre) .even) (s .read-all .ensures)
+    let h = s .before .before .before .before .before .before .before .pre in
+    answer-refused _ _ (given h .even) (s .read-all .ensures)
     (c .before .before .if1 .left) (c .before .place-at .ensures) (c .refuse .ensures)
 
 pub parse-spec : {M : Type 1} → statement M

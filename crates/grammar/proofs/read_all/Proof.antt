@@ -17,14 +17,14 @@ stop-requires c κs = search needs
 returns : tie.Need-returns
 unfolding view
 returns c =
-    let a = c .before .before .before .before .before .args in
+    let a = c .before .before .before .before .before .before .before .args in
     finished-more refl (c .before .before .level6 .ensures)
     (omega (arith, tokens-length (a .codes .now) (a .places .now))) (c .stop .ensures)
 
 returns-2 : tie.Need-returns-2
 unfolding view
 returns-2 c =
-    let a = c .before .before .before .before .args in
+    let a = c .before .before .before .before .before .before .args in
     finished-end refl (c .before .level6 .ensures) (omega (arith, tokens-length (a .codes .now) (a .places .now)))
 
 pub read-all-spec : {M : Type 1} → statement M

@@ -14,7 +14,7 @@ returns c =
     let h = c .before .pre .here in
     let u = used-law _ (c .before .args .s) h in
     record {
-      fine = record { inside = search needs; room = omega (arith, u); small = search needs; whole = search needs };
+      fine = record { inside = search needs; room = omega (arith, u); small = search needs };
       on = search needs;
       same = search needs;
       spent = u;
