@@ -1,5 +1,5 @@
--- Texts, computed: case 1's listing as document 01 prints it, byte for byte; shares; lines of the table.
--- Assumes nothing.
+-- Texts, computed: case 1's listing as document 01 prints it, and the listing of case 8's values, byte for byte;
+-- shares; lines of the table.
 use mathlib.Core.Path.{_≡_, refl}
 use mathlib.Core.List.{List, [], _∷_}
 use Rattle.alf.specs.Words.{count, listed}
@@ -8,15 +8,23 @@ use Rattle.alf.specs.Expressions.{edge}
 use Rattle.listing.specs.Text.{bytes, joined}
 use Rattle.listing.specs.Numbers.{digits, widthUpTo, width, decimal}
 use Rattle.listing.specs.Share.{millionths, withPoint, share}
-use Rattle.listing.specs.Listing.{word, line, lines, howMany, lastLine, listing}
+use Rattle.listing.specs.Listing.{word, letter, wordOf, line, lines, howMany, lastLine}
+use Rattle.listing.specs.Listing.{listing, valuesListing}
 use Rattle.listing.specs.Table.{plain, ended, heading, headingLine, columns, patternLine, refusedColumns}
 use Rattle.listing.specs.Table.{refusedLine, totalColumns, totalLine}
 
 pub case-1-listing :
     listing T.times (3 ∷ 1 ∷ 0 ∷ 0 ∷ 2 ∷ 0 ∷ [])
     ≡ bytes "time answer\n0 none\n10 yes\n20 no\n35 no\n40 unknown\n55 no\nyes 1 no 3 unknown 1\n"
-unfolding listing lines line word howMany lastLine bytes joined decimal width widthUpTo digits count T.times
+unfolding listing lines line wordOf word howMany lastLine bytes joined decimal width widthUpTo digits count T.times
 case-1-listing = refl
+
+-- the values of A ? C : 'bZ: Z, 1, X, X, 1, 1
+pub case-8-values :
+    valuesListing T.times (6 ∷ 1 ∷ 2 ∷ 2 ∷ 1 ∷ 1 ∷ [])
+    ≡ bytes "time value\n0 Z\n10 1\n20 X\n35 X\n40 1\n55 1\n"
+unfolding valuesListing lines line wordOf letter bytes joined decimal width widthUpTo digits T.times
+case-8-values = refl
 
 pub third : share 1 4 ≡ bytes "0.333333"
 unfolding share withPoint millionths bytes decimal width widthUpTo digits

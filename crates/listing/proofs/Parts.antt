@@ -22,6 +22,7 @@ use Rattle.writer.proofs.Spelling.{put-as}
 use Rattle.listing.specs.Numbers.{digits}
 use Rattle.alf.proofs.Bools.{below?}
 use Rattle.alf.proofs.Counts.{count-next, count-small}
+use Rattle.listing.specs.declared.lines.Column.{Column}
 use Rattle.listing.specs.Listing.{line, lines, howMany}
 use Rattle.listing.specs.Table.{plain}
 use Rattle.listing.proofs.Digits.{digits-length}
@@ -93,14 +94,14 @@ unfolding howMany
 counting-end {answers} {i = i} g l = let e : i ≡ length answers = omega (arith, g .within) in rw e at (g .is)
 
 -- the lines from row i on
-module _ (times answers : List ℕ) (i : ℕ) where
-  pub lines-next : i < length times → i < length answers
-      → lines (drop i times) (drop i answers)
-      ≡ line (getD times i 0) (getD answers i 0) ++ lines (drop (i + 1) times) (drop (i + 1) answers)
+module _ (column : Column) (times codes : List ℕ) (i : ℕ) where
+  pub lines-next : i < length times → i < length codes
+      → lines column (drop i times) (drop i codes)
+      ≡ line column (getD times i 0) (getD codes i 0) ++ lines column (drop (i + 1) times) (drop (i + 1) codes)
   unfolding lines
-  lines-next h k = rw (add-one i, drop-cons times i 0 h, drop-cons answers i 0 k) refl
+  lines-next h k = rw (add-one i, drop-cons times i 0 h, drop-cons codes i 0 k) refl
 
-  pub lines-none : length times ≤ i → lines (drop i times) (drop i answers) ≡ []
+  pub lines-none : length times ≤ i → lines column (drop i times) (drop i codes) ≡ []
   unfolding lines
   lines-none h = rw (drop-of-length-le times h) refl
 
@@ -108,13 +109,14 @@ module _ (times answers : List ℕ) (i : ℕ) where
 pub last-number : {a : ℕ} → a ≤ 3 → (a ≡ 0 → ⊥) → (a ≡ 1 → ⊥) → (a ≡ 2 → ⊥) → a ≡ 3
 last-number h f g k = omega (arith, f, g, k)
 
--- one answer more is at most 3
-pub good-more : (s : List ℕ) (i : ℕ) → ((j : ℕ) → j < i → getD s j 0 ≤ 3) → getD s i 0 ≤ 3
+-- one code more is at most `most`
+pub good-more : (most : ℕ) (s : List ℕ) (i : ℕ) → ((j : ℕ) → j < i → getD s j 0 ≤ most)
+    → getD s i 0 ≤ most
     → (j : ℕ) → j < i + 1
-    → getD s j 0 ≤ 3
-good-more s i h k j l = go (below? j i)
+    → getD s j 0 ≤ most
+good-more most s i h k j l = go (below? j i)
   where
-    go : (j < i) ⊎ (i ≤ j) → getD s j 0 ≤ 3
+    go : (j < i) ⊎ (i ≤ j) → getD s j 0 ≤ most
     go (inl m) = h j m
     go (inr m) = let e : j ≡ i = omega arith in rw e k
 

@@ -1,9 +1,9 @@
 -- What the calls return, case by case.
 --   short, delivered            a line: 9, or the text at the front
---   refused-18, refused-15, listed    a listing: 18, 15, or what is left
+--   refused-18, refused-15, listed    a listing, of answers or values: 18, 15, or what is left
 --   ended-size, ended-start, laid    a line of the table: its length, its parts
---   listing-size, listing-start      a listing: the same
--- Assumes nothing.
+--   listing-size, listing-start      a listing of answers: the same
+--   values-size, values-start        a listing of values: the same
 use Prim.Native.Nat.{ℕ, _+_, _<_, _≤_}
 use native.Mathlib.Omega.{arith}
 use mathlib.Core.Path.{_≡_, refl, sym, ap, _∙_}
@@ -18,10 +18,11 @@ use Rattle.writer.specs.Inner.{Put}
 use Rattle.writer.specs.Writing.{Holds, after}
 use Rattle.writer.proofs.Going.{Going, going-start}
 use Rattle.listing.specs.Text.{bytes, joined}
-use Rattle.listing.specs.Listing.{lines, howMany, lastLine, listing}
+use Rattle.listing.specs.declared.lines.Column.the-variants.{Answers, Values}
+use Rattle.listing.specs.Listing.{lines, howMany, lastLine, listing, valuesListing}
 use Rattle.listing.specs.Table.{plain, ended}
-use Rattle.listing.specs.Calls.{lineOrder, Delivers, Lists, listOrder, ListsText}
-use Rattle.listing.specs.Inner.{Sized, AnswersTo, Listable}
+use Rattle.listing.specs.Calls.{lineOrder, Delivers, Lists, listOrder, ListsCodes}
+use Rattle.listing.specs.Inner.{Sized, CodesTo, Listable}
 
 -- a text that is too long for the buffer, and one that is not
 pub short : {w out : List ℕ} {k : ℕ} {r : Outcome} → k ≡ length w → length out < k
@@ -65,71 +66,92 @@ pub laid : {columns list : List ℕ} (pattern : List ℕ) {out out′ : List ℕ
 laid pattern h d = rw (h .front) at d
 
 -- a listing: the heading, the lines, the totals
-module _ (times answers : List ℕ) where
-  module _ {yeses noes unknowns : ℕ} (y : yeses ≡ howMany answers 1) (f : noes ≡ howMany answers 0)
-      (u : unknowns ≡ howMany answers 2) where
-    parts : listing times answers
-        ≡ bytes "time answer\n" ++ (lines times answers ++ (lastLine yeses noes unknowns ++ []))
-    unfolding listing joined
-    parts = rw (y, f, u) refl
+module _ (times answers : List ℕ) {yeses noes unknowns : ℕ} (y : yeses ≡ howMany answers 1)
+    (f : noes ≡ howMany answers 0) (u : unknowns ≡ howMany answers 2) where
+  parts : listing times answers
+      ≡ bytes "time answer\n" ++ (lines Answers times answers ++ (lastLine yeses noes unknowns ++ []))
+  unfolding listing joined
+  parts = rw (y, f, u) refl
 
-    pub listing-size : {m k : ℕ} → Sized (lines times answers) 1900515 m
-        → Sized (lastLine yeses noes unknowns) 78 k
-        → m + k + 12 ≡ length (listing times answers)
-    unfolding bytes
-    listing-size h k =
-        omega (
-          arith,
-          h .is,
-          k .is,
-          ap length parts,
-          length-append (lines times answers) (lastLine yeses noes unknowns ++ []),
-          ap length (append-nil (lastLine yeses noes unknowns)),
-        )
+  pub listing-size : {m k : ℕ} → Sized (lines Answers times answers) 1900515 m
+      → Sized (lastLine yeses noes unknowns) 78 k
+      → m + k + 12 ≡ length (listing times answers)
+  unfolding bytes
+  listing-size h k =
+      omega (
+        arith,
+        h .is,
+        k .is,
+        ap length parts,
+        length-append (lines Answers times answers) (lastLine yeses noes unknowns ++ []),
+        ap length (append-nil (lastLine yeses noes unknowns)),
+      )
 
-    pub listing-start : (out : List ℕ) {size : ℕ} → size ≡ length (listing times answers)
-        → size ≤ length out
-        → Going out 0 (listing times answers)
-        (bytes "time answer\n" ∷ lines times answers ∷ lastLine yeses noes unknowns ∷ []) out 0
-    listing-start out e h = going-start _ parts (omega (arith, e))
+  pub listing-start : (out : List ℕ) {size : ℕ} → size ≡ length (listing times answers)
+      → size ≤ length out
+      → Going out 0 (listing times answers)
+      (bytes "time answer\n" ∷ lines Answers times answers ∷ lastLine yeses noes unknowns ∷ []) out 0
+  listing-start out e h = going-start _ parts (omega (arith, e))
 
-  -- 18, 15, or what is left
-  pub refused-18 : {out : List ℕ} {r : Outcome} → (Lists (length times) (length answers) → ⊥)
-      → r ≡ Refused (record { number = 18; place = 0 }) → ListsText times answers out out r
+-- a listing of values: the heading, the lines
+module _ (times values : List ℕ) where
+  pub values-size : {m : ℕ} → Sized (lines Values times values) 1900515 m
+      → m + 11 ≡ length (valuesListing times values)
+  unfolding valuesListing joined bytes
+  values-size h = omega (arith, h .is, ap length (append-nil (lines Values times values)))
+
+  pub values-start : (out : List ℕ) {size : ℕ} → size ≡ length (valuesListing times values)
+      → size ≤ length out
+      → Going out 0 (valuesListing times values) (bytes "time value\n" ∷ lines Values times values ∷ []) out 0
+  unfolding valuesListing joined
+  values-start out e h = going-start _ refl (omega (arith, e))
+
+-- codes that pass 18 and 15
+pub listable : {most bad : ℕ} {times codes : List ℕ} → Lists (length times) (length codes)
+    → CodesTo most codes bad
+    → length codes ≤ bad → Listable most times codes
+listable l c h = record { lists = l; good = λ i k. c .good i (omega arith) }
+
+-- 18, 15, or what is left
+module _ {most : ℕ} {text times codes : List ℕ} where
+  pub refused-18 : {out : List ℕ} {r : Outcome} → (Lists (length times) (length codes) → ⊥)
+      → r ≡ Refused (record { number = 18; place = 0 }) → ListsCodes most text times codes out out r
   unfolding Comes RefusedWith after
   refused-18 h e =
       rw e (record { outcome = inl (refl, record { given = h; there = refl }); memory = refl })
 
-  module _ (l : Lists (length times) (length answers)) {bad : ℕ} (c : AnswersTo answers bad) where
-    pub refused-15 : {out : List ℕ} {r : Outcome} → bad < length answers
-        → r ≡ Refused (record { number = 15; place = bad }) → ListsText times answers out out r
-    unfolding Comes RefusedWith after
-    refused-15 h e =
-        rw e
-        (record {
-          outcome =
-              inr (
-                λ p a. a .given l,
-                inl (refl, record { given = (h, c .bad h); before = λ i k b. omega (arith, c .good i k, b .1) }),
-              );
-          memory = refl;
-        })
+  pub refused-15 :
+      {out : List ℕ} {bad : ℕ} {r : Outcome} → Lists (length times) (length codes) →
+      CodesTo most codes bad →
+      bad < length codes →
+      r ≡ Refused (record { number = 15; place = bad }) →
+      ListsCodes most text times codes out out r
+  unfolding Comes RefusedWith after
+  refused-15 l c h e =
+      rw e
+      (record {
+        outcome =
+            inr (
+              λ p a. a .given l,
+              inl (refl, record { given = (h, c .bad h); before = λ i k b. omega (arith, c .good i k, b .1) }),
+            );
+        memory = refl;
+      })
 
-    pub listable : length answers ≤ bad → Listable times answers
-    listable h = record { lists = l; good = λ i k. c .good i (omega arith) }
+-- once 18 and 15 are passed
+module _ (most : ℕ) (text times codes : List ℕ) (g : Listable most times codes) where
+  none : (p : ℕ) → p < length codes → most < getD codes p 0 → ⊥
+  none p h k = omega (arith, g .good p h)
 
-  module _ (g : Listable times answers) where
-    none : (p : ℕ) → p < length answers → 3 < getD answers p 0 → ⊥
-    none p h k = omega (arith, g .good p h)
+  comes : (room : ℕ) (o : Outcome) → Comes (lineOrder text room) (λ k. k ≡ length text) o
+      → Comes (listOrder most text times codes room) (λ k. k ≡ length text) o
+  unfolding Comes RefusedWith Passed
+  comes room (Done k) x = ((λ p a. a .given (g .lists), (λ p a. none p (a .given .0) (a .given .1), x .0)), x .1)
+  comes room (Refused q) x =
+      inr (λ p a. a .given (g .lists), inr (λ p a. none p (a .given .0) (a .given .1), x))
 
-    comes : (room : ℕ) (o : Outcome)
-        → Comes (lineOrder (listing times answers) room) (λ k. k ≡ length (listing times answers)) o
-        → Comes (listOrder times answers room) (λ k. k ≡ length (listing times answers)) o
-    unfolding Comes RefusedWith Passed
-    comes room (Done k) x = ((λ p a. a .given (g .lists), (λ p a. none p (a .given .0) (a .given .1), x .0)), x .1)
-    comes room (Refused q) x =
-        inr (λ p a. a .given (g .lists), inr (λ p a. none p (a .given .0) (a .given .1), x))
-
-    pub listed : {out out′ : List ℕ} {r : Outcome} → Delivers (listing times answers) out out′ r
-        → ListsText times answers out out′ r
-    listed {out} {r = r} d = record { outcome = comes (length out) r (d .outcome); memory = d .memory }
+pub listed : {most : ℕ} {text times codes out out′ : List ℕ} {r : Outcome} → Listable most times codes
+    → Delivers text out out′ r
+    → ListsCodes most text times codes out out′ r
+listed {most} {text} {times} {codes} {out} {r = r} g d =
+    record { outcome = comes most text times codes g (length out) r (d .outcome); memory = d .memory }

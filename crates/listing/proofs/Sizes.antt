@@ -20,15 +20,17 @@ use Rattle.writer.specs.Inner.{Put, Room}
 use Rattle.listing.specs.Text.{bytes, joined}
 use Rattle.listing.specs.Numbers.{digits, width, decimal}
 use Rattle.listing.specs.Share.{millionths, withPoint, share}
-use Rattle.listing.specs.Listing.{word, line, lines, lastLine}
+use Rattle.listing.specs.declared.lines.Column.{Column}
+use Rattle.listing.specs.Listing.{wordOf, line, lines, lastLine}
 use Rattle.listing.specs.Table.{columns, refusedColumns, totalColumns}
 use Rattle.listing.specs.Inner.{Wide, Sized}
 use Rattle.listing.proofs.Digits.{digits-length, decimal-length, width-word}
 use Rattle.listing.proofs.Parts.{lines-next, lines-none}
 
-pub line-size : (time a : ℕ) {w s : ℕ} → Wide time w → Sized (word a) 7 s → Sized (line time a) 29 (w + s + 2)
+pub line-size : (column : Column) (time a : ℕ) {w s : ℕ} → Wide time w → Sized (wordOf column a) 7 s
+    → Sized (line column time a) 29 (w + s + 2)
 unfolding line joined bytes
-line-size time a h k =
+line-size column time a h k =
     record {
       is =
           omega (
@@ -36,8 +38,8 @@ line-size time a h k =
             h .is,
             k .is,
             decimal-length time,
-            length-append (decimal time) (32 ∷ (word a ++ (10 ∷ []))),
-            length-append (word a) (10 ∷ []),
+            length-append (decimal time) (32 ∷ (wordOf column a ++ (10 ∷ []))),
+            length-append (wordOf column a) (10 ∷ []),
           );
       few = omega (arith, h .few, k .few);
     }
@@ -65,18 +67,18 @@ last-size {yeses} {noes} {unknowns} f g h =
     }
 
 -- of the lines, those of the first i rows have so many bytes
-pub record Sizing (times answers : List ℕ) (size i : ℕ) : Type 0 where
-  pub within : i ≤ length answers
-  pub is : size + length (lines (drop i times) (drop i answers)) ≡ length (lines times answers)
+pub record Sizing (column : Column) (times codes : List ℕ) (size i : ℕ) : Type 0 where
+  pub within : i ≤ length codes
+  pub is : size + length (lines column (drop i times) (drop i codes)) ≡ length (lines column times codes)
   pub few : size ≤ 29 * i
 
-module _ {times answers : List ℕ} where
-  pub sizing-first : Sizing times answers 0 0
+module _ {column : Column} {times codes : List ℕ} where
+  pub sizing-first : Sizing column times codes 0 0
   sizing-first = record { within = omega arith; is = omega arith; few = omega arith }
 
-  module _ (same : length answers ≡ length times) {size i : ℕ} (g : Sizing times answers size i) where
-    pub sizing-next : {time a r : ℕ} → i < length answers → time ≡ getD times i 0 → a ≡ getD answers i 0
-        → Sized (line time a) 29 r → Sizing times answers (size + r) (i + 1)
+  module _ (same : length codes ≡ length times) {size i : ℕ} (g : Sizing column times codes size i) where
+    pub sizing-next : {time a r : ℕ} → i < length codes → time ≡ getD times i 0 → a ≡ getD codes i 0
+        → Sized (line column time a) 29 r → Sizing column times codes (size + r) (i + 1)
     sizing-next l e d s =
         let z = rw (e, d) at (s .is) in
         record {
@@ -86,17 +88,17 @@ module _ {times answers : List ℕ} where
                 arith,
                 g .is,
                 z,
-                ap length (lines-next times answers i (omega arith) l),
-                length-append (line (getD times i 0) (getD answers i 0)) (lines (drop (i + 1) times) (drop
-                    (i + 1) answers)),
+                ap length (lines-next column times codes i (omega arith) l),
+                length-append (line column (getD times i 0) (getD codes i 0)) (lines column (drop (i + 1) times)
+                    (drop (i + 1) codes)),
               );
           few = omega (arith, g .few, s .few);
         }
 
-    pub sizing-end : length answers ≤ i → length answers ≤ 65535 → Sized (lines times answers) 1900515 size
+    pub sizing-end : length codes ≤ i → length codes ≤ 65535 → Sized (lines column times codes) 1900515 size
     sizing-end l f =
         record {
-          is = omega (arith, g .is, ap length (lines-none times answers i (omega arith)));
+          is = omega (arith, g .is, ap length (lines-none column times codes i (omega arith)));
           few = omega (arith, g .few, g .within);
         }
 

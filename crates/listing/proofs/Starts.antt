@@ -1,5 +1,6 @@
 -- Where writing a text starts: the parts that are to be written, one behind the other.
 --   room-as, word-0 to word-3      an answer's word
+--   answer-known and its like, value-known and its like    what a column tells, by its kind
 --   share-start, line-start, last-start, columns-start, refused-start, total-start    the parts of each text
 --   rows-start, rows-going, rows-done, row-asked, row-put                             the lines, row by row
 -- Assumes nothing.
@@ -14,9 +15,11 @@ use Rattle.writer.proofs.Spelling.{put-as}
 use Rattle.listing.specs.Text.{bytes, joined}
 use Rattle.listing.specs.Numbers.{digits, decimal}
 use Rattle.listing.specs.Share.{millionths, withPoint, share}
-use Rattle.listing.specs.Listing.{word, line, lines, lastLine}
+use Rattle.listing.specs.declared.lines.Column.{Column}
+use Rattle.listing.specs.declared.lines.Column.the-variants.{Answers, Values}
+use Rattle.listing.specs.Listing.{word, letter, wordOf, highest, line, lines, lastLine}
 use Rattle.listing.specs.Table.{columns, refusedColumns, totalColumns}
-use Rattle.listing.specs.Inner.{Listable, Wording, Lining}
+use Rattle.listing.specs.Inner.{Sized, Wording, Lining}
 use Rattle.listing.proofs.Parts.{lines-next, lines-none}
 use Rattle.listing.proofs.Sizes.{share-some}
 
@@ -40,6 +43,45 @@ pub word-3 : {a : ℕ} → a ≡ 3 → word a ≡ bytes "none"
 unfolding word
 word-3 e = rw e refl
 
+-- what a column tells, by its kind
+module _ {column : Column} (a : ℕ) (e : column ≡ Answers) where
+  pub answer-known : a ≤ highest column → a ≤ 3
+  unfolding highest
+  answer-known h = rw e at h
+
+  pub answer-sized : {r : ℕ} → Sized (word a) 7 r → Sized (wordOf column a) 7 r
+  unfolding wordOf
+  answer-sized h = rw e h
+
+  pub answer-wording : {out : List ℕ} {at : ℕ} → Wording (highest column) a out at (wordOf column a)
+      → Wording 3 a out at (word a)
+  unfolding highest wordOf
+  answer-wording h = rw e at h
+
+  pub answer-put : {out out′ : List ℕ} {at r : ℕ} → Put out at (word a) out′ r
+      → Put out at (wordOf column a) out′ r
+  unfolding wordOf
+  answer-put h = rw e h
+
+module _ {column : Column} (a : ℕ) (e : column ≡ Values) where
+  pub value-sized : Sized (wordOf column a) 7 1
+  unfolding wordOf
+  value-sized = rw e (record { is = refl; few = omega arith })
+
+  pub value-known : {out w : List ℕ} {at : ℕ} → Wording (highest column) a out at w → a ≤ 7
+  unfolding highest
+  value-known h = rw e at (h .known)
+
+  pub value-room : {most : ℕ} {out : List ℕ} {at : ℕ} → Wording most a out at (wordOf column a)
+      → at < length out
+  unfolding wordOf
+  value-room h = let r = rw e at (h .room) in omega arith
+
+  pub value-put : {b : ℕ} {out out′ : List ℕ} {at r : ℕ} → b ≡ letter a → Put out at (b ∷ []) out′ r
+      → Put out at (wordOf column a) out′ r
+  unfolding wordOf
+  value-put l h = rw (e, ← l) h
+
 pub share-start : (yeses n m : ℕ) (out : List ℕ) (at : ℕ) → m ≡ millionths yeses (n - 1) → 1 < n
     → Room out at (share yeses n)
     → Going out at (share yeses n) (decimal (m / 1000000) ∷ (46 ∷ []) ∷ digits 6 m ∷ []) out at
@@ -52,10 +94,10 @@ share-start yeses n m out at e h r =
     r
 
 -- the parts of each text, of which none is written yet
-pub line-start : (time a : ℕ) (out : List ℕ) (at : ℕ) → Room out at (line time a)
-    → Going out at (line time a) (decimal time ∷ bytes " " ∷ word a ∷ bytes "\n" ∷ []) out at
+pub line-start : (column : Column) (time a : ℕ) (out : List ℕ) (at : ℕ) → Room out at (line column time a)
+    → Going out at (line column time a) (decimal time ∷ bytes " " ∷ wordOf column a ∷ bytes "\n" ∷ []) out at
 unfolding line joined
-line-start time a out at r = going-start _ refl r
+line-start column time a out at r = going-start _ refl r
 
 pub last-start : (yeses noes unknowns : ℕ) (out : List ℕ) (at : ℕ) → Room out at (lastLine yeses noes unknowns)
     → Going out at (lastLine yeses noes unknowns)
@@ -87,35 +129,37 @@ unfolding totalColumns joined
 total-start yeses unknowns noes patterns events out at r = going-start _ refl r
 
 -- the lines, row by row
-module _ (times answers : List ℕ) {out : List ℕ} {at : ℕ} where
-  pub rows-start : Lining times answers out at
-      → Going out at (lines times answers) (lines (drop 0 times) (drop 0 answers) ∷ []) out at
-  rows-start h = going-start _ (sym (append-nil (lines times answers))) (h .room)
+module _ (column : Column) (times codes : List ℕ) {out : List ℕ} {at : ℕ} where
+  pub rows-start : Lining column times codes out at
+      → Going out at (lines column times codes) (lines column (drop 0 times) (drop 0 codes) ∷ []) out at
+  rows-start h = going-start _ (sym (append-nil (lines column times codes))) (h .room)
 
-  module _ (i : ℕ) (same : length answers ≡ length times) {w out′ : List ℕ} {p : ℕ} where
-    pub rows-going : i < length answers
-        → Going out at w (lines (drop i times) (drop i answers) ∷ []) out′ p
+  module _ (i : ℕ) (same : length codes ≡ length times) {w out′ : List ℕ} {p : ℕ} where
+    pub rows-going : i < length codes
+        → Going out at w (lines column (drop i times) (drop i codes) ∷ []) out′ p
         → Going out at w
-        (line (getD times i 0) (getD answers i 0) ∷ lines (drop (i + 1) times) (drop (i + 1) answers) ∷ []) out′ p
+        (line column (getD times i 0) (getD codes i 0)
+        ∷ lines column (drop (i + 1) times) (drop (i + 1) codes) ∷ [])
+        out′ p
     rows-going l g =
         going-parts
         (append-nil _
-        ∙ lines-next times answers i (omega arith) l
-        ∙ ap (λ (x : List ℕ). line (getD times i 0) (getD answers i 0) ++ x) (sym (append-nil _)))
+        ∙ lines-next column times codes i (omega arith) l
+        ∙ ap (λ (x : List ℕ). line column (getD times i 0) (getD codes i 0) ++ x) (sym (append-nil _)))
         g
 
-    pub rows-done : length answers ≤ i → Going out at w (lines (drop i times) (drop i answers) ∷ []) out′ p
+    pub rows-done : length codes ≤ i → Going out at w (lines column (drop i times) (drop i codes) ∷ []) out′ p
         → Put out at w out′ p
-    rows-done l g = going-end (going-parts (append-nil _ ∙ lines-none times answers i (omega arith)) g)
+    rows-done l g = going-end (going-parts (append-nil _ ∙ lines-none column times codes i (omega arith)) g)
 
-pub row-asked : {times answers out w out′ : List ℕ} {at p i time : ℕ} {left : List (List ℕ)}
-    → Listable times answers
-    → i < length answers → time ≡ getD times i 0
-    → Going out at w (line (getD times i 0) (getD answers i 0) ∷ left) out′ p
-    → Wording (getD answers i 0) out′ p (line time (getD answers i 0))
-row-asked {i = i} h l e g = rw e (record { known = h .good i l; room = going-room g })
+pub row-asked : {column : Column} {times codes out w out′ : List ℕ} {at p i time : ℕ} {left : List (List ℕ)}
+    → Lining column times codes out at
+    → i < length codes → time ≡ getD times i 0
+    → Going out at w (line column (getD times i 0) (getD codes i 0) ∷ left) out′ p
+    → Wording (highest column) (getD codes i 0) out′ p (line column time (getD codes i 0))
+row-asked {i = i} h l e g = rw e (record { known = h .listable .good i l; room = going-room g })
 
-pub row-put : (times : List ℕ) (i a : ℕ) {time : ℕ} {out out′ : List ℕ} {p q : ℕ}
+pub row-put : (column : Column) (times : List ℕ) (i a : ℕ) {time : ℕ} {out out′ : List ℕ} {p q : ℕ}
     → time ≡ getD times i 0
-    → Put out p (line time a) out′ q → Put out p (line (getD times i 0) a) out′ q
-row-put times i a e h = put-as (ap (λ (t : ℕ). line t a) e) h
+    → Put out p (line column time a) out′ q → Put out p (line column (getD times i 0) a) out′ q
+row-put column times i a e h = put-as (ap (λ (t : ℕ). line column t a) e) h

@@ -1,8 +1,8 @@
 -- The statements that the texts stand for, besides Digits, Rounding and Examples.
 --   delivers-unique    of a line: outcome and buffer afterwards follow from the input
---   lists-unique       of a listing: the same
+--   lists-unique       of a listing of answers: the same
+--   values-unique      of a listing of values: the same
 --   listed-totals      where the answers are those defined of a pattern, the last line's numbers are its totals
--- Assumes nothing.
 use Prim.Native.Nat.{ℕ, _+_}
 use mathlib.Core.Path.{_≡_, sym, ap, _∙_}
 use mathlib.Core.List.{List, []}
@@ -19,8 +19,8 @@ use Rattle.alf.proofs.Outcomes.{AllFixed, at-fixed, first-fixed, comes-unique}
 use Rattle.alf.proofs.Tables.{listed-at}
 use Rattle.evaluator.proofs.Lists.{listed-length}
 use Rattle.writer.specs.Writing.{after}
-use Rattle.listing.specs.Listing.{howMany, listing}
-use Rattle.listing.specs.Calls.{lineOrder, Delivers, listOrder, ListsText}
+use Rattle.listing.specs.Listing.{howMany, listing, valuesListing}
+use Rattle.listing.specs.Calls.{lineOrder, Delivers, listOrder, ListsCodes, ListsText, ValuesText}
 
 abbrev Same : Outcome → Outcome → List ℕ → List ℕ → Type 0
 Same r s x y = (r ≡ s) × (x ≡ y)
@@ -35,16 +35,31 @@ delivers-unique w out {r = r} {s = s} a b =
     (b .outcome) in
     (e, a .memory ∙ ap (after w out) e ∙ sym (b .memory))
 
+codes-unique :
+    (most : ℕ) (text times codes out : List ℕ) {x y : List ℕ} {r s : Outcome} →
+    ListsCodes most text times codes out x r →
+    ListsCodes most text times codes out y s →
+    Same r s x y
+codes-unique most text times codes out {r = r} {s = s} a b =
+    let f : AllFixed (listOrder most text times codes (length out)) =
+    (at-fixed _ _, (first-fixed _, (at-fixed _ _, tt))) in
+    let e = comes-unique (listOrder most text times codes (length out)) _ f (λ j k p q. p ∙ sym q) r s (a .outcome)
+    (b .outcome) in
+    (e, a .memory ∙ ap (after text out) e ∙ sym (b .memory))
+
 pub lists-unique :
     (times answers out : List ℕ) {x y : List ℕ} {r s : Outcome} →
     ListsText times answers out x r →
     ListsText times answers out y s →
     Same r s x y
-lists-unique times answers out {r = r} {s = s} a b =
-    let f : AllFixed (listOrder times answers (length out)) = (at-fixed _ _, (first-fixed _, (at-fixed _ _, tt))) in
-    let e = comes-unique (listOrder times answers (length out)) _ f (λ j k p q. p ∙ sym q) r s (a .outcome)
-    (b .outcome) in
-    (e, a .memory ∙ ap (after (listing times answers) out) e ∙ sym (b .memory))
+lists-unique times answers out = codes-unique 3 (listing times answers) times answers out
+
+pub values-unique :
+    (times values out : List ℕ) {x y : List ℕ} {r s : Outcome} →
+    ValuesText times values out x r →
+    ValuesText times values out y s →
+    Same r s x y
+values-unique times values out = codes-unique 7 (valuesListing times values) times values out
 
 pub listed-totals : (st : Boolean → ℕ → ℕ) (p : Vector) (n : ℕ) (a : Answer)
     → howMany (listed 0 n (λ i. numberOf (rowAnswer st p i))) (numberOf a) ≡ total st p n a

@@ -1,6 +1,6 @@
 -- What the calls promise: the text at the front of the lent buffer, with its length, or a refusal. A listing: 18, 15
--- for an answer that is none of the four, 9. A line of the table: 9.
--- Main names: Delivers, Lists, listOrder, ListsText.
+-- for an answer that is none of the four or a value that is no state, 9. A line of the table: 9.
+-- Main names: Delivers, Lists, listOrder, ListsText, ValuesText.
 use Prim.Native.Nat.{ℕ, _<_}
 use mathlib.Core.Path.{_≡_}
 use mathlib.Core.List.{List, [], _∷_}
@@ -8,7 +8,7 @@ use lib.ListN.{length, getD}
 use Rattle.alf.specs.declared.Outcome.{Outcome}
 use Rattle.alf.specs.Refusals.{Row, Order, check, First, bad-lists, RowCount, no-room, Comes}
 use Rattle.writer.specs.Writing.{after}
-use Rattle.listing.specs.Listing.{listing}
+use Rattle.listing.specs.Listing.{listing, valuesListing}
 
 -- 9, or done
 abbrev pub lineOrder : List ℕ → ℕ → Order
@@ -18,23 +18,30 @@ pub record Delivers (text out out′ : List ℕ) (r : Outcome) : Type 0 where
   pub outcome : Comes (lineOrder text (length out)) (λ k. k ≡ length text) r
   pub memory : out′ ≡ after text out r
 
--- 1 to 65,535 times, and as many answers
-pub record Lists (times answers : ℕ) : Type 0 where
+-- 1 to 65,535 times, and as many codes: answers, or values
+pub record Lists (times codes : ℕ) : Type 0 where
   pub rows : RowCount times
-  pub same : answers ≡ times
+  pub same : codes ≡ times
 
--- the first answer that is none of document 01's four numbers
-abbrev pub bad-answer : List ℕ → Row
-bad-answer answers = First (λ i. (i < length answers) × (3 < getD answers i 0))
+-- the first code above `most`
+abbrev pub bad-above : ℕ → List ℕ → Row
+bad-above most codes = First (λ i. (i < length codes) × (most < getD codes i 0))
 
 -- 18, 15, 9
-abbrev pub listOrder : List ℕ → List ℕ → ℕ → Order
-listOrder times answers room =
-    check 18 (bad-lists (Lists (length times) (length answers)))
-    ∷ check 15 (bad-answer answers)
-    ∷ lineOrder (listing times answers) room
+abbrev pub listOrder : ℕ → List ℕ → List ℕ → List ℕ → ℕ → Order
+listOrder most text times codes room =
+    check 18 (bad-lists (Lists (length times) (length codes)))
+    ∷ check 15 (bad-above most codes)
+    ∷ lineOrder text room
 
-pub record ListsText (times answers out out′ : List ℕ) (r : Outcome) : Type 0 where
-  pub outcome :
-      Comes (listOrder times answers (length out)) (λ k. k ≡ length (listing times answers)) r
-  pub memory : out′ ≡ after (listing times answers) out r
+-- a text that lists codes, each at most `most`
+pub record ListsCodes (most : ℕ) (text times codes out out′ : List ℕ) (r : Outcome) : Type 0 where
+  pub outcome : Comes (listOrder most text times codes (length out)) (λ k. k ≡ length text) r
+  pub memory : out′ ≡ after text out r
+
+-- answers are document 01's four numbers, values its eight codes of states
+abbrev pub ListsText : List ℕ → List ℕ → List ℕ → List ℕ → Outcome → Type 0
+ListsText times answers = ListsCodes 3 (listing times answers) times answers
+
+abbrev pub ValuesText : List ℕ → List ℕ → List ℕ → List ℕ → Outcome → Type 0
+ValuesText times values = ListsCodes 7 (valuesListing times values) times values

@@ -6,7 +6,8 @@ use mathlib.Core.List.{List}
 use lib.ListN.{length, getD}
 use Rattle.writer.specs.Inner.{Room}
 use Rattle.listing.specs.Numbers.{width}
-use Rattle.listing.specs.Listing.{lines, line, word, listing}
+use Rattle.listing.specs.declared.lines.Column.{Column}
+use Rattle.listing.specs.Listing.{highest, lines}
 use Rattle.listing.specs.Calls.{Lists}
 
 -- how many digits a number below 2^64 needs
@@ -20,26 +21,26 @@ pub record Sized (w : List ℕ) (most r : ℕ) : Type 0 where
   pub is : r ≡ length w
   pub few : r ≤ most
 
--- r is the place of the first answer above 3, or how many there are
-pub record AnswersTo (answers : List ℕ) (r : ℕ) : Type 0 where
-  pub high : r ≤ length answers
-  pub good : (i : ℕ) → i < r → getD answers i 0 ≤ 3
-  pub bad : r < length answers → 3 < getD answers r 0
+-- r is the place of the first code above `most`, or how many codes there are
+pub record CodesTo (most : ℕ) (codes : List ℕ) (r : ℕ) : Type 0 where
+  pub high : r ≤ length codes
+  pub good : (i : ℕ) → i < r → getD codes i 0 ≤ most
+  pub bad : r < length codes → most < getD codes r 0
 
 -- the lists pass 18 and 15
-pub record Listable (times answers : List ℕ) : Type 0 where
-  pub lists : Lists (length times) (length answers)
-  pub good : (i : ℕ) → i < length answers → getD answers i 0 ≤ 3
+pub record Listable (most : ℕ) (times codes : List ℕ) : Type 0 where
+  pub lists : Lists (length times) (length codes)
+  pub good : (i : ℕ) → i < length codes → getD codes i 0 ≤ most
 
--- an answer's word, or a line with it, has room
-pub record Wording (a : ℕ) (out : List ℕ) (at : ℕ) (w : List ℕ) : Type 0 where
-  pub known : a ≤ 3
+-- a code's word, or a line with it, has room
+pub record Wording (most a : ℕ) (out : List ℕ) (at : ℕ) (w : List ℕ) : Type 0 where
+  pub known : a ≤ most
   pub room : Room out at w
 
 -- the lines of all rows have room
-pub record Lining (times answers out : List ℕ) (at : ℕ) : Type 0 where
-  pub listable : Listable times answers
-  pub room : Room out at (lines times answers)
+pub record Lining (column : Column) (times codes out : List ℕ) (at : ℕ) : Type 0 where
+  pub listable : Listable (highest column) times codes
+  pub room : Room out at (lines column times codes)
 
 -- counts of 32 bits, and some event
 pub record Counted (yeses events : ℕ) : Type 0 where

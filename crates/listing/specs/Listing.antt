@@ -1,11 +1,15 @@
 -- Document 01, "The program's listing": a heading, a line for each row with its time and its answer in words, and last
 -- how many rows answer yes, no and unknown. Every line ends in LF, the last too. Main name: listing.
--- Case 1's listing is computed in proofs/Examples.antt, byte for byte.
+-- The listing of an expression's values has the same lines, with the letter of a state for the answer's word, under a
+-- heading of its own, and no last line. Main name: valuesListing.
+-- Case 1's listing and case 8's values are computed in proofs/Examples.antt, byte for byte.
 use Prim.Native.Nat.{ℕ}
 use mathlib.Core.List.{List, [], _∷_, _++_}
 use lib.Dec.{eqb}
 use lib.ListN.{length, getD}
 use Rattle.alf.specs.Words.{count}
+use Rattle.listing.specs.declared.lines.Column.{Column}
+use Rattle.listing.specs.declared.lines.Column.the-variants.{Answers, Values}
 use Rattle.listing.specs.Text.{bytes, joined}
 use Rattle.listing.specs.Numbers.{decimal}
 
@@ -13,14 +17,27 @@ use Rattle.listing.specs.Numbers.{decimal}
 unfoldable pub word : ℕ → List ℕ
 word a = getD (bytes "no" ∷ bytes "yes" ∷ bytes "unknown" ∷ bytes "none" ∷ []) a []
 
-unfoldable pub line : ℕ → ℕ → List ℕ
-line time answer = joined (decimal time ∷ bytes " " ∷ word answer ∷ bytes "\n" ∷ [])
+-- a state's letter, by document 01's code of the state
+unfoldable pub letter : ℕ → ℕ
+letter s = getD (bytes "01XHLWZU") s 0
+
+-- what a row's line tells behind the time, and the highest number that has a word
+unfoldable pub wordOf : Column → ℕ → List ℕ
+wordOf Answers a = word a
+wordOf Values s = letter s ∷ []
+
+unfoldable pub highest : Column → ℕ
+highest Answers = 3
+highest Values = 7
+
+unfoldable pub line : Column → ℕ → ℕ → List ℕ
+line column time code = joined (decimal time ∷ bytes " " ∷ wordOf column code ∷ bytes "\n" ∷ [])
 
 -- a line for each row
-unfoldable pub lines : List ℕ → List ℕ → List ℕ
-lines [] answers = []
-lines (t ∷ times) [] = []
-lines (t ∷ times) (a ∷ answers) = line t a ++ lines times answers
+unfoldable pub lines : Column → List ℕ → List ℕ → List ℕ
+lines column [] codes = []
+lines column (t ∷ times) [] = []
+lines column (t ∷ times) (a ∷ codes) = line column t a ++ lines column times codes
 
 -- how many answers have a number
 unfoldable pub howMany : List ℕ → ℕ → ℕ
@@ -36,6 +53,9 @@ unfoldable pub listing : List ℕ → List ℕ → List ℕ
 listing times answers =
     joined
     (bytes "time answer\n"
-    ∷ lines times answers
+    ∷ lines Answers times answers
     ∷ lastLine (howMany answers 1) (howMany answers 0) (howMany answers 2)
     ∷ [])
+
+unfoldable pub valuesListing : List ℕ → List ℕ → List ℕ
+valuesListing times values = joined (bytes "time value\n" ∷ lines Values times values ∷ [])

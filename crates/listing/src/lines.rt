@@ -1,11 +1,12 @@
-// The lines of a listing.
+// The lines of a listing, of a pattern's answers or of an expression's values.
 ghost use mathlib.Core.Path.{_≡_};
 ghost use Prim.Native.Nat.{_≤_, _<_};
 ghost use lib.Dec.{eqb};
 ghost use lib.ListN.{length, getD};
 ghost use Rattle.alf.specs.Words.{if_then_else_};
 ghost use Rattle.writer.specs.Inner.{Put, Room};
-ghost use Rattle.listing.specs.Listing.{word, line, lines, howMany, lastLine};
+ghost use Rattle.listing.specs.Listing.{word, letter, wordOf, highest, line, lines};
+ghost use Rattle.listing.specs.Listing.{howMany, lastLine};
 ghost use Rattle.listing.specs.Inner.{Sized, Listable, Wording, Lining};
 use crate::numbers::put_decimal;
 use crate::numbers::width_of;
@@ -13,6 +14,12 @@ use crate::puts::push;
 use crate::puts::put;
 use alf::RowNo;
 use alf::Stamp;
+
+// What a listing tells of each row: the answer of a pattern, or the value of an expression.
+pub enum Column {
+    Answers,
+    Values,
+}
 
 // The length of an answer's word.
 fn word_size(a: u8) -> usize
@@ -32,7 +39,7 @@ fn word_size(a: u8) -> usize
 }
 
 fn put_word(a: u8, out: &mut [u8], at: usize) -> usize
-    requires { ⌜ Wording a (now out) at (word a) ⌝ }
+    requires { ⌜ Wording 3 a (now out) at (word a) ⌝ }
     ensures { λ r. ⌜ Put (now (out .entry)) at (word a) (now (out .exit)) r ⌝ }
 {
     if a == 0 {
@@ -47,6 +54,36 @@ fn put_word(a: u8, out: &mut [u8], at: usize) -> usize
     put(b"none", out, at)
 }
 
+// The letter of a state.
+fn letter_of(s: u8) -> u8
+    requires { ⌜ s ≤ 7 ⌝ }
+    ensures { λ r. ⌜ r ≡ letter s ⌝ }
+{
+    let letters = b"01XHLWZU";
+    letters[s as usize]
+}
+
+// The length of what a line tells behind the time.
+fn code_size(column: Column, a: u8) -> usize
+    requires { ⌜ a ≤ highest column ⌝ }
+    ensures { λ r. ⌜ Sized (wordOf column a) 7 r ⌝ }
+{
+    match column {
+        Column::Answers => word_size(a),
+        Column::Values => 1,
+    }
+}
+
+fn put_code(column: Column, a: u8, out: &mut [u8], at: usize) -> usize
+    requires { ⌜ Wording (highest column) a (now out) at (wordOf column a) ⌝ }
+    ensures { λ r. ⌜ Put (now (out .entry)) at (wordOf column a) (now (out .exit)) r ⌝ }
+{
+    match column {
+        Column::Answers => put_word(a, out, at),
+        Column::Values => push(out, at, letter_of(a)),
+    }
+}
+
 // The time of a row.
 fn stamp_of(times: &[u32], row: RowNo) -> Stamp
     requires { ⌜ row .0 < length (now times) ⌝ }
@@ -57,50 +94,50 @@ fn stamp_of(times: &[u32], row: RowNo) -> Stamp
 }
 
 // The length of a row's line.
-fn line_size(time: Stamp, a: u8) -> usize
-    requires { ⌜ a ≤ 3 ⌝ }
-    ensures { λ r. ⌜ Sized (line (time .0) a) 29 r ⌝ }
+fn line_size(column: Column, time: Stamp, a: u8) -> usize
+    requires { ⌜ a ≤ highest column ⌝ }
+    ensures { λ r. ⌜ Sized (line column (time .0) a) 29 r ⌝ }
 {
     let t = time.0;
-    width_of(t as u64) + word_size(a) + 2
+    width_of(t as u64) + code_size(column, a) + 2
 }
 
-// A row's line: its time, its answer.
-fn put_line(time: Stamp, a: u8, out: &mut [u8], at: usize) -> usize
-    requires { ⌜ Wording a (now out) at (line (time .0) a) ⌝ }
-    ensures { λ r. ⌜ Put (now (out .entry)) at (line (time .0) a) (now (out .exit)) r ⌝ }
+// A row's line: its time, its answer or value.
+fn put_line(column: Column, time: Stamp, a: u8, out: &mut [u8], at: usize) -> usize
+    requires { ⌜ Wording (highest column) a (now out) at (line column (time .0) a) ⌝ }
+    ensures { λ r. ⌜ Put (now (out .entry)) at (line column (time .0) a) (now (out .exit)) r ⌝ }
 {
     let t = time.0;
     let p = put_decimal(t as u64, out, at);
     let q = push(out, p, b' ');
-    let r = put_word(a, out, q);
+    let r = put_code(column, a, out, q);
     push(out, r, b'\n')
 }
 
 // The length of all rows' lines.
-pub fn lines_size(times: &[u32], answers: &[u8]) -> usize
-    requires { ⌜ Listable (now times) (now answers) ⌝ }
-    ensures { λ r. ⌜ Sized (lines (now (times .entry)) (now (answers .entry))) 1900515 r ⌝ }
+pub fn lines_size(column: Column, times: &[u32], codes: &[u8]) -> usize
+    requires { ⌜ Listable (highest column) (now times) (now codes) ⌝ }
+    ensures { λ r. ⌜ Sized (lines column (now (times .entry)) (now (codes .entry))) 1900515 r ⌝ }
 {
     let mut size: usize = 0;
     let mut i: usize = 0;
-    while i < answers.len() {
-        size += line_size(stamp_of(times, RowNo(i as u32)), answers[i]);
+    while i < codes.len() {
+        size += line_size(column, stamp_of(times, RowNo(i as u32)), codes[i]);
         i += 1;
     }
     size
 }
 
 // All rows' lines.
-pub fn put_lines(times: &[u32], answers: &[u8], out: &mut [u8], at: usize) -> usize
-    requires { ⌜ Lining (now times) (now answers) (now out) at ⌝ }
-    ensures { λ r. ⌜ Put (now (out .entry)) at (lines (now (times .entry)) (now (answers .entry)))
+pub fn put_lines(column: Column, times: &[u32], codes: &[u8], out: &mut [u8], at: usize) -> usize
+    requires { ⌜ Lining column (now times) (now codes) (now out) at ⌝ }
+    ensures { λ r. ⌜ Put (now (out .entry)) at (lines column (now (times .entry)) (now (codes .entry)))
         (now (out .exit)) r ⌝ }
 {
     let mut p = at;
     let mut i: usize = 0;
-    while i < answers.len() {
-        p = put_line(stamp_of(times, RowNo(i as u32)), answers[i], out, p);
+    while i < codes.len() {
+        p = put_line(column, stamp_of(times, RowNo(i as u32)), codes[i], out, p);
         i += 1;
     }
     p

@@ -1,7 +1,8 @@
-// Document 01's listing of a pattern's answers, into a lent buffer.
+// Document 01's listing of a pattern's answers, and that of an expression's values, each into a lent buffer.
 ghost use Rattle.names.specs.Check.{Tells};
-ghost use Rattle.listing.specs.Calls.{Lists, ListsText};
-ghost use Rattle.listing.specs.Inner.{AnswersTo, Listable};
+ghost use Rattle.listing.specs.Calls.{Lists, ListsText, ValuesText};
+ghost use Rattle.listing.specs.Inner.{CodesTo, Listable};
+use crate::lines::Column;
 use crate::lines::count_of;
 use crate::lines::last_size;
 use crate::lines::lines_size;
@@ -11,9 +12,9 @@ use crate::puts::put;
 use alf::Outcome;
 use names::refuse;
 
-// Whether there are 1 to 65,535 times, and as many answers.
-fn lists_fit(times: usize, answers: usize) -> bool
-    ensures { λ r. ⌜ Tells (Lists times answers) r ⌝ }
+// Whether there are 1 to 65,535 times, and as many codes.
+fn lists_fit(times: usize, codes: usize) -> bool
+    ensures { λ r. ⌜ Tells (Lists times codes) r ⌝ }
 {
     if times == 0 {
         return false;
@@ -21,19 +22,19 @@ fn lists_fit(times: usize, answers: usize) -> bool
     if 65535 < times {
         return false;
     }
-    if answers != times {
+    if codes != times {
         return false;
     }
     true
 }
 
-// The place of the first answer above 3, or how many there are.
-fn first_bad(answers: &[u8]) -> usize
-    ensures { λ r. ⌜ AnswersTo (now (answers .entry)) r ⌝ }
+// The place of the first code above `most`, or how many there are.
+fn first_bad(most: u8, codes: &[u8]) -> usize
+    ensures { λ r. ⌜ CodesTo most (now (codes .entry)) r ⌝ }
 {
     let mut i = 0;
-    while i < answers.len() {
-        if 3 < answers[i] {
+    while i < codes.len() {
+        if most < codes[i] {
             return i;
         }
         i += 1;
@@ -43,19 +44,19 @@ fn first_bad(answers: &[u8]) -> usize
 
 // The listing of lists that are known to be good, if there is room.
 fn write_listing(times: &[u32], answers: &[u8], out: &mut [u8]) -> Outcome
-    requires { ⌜ Listable (now times) (now answers) ⌝ }
+    requires { ⌜ Listable 3 (now times) (now answers) ⌝ }
     ensures { λ r. ⌜ ListsText (now (times .entry)) (now (answers .entry)) (now (out .entry))
         (now (out .exit)) r ⌝ }
 {
     let yes = count_of(answers, 1);
     let no = count_of(answers, 0);
     let unknown = count_of(answers, 2);
-    let size = lines_size(times, answers) + last_size(yes, no, unknown) + 12;
+    let size = lines_size(Column::Answers, times, answers) + last_size(yes, no, unknown) + 12;
     if out.len() < size {
         return refuse(9, size);
     }
     let p = put(b"time answer\n", out, 0);
-    let q = put_lines(times, answers, out, p);
+    let q = put_lines(Column::Answers, times, answers, out, p);
     put_last(yes, no, unknown, out, q);
     Outcome::Done(size)
 }
@@ -69,9 +70,40 @@ pub fn list(times: &[u32], answers: &[u8], out: &mut [u8]) -> Outcome
     if !lists_fit(times.len(), answers.len()) {
         return refuse(18, 0);
     }
-    let bad = first_bad(answers);
+    let bad = first_bad(3, answers);
     if bad < answers.len() {
         return refuse(15, bad);
     }
     write_listing(times, answers, out)
+}
+
+// The values of lists that are known to be good, if there is room.
+fn write_values(times: &[u32], values: &[u8], out: &mut [u8]) -> Outcome
+    requires { ⌜ Listable 7 (now times) (now values) ⌝ }
+    ensures { λ r. ⌜ ValuesText (now (times .entry)) (now (values .entry)) (now (out .entry))
+        (now (out .exit)) r ⌝ }
+{
+    let needed = lines_size(Column::Values, times, values) + 11;
+    if out.len() < needed {
+        return refuse(9, needed);
+    }
+    let p = put(b"time value\n", out, 0);
+    put_lines(Column::Values, times, values, out, p);
+    Outcome::Done(needed)
+}
+
+// A line for each row with its time and the letter of a value, given as document 01's code; the length of all. Refused
+// with 18, 15 or 9.
+pub fn list_values(times: &[u32], values: &[u8], out: &mut [u8]) -> Outcome
+    ensures { λ r. ⌜ ValuesText (now (times .entry)) (now (values .entry)) (now (out .entry))
+        (now (out .exit)) r ⌝ }
+{
+    if !lists_fit(times.len(), values.len()) {
+        return refuse(18, 0);
+    }
+    let bad = first_bad(7, values);
+    if bad < values.len() {
+        return refuse(15, bad);
+    }
+    write_values(times, values, out)
 }

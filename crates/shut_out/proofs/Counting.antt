@@ -81,17 +81,17 @@ unfolding Finds
 tries-unlike m w h = h (w .comes .1 .count)
 
 -- "an invented .. total": case 1 has one yes, three no, one unknown
-total-yes : total (stateAt names states) rises rows Yes ≡ 1
+pub total-yes : total (stateAt names states) rises rows Yes ≡ 1
 unfolding total count states rowAnswer numberOf named best answer greatest state edgeOn asked digitAsked letterAsked
     reduce
 total-yes = refl
 
-total-no : total (stateAt names states) rises rows No ≡ 3
+pub total-no : total (stateAt names states) rises rows No ≡ 3
 unfolding total count states rowAnswer numberOf named best answer greatest state edgeOn asked digitAsked letterAsked
     reduce
 total-no = refl
 
-total-unknown : total (stateAt names states) rises rows Unknown ≡ 1
+pub total-unknown : total (stateAt names states) rises rows Unknown ≡ 1
 unfolding total count states rowAnswer numberOf named best answer greatest state edgeOn asked digitAsked letterAsked
     reduce
 total-unknown = refl

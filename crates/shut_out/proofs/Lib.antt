@@ -5,7 +5,8 @@
 -- program that meets them; and Attached says that these contracts are those of the functions.
 --
 -- refusing everything, a good input among it
---     `no-refusal` of each call (Refusing..); on T, under its name (EveryText, EveryCall, EveryList)
+--     `no-refusal` of each call (Refusing..); on T, under its name (EveryText, EveryCall, EveryList, EveryJob,
+--     EveryAlternatives)
 -- accepting what a row of the table shuts out
 --     `no-acceptance` of each call (Refusing..)
 -- another number, another place, another order
@@ -26,10 +27,16 @@
 --     `one-number-of-tries`, `tries-unlike` (Counting)
 -- an invented total; nothing counted; unknown counted as no
 --     `invented-total`, `totals-nothing`, `unknown-counted-as-no` (Counting)
+-- one total for all patterns; another total of a text
+--     `one-total-for-all`, `invented-total-of-text` (EveryJob)
+-- the sums of another table
+--     `other-sums` (EveryJob)
+-- a line of the table for a pattern that is counted otherwise, or for a good one that is said to be refused
+--     `counted-in-line`, `table-line` (RefusingJobs)
 -- a queue right at its first event only; one that keeps nothing
 --     `first-event-only`, `stands-still`, `keeps-nothing` (Counting); `listed-stands-still` (NothingElse)
 -- a correction that changes nothing
---     `changes-nothing`, `changes-nothing-on-T` (Correcting)
+--     `changes-nothing`, `changes-nothing-on-T` (Correcting); by letters, `letters-change-nothing` (EveryJob)
 -- one that stops at row r, or anywhere before min(r+K, n-1)
 --     `stops-at-row-r`, `stops-at-row-3`, `leaves-junk` (Correcting)
 -- one that writes elsewhere, or stores nothing
@@ -41,17 +48,22 @@
 -- any other result, text, file or list than the one defined
 --     `no-other-answer`, `no-other-text`, .. (NothingElse)
 -- a contract that is not the function's own, or that asks something
---     each call under its name (Attached, AttachedLists), each function for C (AttachedForC, AttachedListsForC)
+--     each call under its name (Attached, AttachedLists, AttachedJobs), each function for C (AttachedForC,
+--     AttachedListsForC)
 pub mod Reasons
 pub mod Refusing
 pub mod RefusingRows
 pub mod RefusingUpdates
 pub mod RefusingLists
 pub mod RefusingTexts
+pub mod RefusingJobs
+pub mod RefusingAlternatives
 pub mod OnT
 pub mod EveryText
 pub mod EveryCall
 pub mod EveryList
+pub mod EveryJob
+pub mod EveryAlternatives
 pub mod Accepting
 pub mod Answering
 pub mod Counting
@@ -60,5 +72,6 @@ pub mod Writing
 pub mod NothingElse
 pub mod Attached
 pub mod AttachedLists
+pub mod AttachedJobs
 pub mod AttachedForC
 pub mod AttachedListsForC

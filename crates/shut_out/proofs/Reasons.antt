@@ -2,6 +2,7 @@
 -- table says.
 --   Kept         what is asked of a contract
 --   exactly      what follows
+--   narrowed     what is said of a contract is so of one that allows no more
 --   comes-parts  of a call whose result is an `Outcome`
 use Prim.Native.Nat.{ℕ}
 use mathlib.Core.Path.{_≡_, refl}
@@ -41,6 +42,15 @@ module _ {R M : Type 0} {order : Order} {refused : Refusal → R} {allows : R �
       go : Held order → (x : R) → Passed order ⊎ IsRefusal refused x → IsRefusal refused x
       go h x (inl a) = absurd (passed-held order a h)
       go h x (inr r) = r
+
+  pub narrowed : {good : Type 0} {inner : R → M → Type 0} → Exactly good order refused allows before
+      → ((x : R) (m : M) → inner x m → allows x m) → Exactly good order refused inner before
+  narrowed e f =
+      record {
+        no-refusal = λ g r m w. e .no-refusal g r m (f (refused r) m w);
+        no-acceptance = λ h x m w. e .no-acceptance h x m (f x m w);
+        no-other = λ n p h x m w. e .no-other n p h x m (f x m w);
+      }
 
 pub comes-parts : (o : Order) (made : ℕ → Type 0) (x : Outcome) → Comes o made x → Passed o ⊎ IsRefusal Refused x
 unfolding Comes

@@ -3,17 +3,17 @@
 -- nothing but a refusal, with the number and the place of the first row that holds; and that refused, nothing is
 -- written. Here: names, texts, files, rewriting, listing. The calls over rows stand in RefusingRows, reading in
 -- RefusingTexts.
-use Prim.Native.Nat.{ℕ, _*_, _/_, _<_, _≤_}
+use Prim.Native.Nat.{ℕ, _/_, _<_, _≤_}
 use native.Mathlib.Omega.{arith}
 use mathlib.Core.Path.{_≡_, refl}
-use mathlib.Core.Logic.{_⊎_, inl, inr}
 use mathlib.Core.List.{List}
 use lib.ListN.{length, getD}
 use Rattle.alf.specs.declared.Sort.{Sort}
 use Rattle.alf.specs.declared.Sort.the-variants.{Vector}
+use Rattle.alf.specs.declared.Outcome.{Outcome}
 use Rattle.alf.specs.declared.Outcome.the-variants as outcome
 use Rattle.alf.specs.Names.{GoodSlot}
-use Rattle.alf.specs.Refusals.{Passed, Comes, NameCount, RefusedWith}
+use Rattle.alf.specs.Refusals.{Passed, Comes, NameCount}
 use Rattle.names.specs.Check.{Slots, namesOrder}
 use Rattle.writer.specs.Writing as writing
 use Rattle.traces.specs.Format.{Trace, fileOf}
@@ -23,11 +23,12 @@ use Rattle.limits.specs.Accepted.{Accepted}
 use Rattle.rewriting.specs.Lists.{alternativesAt, stepList, testList, edgeList, operandList}
 use Rattle.rewriting.specs.Possible.{flagList}
 use Rattle.rewriting.specs.Calls as rewriting
-use Rattle.listing.specs.Listing.{listing}
+use Rattle.listing.specs.Listing.{listing, valuesListing}
 use Rattle.listing.specs.Calls as lines
+use Rattle.listing.proofs.Theorems.{values-unique}
 use Rattle.demands.proofs.Demand1 as one
 use Rattle.shut_out.specs.Reasons.{Exactly}
-use Rattle.shut_out.proofs.Reasons.{Kept, exactly, comes-parts, None, Four, both}
+use Rattle.shut_out.proofs.Reasons.{exactly, comes-parts, None, Four, both}
 
 -- Texts.
 pub record GoodNames (names : List ℕ) : Type 0 where
@@ -176,15 +177,16 @@ module _ (names : ℕ) (tree : List ℕ) where
           one = one.contradictions names tree flags .one;
         })
 
--- The listing, and each line of the table.
+-- The two listings, and each line of the table.
 module _ (out : List ℕ) where
-  module _ (times answers : List ℕ) where
+  -- codes, each at most `most`: answers, or values
+  module _ (most : ℕ) (text times codes : List ℕ) where
     pub record Listable : Type 0 where
-      pub lists : lines.Lists (length times) (length answers)
-      pub known : (i : ℕ) → i < length answers → getD answers i 0 ≤ 3
-      pub room : length (listing times answers) ≤ length out
+      pub lists : lines.Lists (length times) (length codes)
+      pub known : (i : ℕ) → i < length codes → getD codes i 0 ≤ most
+      pub room : length text ≤ length out
 
-    list-passes : Listable → Passed (lines.listOrder times answers (length out))
+    list-passes : Listable → Passed (lines.listOrder most text times codes (length out))
     unfolding Passed
     list-passes g = (
       λ p a. a .given (g .lists),
@@ -194,17 +196,30 @@ module _ (out : List ℕ) where
       ),
     )
 
-    pub list : Exactly Listable (lines.listOrder times answers (length out)) outcome.Refused
-        (λ r m. lines.ListsText times answers out m r) out
+    list-codes : ((a b : Outcome) (m n : List ℕ) → lines.ListsCodes most text times codes out m a
+        → lines.ListsCodes most text times codes out n b → (a ≡ b) × (m ≡ n))
+        → Exactly Listable (lines.listOrder most text times codes (length out)) outcome.Refused
+        (λ r m. lines.ListsCodes most text times codes out m r) out
     unfolding Comes writing.after
-    list =
+    list-codes same =
         exactly list-passes
         (record {
           reason = λ r m w. w .outcome;
           parts = λ x m w. comes-parts _ _ x (w .outcome);
           refuses = λ k p h. record { outcome = h; memory = refl };
-          one = one.list times answers out .one;
+          one = same;
         })
+
+  pub list : (times answers : List ℕ) → Exactly (Listable 3 (listing times answers) times answers)
+      (lines.listOrder 3 (listing times answers) times answers (length out)) outcome.Refused
+      (λ r m. lines.ListsText times answers out m r) out
+  list times answers = list-codes 3 (listing times answers) times answers (one.list times answers out .one)
+
+  pub list-values : (times values : List ℕ) → Exactly (Listable 7 (valuesListing times values) times values)
+      (lines.listOrder 7 (valuesListing times values) times values (length out)) outcome.Refused
+      (λ r m. lines.ValuesText times values out m r) out
+  list-values times values =
+      list-codes 7 (valuesListing times values) times values (λ a b m n x y. values-unique times values out x y)
 
   module _ (text : List ℕ) where
     line-passes : length text ≤ length out → Passed (lines.lineOrder text (length out))

@@ -1,27 +1,25 @@
 -- Shut out: "refusing everything (the table says 'exactly when')", for the two calls that read.
+--   read-passes         a text of at most 4,096 bytes that gives an expression: no row of the order holds
 --   read-expression     a text of at most 4,096 bytes that gives an expression is not refused; and the other two
 --   file-not-refused    a file that is the bytes of a trace, with room for it, is not refused
 --   file-not-accepted   a file that is the bytes of no trace is not read
 --   file-other          where the first bad record is refused, or room, this is the refusal, and nothing is written
-use Prim.Native.Nat.{ℕ, _*_, _<_, _≤_}
-use native.Mathlib.Omega.{arith}
-use mathlib.Core.Path.{_≡_, refl, sym, ap, _∙_}
+use Prim.Native.Nat.{ℕ, _*_, _≤_}
+use mathlib.Core.Path.{_≡_, refl, sym, ap}
 use mathlib.Core.Bool.{Bool, true, false}
-use mathlib.Core.Logic.{_⊎_, inl, inr}
+use mathlib.Core.Logic.{_⊎_}
 use mathlib.Core.List.{List}
 use lib.ListN.{length}
 use Rattle.alf.specs.declared.Refusal.{Refusal}
 use Rattle.alf.specs.declared.Sort.{Sort}
 use Rattle.alf.specs.Expressions.{Expression}
-use Rattle.alf.specs.Refusals.{RefusedWith}
+use Rattle.alf.specs.Refusals.{Passed}
 use Rattle.alf.proofs.Bools.{never}
-use Rattle.alf.proofs.Outcomes.{refused-passed}
-use Rattle.names.specs.Check.{namesOrder}
 use Rattle.reader.specs.declared.Read.{Read}
 use Rattle.reader.specs.Reads.{made, refusedWith}
 use Rattle.reader.specs.Reading as texts
 use Rattle.reader.specs.Reading.{readOrder, Gives, Reading}
-use Rattle.reader.proofs.Unique.{read-unique, read-complete}
+use Rattle.reader.proofs.Unique.{read-unique, gives-read, read-complete}
 use Rattle.traces.specs.declared.Reading as files
 use Rattle.traces.specs.declared.Reading.the-variants as file
 use Rattle.traces.specs.Format.{Trace, fileOf, count}
@@ -42,6 +40,15 @@ module _ (names text : List ℕ) (sort : Sort) where
 
   abbrev refused : Refusal → Read
   refused r = refusedWith (r .number) (r .place)
+
+  passed-read : {r : Read} → Reading names text sort r → r .refused ≡ false → Passed (readOrder names text sort)
+  unfolding refusedWith
+  passed-read (texts.refused n p a) e = never (sym e)
+  passed-read (texts.read a g) e = a
+
+  pub read-passes : Readable → Passed (readOrder names text sort)
+  unfolding made
+  read-passes g = passed-read (gives-read (names-pass names (g .names-good)) (g .short) (g .given)) refl
 
   not-refused : (r : Read) → Readable → Reading names text sort r → r .refused ≡ false
   unfolding made

@@ -1,4 +1,4 @@
--- `line_size` meets its contract. Assumes nothing.
+-- `line_size` meets its contract.
 use borrow.Author.Needs.{needs}
 use Rattle.listing.proofs.Sizes.{line-size}
 use Rattle.listing.proofs.lines.line_size.Statement.{statement}
@@ -10,8 +10,8 @@ cast-width-of c = search needs
 width-of-requires : tie.Need-width-of-requires
 width-of-requires c κs = search needs
 
-word-size-requires : tie.Need-word-size-requires
-word-size-requires c κs = search needs
+code-size-requires : tie.Need-code-size-requires
+code-size-requires c κs = search needs
 
 add-result : tie.Need-add-result
 add-result c = search needs
@@ -22,7 +22,7 @@ add-result-2 c = search needs
 returns : tie.Need-returns
 returns c =
     let c1 = c .before in
-    line-size _ _ (c1 .width-of .ensures) (c .word-size .ensures)
+    line-size _ _ _ (c1 .width-of .ensures) (c .code-size .ensures)
 
 pub line-size-spec : {M : Type 1} → statement M
 line-size-spec =
@@ -30,7 +30,7 @@ line-size-spec =
     (tie.spec
     cast-width-of
     width-of-requires
-    word-size-requires
+    code-size-requires
     add-result
     add-result-2
     returns)

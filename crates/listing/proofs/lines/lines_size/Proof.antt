@@ -1,4 +1,4 @@
--- `lines_size` meets its contract: the lines of the first i rows are measured. Assumes nothing.
+-- `lines_size` meets its contract: the lines of the first i rows are measured.
 use native.Mathlib.Omega.{arith}
 use Prim.Native.Nat.{_-_}
 use mathlib.Core.Path.{refl}
@@ -8,16 +8,16 @@ use Rattle.listing.proofs.lines.lines_size.Statement.{statement}
 use Rattle.listing.proofs.lines.lines_size.Tie as tie
 
 abbrev Inv-loop : tie.InvT-loop
-Inv-loop times answers size₀ i₀ size i = Sizing times answers size i
+Inv-loop column times codes size₀ i₀ size i = Sizing column times codes size i
 
 abbrev μ-loop : tie.MeasureT-loop
-μ-loop times answers size₀ i₀ size i = length answers - i
+μ-loop column times codes size₀ i₀ size i = length codes - i
 
 loop-holds : tie.Need-loop-holds Inv-loop μ-loop
 loop-holds c = sizing-first
 
-cast-t8 : tie.Need-cast-t8 Inv-loop μ-loop
-cast-t8 c =
+cast-t9 : tie.Need-cast-t9 Inv-loop μ-loop
+cast-t9 c =
     let c4 = c .before .before .before .before in
     omega (arith, c .loop-test .taken, c4 .pre .lists .same, c4 .pre .lists .rows .1)
 
@@ -82,7 +82,7 @@ lines-size-spec =
     Inv-loop
     μ-loop
     loop-holds
-    cast-t8
+    cast-t9
     stamp-of-requires
     shared-slice-read-line-size
     line-size-requires

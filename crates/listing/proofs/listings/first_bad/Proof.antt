@@ -1,4 +1,4 @@
--- `first_bad` meets its contract: the answers passed are at most 3. Assumes nothing.
+-- `first_bad` meets its contract: the codes passed are at most `most`.
 use native.Mathlib.Omega.{arith}
 use Prim.Native.Nat.{ℕ, _-_, _<_, _≤_}
 use lib.ListN.{length, getD}
@@ -7,10 +7,10 @@ use Rattle.listing.proofs.listings.first_bad.Statement.{statement}
 use Rattle.listing.proofs.listings.first_bad.Tie as tie
 
 abbrev Inv-loop : tie.InvT-loop
-Inv-loop answers i₀ i = (i ≤ length answers) × ((j : ℕ) → j < i → getD answers j 0 ≤ 3)
+Inv-loop most codes i₀ i = (i ≤ length codes) × ((j : ℕ) → j < i → getD codes j 0 ≤ most)
 
 abbrev μ-loop : tie.MeasureT-loop
-μ-loop answers i₀ i = length answers - i
+μ-loop most codes i₀ i = length codes - i
 
 loop-holds : tie.Need-loop-holds Inv-loop μ-loop
 loop-holds c = (omega arith, λ j h. absurd (omega arith))
@@ -30,7 +30,9 @@ loop-less c = omega arith
 loop-again : tie.Need-loop-again Inv-loop μ-loop
 loop-again c =
     let c3 = c .before .before .before in
-    (omega arith, good-more (c3 .before .args .answers .now) (c3 .loop .i) (c3 .loop .inv .1) (c .if1 .left))
+    let good = good-more (c3 .before .args .most) (c3 .before .args .codes .now) (c3 .loop .i) (c3 .loop .inv .1)
+    (c .if1 .left) in
+    (omega arith, good)
 
 returns-2 : tie.Need-returns-2 Inv-loop μ-loop
 returns-2 c = record { high = omega arith; good = c .before .loop .inv .1; bad = λ h. absurd (omega (arith, h)) }

@@ -1,4 +1,4 @@
--- `list` meets its contract. Assumes nothing.
+-- `list` meets its contract.
 use borrow.Author.Needs.{needs}
 use borrow.Author.Tests.{not-true, not-false}
 use Rattle.names.proofs.Slots.{told-true, told-false}
@@ -16,7 +16,7 @@ returns : tie.Need-returns
 returns c =
     let c1 = c .before in
     let c2 = c1 .before in
-    refused-18 _ _ (told-false (c2 .lists-fit .ensures) (not-true _ (c1 .if1 .taken))) (c .refuse .ensures)
+    refused-18 (told-false (c2 .lists-fit .ensures) (not-true _ (c1 .if1 .taken))) (c .refuse .ensures)
 
 first-bad-requires : tie.Need-first-bad-requires
 first-bad-requires c κs = search needs
@@ -30,7 +30,7 @@ returns-2 c =
     let c2 = c1 .before in
     let c3 = c2 .before in
     let c4 = c3 .before in
-    refused-15 _ _ (told-true (c4 .lists-fit .ensures) (not-false _ (c3 .if1 .left))) (c2 .first-bad .ensures)
+    refused-15 (told-true (c4 .lists-fit .ensures) (not-false _ (c3 .if1 .left))) (c2 .first-bad .ensures)
     (c1 .if2 .taken) (c .refuse2 .ensures)
 
 write-listing-requires : tie.Need-write-listing-requires
@@ -39,7 +39,7 @@ write-listing-requires c κs =
     let c2 = c1 .before in
     let c3 = c2 .before in
     let c4 = c3 .before in
-    listable _ _ (told-true (c4 .lists-fit .ensures) (not-false _ (c3 .if1 .left))) (c2 .first-bad .ensures)
+    listable (told-true (c4 .lists-fit .ensures) (not-false _ (c3 .if1 .left))) (c2 .first-bad .ensures)
     (c1 .if2 .left)
 
 same-length : tie.Need-same-length

@@ -1,4 +1,4 @@
--- `lists_fit` meets its contract. Assumes nothing.
+-- `lists_fit` meets its contract.
 use native.Mathlib.Omega.{arith}
 use borrow.Author.Needs.{needs}
 use Rattle.names.specs.Check.{holds, fails}

@@ -1,8 +1,9 @@
--- `write_listing` meets its contract. Assumes nothing.
+-- `write_listing` meets its contract.
 use native.Mathlib.Omega.{arith}
 use borrow.Author.Needs.{needs}
 use Rattle.writer.proofs.Going.{going-room, going-on, going-end}
 use Rattle.listing.specs.Text.{bytes}
+use Rattle.listing.specs.Listing.{highest}
 use Rattle.listing.proofs.Returns.{short, delivered, listed, listing-size, listing-start}
 use Rattle.listing.proofs.listings.write_listing.Statement.{statement}
 use Rattle.listing.proofs.listings.write_listing.Tie as tie
@@ -26,7 +27,7 @@ count-of-requires-3 c κs =
     omega (arith, c5 .pre .lists .same, c5 .pre .lists .rows .1)
 
 lines-size-requires : tie.Need-lines-size-requires
-unfolding bytes
+unfolding bytes highest
 lines-size-requires c κs =
     let c6 = c .before .before .before .before .before .before in
     c6 .pre
@@ -59,7 +60,7 @@ returns c =
     let c5 = c4 .before in
     let c6 = c5 .before in
     let c10 = c6 .before .before .before .before in
-    listed _ _ (c10 .pre) (short (listing-size (c10 .args .times .now) (c10 .args .answers .now)
+    listed (c10 .pre) (short (listing-size (c10 .args .times .now) (c10 .args .answers .now)
     (c6 .count-of .ensures) (c5 .count-of2 .ensures) (c4 .count-of3 .ensures) (c3 .lines-size .ensures)
     (c2 .last-size .ensures)) (c1 .if1 .taken) (c .refuse .ensures))
 
@@ -83,7 +84,7 @@ put-requires c κs =
     going-room g
 
 put-lines-requires : tie.Need-put-lines-requires
-unfolding bytes
+unfolding bytes highest
 put-lines-requires c κs =
     let c3 = c .before .before .before in
     let c6 = c3 .before .before .before in
@@ -143,7 +144,7 @@ returns-2 c =
     let g1 = going-on g (c10 .put .ensures) in
     let g2 = going-on g1 (c6 .put-lines .ensures) in
     let g3 = going-on g2 (c2 .put-last .ensures) in
-    listed _ _ (c22 .pre) (delivered (listing-size (c22 .args .times .now) (c22 .args .answers .now)
+    listed (c22 .pre) (delivered (listing-size (c22 .args .times .now) (c22 .args .answers .now)
     (c18 .count-of .ensures) (c17 .count-of2 .ensures) (c16 .count-of3 .ensures) (c15 .lines-size .ensures)
     (c14 .last-size .ensures)) (c13 .if1 .left) (going-end g3))
 

@@ -1,0 +1,4 @@
+pub mod LineParts
+pub mod Returns
+pub mod Theorems
+pub mod Examples

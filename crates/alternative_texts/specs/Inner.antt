@@ -1,0 +1,95 @@
+-- What the inner functions ask of their callers, and what they give. Writing behind what is written is the writer's
+-- Put; here a text may go past the end of what is lent, and then only what has room is written. So a text is measured
+-- by writing it where there is no room.
+use Prim.Native.Nat.{ℕ, zero, suc, _+_, _^_, _<_, _≤_}
+use mathlib.Core.Path.{_≡_}
+use mathlib.Core.List.{List, []}
+use lib.ListN.{length, getD, drop}
+use Rattle.alf.specs.Alternatives.{Test}
+use Rattle.alf.specs.Expressions.{Boolean, Edge, Expression, vector, edge}
+use Rattle.alf.specs.Bytes.{Decodes}
+use Rattle.trees.specs.Parts.{EndsBoolean}
+use Rattle.matcher.specs.Shapes.{sum, testOf, testsOf, Tests}
+use Rattle.writer.specs.Inner.{Put}
+use Rattle.writer.specs.Writing.{countOf, Named, Holds}
+use Rattle.alternative_texts.specs.Texts.{shown, missing, testText}
+
+-- the place behind some bytes is a number of 64 bits
+pub record Countable (at : ℕ) (w : List ℕ) : Type 0 where
+  pub small : at + length w < 2 ^ 64
+
+-- a text is written, and has no more than so many bytes
+pub record Puts (out : List ℕ) (at : ℕ) (w : List ℕ) (most : ℕ) (out′ : List ℕ) (r : ℕ) : Type 0 where
+  pub put : Put out at w out′ r
+  pub few : length w ≤ most
+
+-- the gap before part i: none before part 0
+unfoldable pub lead : List ℕ → ℕ → List ℕ
+lead gap zero = []
+lead gap (suc i) = gap
+
+-- the operand of a test ends at `end`, and the bytes of the test's expression have room
+pub record Joinable (names : ℕ) (tree : List ℕ) (end : ℕ) (list : List ℕ) : Type 0 where
+  pub few : length tree ≤ 256
+  pub ends : EndsBoolean tree names end
+  pub room : 257 ≤ length list
+
+-- the text of an expression at the front of a list, and 1 where it is `...`, else 0
+pub record Tells (names : List ℕ) (e : Expression) (list : List ℕ) (size untold : ℕ) : Type 0 where
+  pub holds : Holds list size (shown names e)
+  pub few : size ≤ 4096
+  pub untold-is : untold ≡ missing names e
+
+-- some bytes are those of an edge of an operand, the names are checked, and a text of 4,096 bytes has room
+pub record Tellable (names tree list : List ℕ) : Type 0 where
+  pub named : Named names
+  pub of-edge : Edge
+  pub operand : Boolean
+  pub decodes : Decodes (countOf names) tree (vector (edge of-edge operand))
+  pub room : length list ≡ 4096
+
+-- a test: the names are checked, and its operand ends at `end` of a tree that is no longer than an accepted one
+pub record Testable (names tree : List ℕ) (end : ℕ) : Type 0 where
+  pub named : Named names
+  pub few : length tree ≤ 256
+  pub ends : EndsBoolean tree (countOf names) end
+
+-- the tests of the lists: the names are checked, and each test has its operand
+pub record Tested (names tree edges operands : List ℕ) : Type 0 where
+  pub named : Named names
+  pub few : length tree ≤ 256
+  pub known : Tests tree (countOf names) edges operands
+
+-- test k, whose text is to stand far below the last place of 64 bits
+pub record OneTest (names tree edges operands : List ℕ) (k at : ℕ) : Type 0 where
+  pub tested : Tested names tree edges operands
+  pub there : k < length edges
+  pub low : at ≤ 4000000000000
+
+-- the step of n tests from test t on
+pub record OneStep (names tree edges operands : List ℕ) (t n at : ℕ) : Type 0 where
+  pub tested : Tested names tree edges operands
+  pub there : t + n ≤ length edges
+  pub few : n ≤ 255
+  pub low : at ≤ 3000000000000
+
+-- the alternative of n steps from step s on, whose tests start at t
+pub record OneAlternative (names tree tests edges operands : List ℕ) (s n t at : ℕ) : Type 0 where
+  pub tested : Tested names tree edges operands
+  pub there : s + n ≤ length tests
+  pub room : t + sum (drop s tests) ≤ length edges
+  pub few : n ≤ 255
+  pub low : at ≤ 2000000000000
+
+-- a text over some lists: of test k, of a step, of an alternative
+abbrev pub allTests : List ℕ → List ℕ → List ℕ → List ℕ → List Test
+allTests names tree edges operands = testsOf tree (countOf names) edges operands
+
+abbrev pub textOfTest : List ℕ → List ℕ → List ℕ → List ℕ → ℕ → List ℕ
+textOfTest names tree edges operands k =
+    testText names (testOf tree (countOf names) (getD edges k 0) (getD operands k 0))
+
+-- 1 where an expression is shown as `...`, else 0
+pub record Untold (names : List ℕ) (e : Expression) (r : ℕ) : Type 0 where
+  pub is : r ≡ missing names e
+  pub few : r ≤ 1

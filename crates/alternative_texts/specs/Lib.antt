@@ -1,0 +1,3 @@
+-- The text of a pattern's alternatives. Texts is what must be believed; Inner is for the functions.
+pub mod Texts
+pub mod Inner

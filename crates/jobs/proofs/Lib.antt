@@ -1,0 +1,12 @@
+-- The laws of the calls that go from a text to what is asked of it.
+pub mod TextOrders
+pub mod TextTrees
+pub mod TextCounts
+pub mod TableLines
+pub mod Additions
+pub mod SumLaws
+pub mod LetterCodes
+pub mod LetterCorrections
+pub mod Decimals
+pub mod LetterExamples
+pub mod AlternativesLaws

@@ -1,0 +1,103 @@
+-- What `count_text` comes to, case by case, and that it is one thing.
+--   text-refused     the text is refused
+--   tree-counted     the text is read, and its tree is counted or refused
+--   counted-rows     what is counted is counted on 1 to 65,535 rows
+--   counts-unique    any two results that the contract allows coincide
+use Prim.Native.Nat.{ℕ}
+use mathlib.Core.Path.{_≡_, refl, sym, _∙_}
+use mathlib.Core.Bool.{true}
+use mathlib.Core.List.{List}
+use lib.ListN.{take}
+use Rattle.alf.specs.declared.Sort.the-variants as sort
+use Rattle.alf.specs.Refusals.{RowCount, Passed}
+use Rattle.alf.proofs.Outcomes.{at-fixed, first-fixed, refused-passed}
+use Rattle.alf.proofs.Stable.{le-stable}
+use Rattle.names.proofs.Orders.{refused-first, refused-then, passed-both, passed-right}
+use Rattle.matcher.specs.declared.tables.Total.{Total}
+use Rattle.reader.specs.declared.Read.{Read}
+use Rattle.reader.specs.Lookup.{countOf}
+use Rattle.reader.specs.Reading.{readOrder, Reading}
+use Rattle.reader.proofs.Unique.{gives-unique}
+use Rattle.calls.specs.declared.matching.Counting.{Counting}
+use Rattle.calls.specs.declared.matching.Counting.the-variants.{Counted, Refused}
+use Rattle.calls.specs.Matching.{Counts, RowTotals}
+use Rattle.jobs.specs.Counting.{traceChecks, countOrder, TotalsText, CountsText}
+use Rattle.jobs.proofs.TextOrders.{Sole, sole-both, sole-fixed, read-sole}
+use Rattle.jobs.proofs.TextOrders.{passed-without-ten, refused-without-ten}
+use Rattle.jobs.proofs.TextTrees.{Given, read-refused, tree-accepted, tree-is, front-is}
+
+module _ {names : List ℕ} {n : ℕ} {states text : List ℕ} {r : Read} where
+  pub text-refused : Reading names text sort.Vector r → r .refused ≡ true
+      → CountsText names n states text (Refused (r .refusal))
+  unfolding Counts
+  text-refused h e = record { comes = refused-first (readOrder names text sort.Vector) _ _ _ (read-refused h e) }
+
+  module _ (g : Given names text r) where
+    counted : (c : Counting) → RowTotals (countOf names) n (take (r .len) (r .tree)) states c
+        → CountsText names n states text c
+    unfolding Counts
+    counted (Counted t) h =
+        let (a, b) = rw (front-is g) at (h .comes) in
+        record {
+          comes = (
+            passed-both (readOrder names text sort.Vector) _ (g .passed)
+                (passed-without-ten _ _ _ (tree-accepted g) a),
+            record { pattern = g .pattern; given = g .given; totals = rw (tree-is g) at b },
+          );
+        }
+    counted (Refused q) h =
+        let a = rw (front-is g) at (h .comes) in
+        record {
+          comes =
+              refused-then (readOrder names text sort.Vector) _ _ _ (g .passed)
+              (refused-without-ten _ _ _ (tree-accepted g) _ _ a);
+        }
+
+    pub tree-counted : {c : Counting} → RowTotals (countOf names) n (take (r .len) (r .tree)) states c
+        → CountsText names n states text c
+    tree-counted {c} h = counted c h
+
+-- 18 is not given
+pub counted-rows : {names : List ℕ} {n : ℕ} {states text : List ℕ} {t : Total}
+    → CountsText names n states text (Counted t) → RowCount n
+unfolding Counts Passed
+counted-rows {names} {n} {states} {text} h =
+    let p : Passed (traceChecks (countOf names) n states) =
+    passed-right (readOrder names text sort.Vector) _ (h .comes .0) in (
+      le-stable 1 n (λ k. p .0 0 (record { given = λ r. k (r .row-count .0); there = refl })),
+      le-stable n 65535 (λ k. p .0 0 (record { given = λ r. k (r .row-count .1); there = refl })),
+    )
+
+-- one result
+totals-unique : {names : List ℕ} {n : ℕ} {states text : List ℕ} {a b c x y z : ℕ}
+    → TotalsText names n states text a b c → TotalsText names n states text x y z
+    → (a ≡ x) × (b ≡ y) × (c ≡ z)
+totals-unique h k =
+    let e = gives-unique (h .given) (k .given) in
+    let p : h .pattern ≡ k .pattern = cc in
+    let t = rw p at (h .totals) in
+    let u = k .totals in
+    (t .yeses ∙ sym (u .yeses), t .noes ∙ sym (u .noes), t .unknowns ∙ sym (u .unknowns))
+
+module _ (names : List ℕ) (n : ℕ) (states text : List ℕ) where
+  count-sole : Sole (countOrder names n states text)
+  count-sole =
+      sole-both (readOrder names text sort.Vector) (traceChecks (countOf names) n states)
+      (read-sole names text sort.Vector)
+      (sole-fixed (traceChecks (countOf names) n states) (at-fixed _ _, (first-fixed _, tt)))
+
+  counts-one : (a b : Counting) → Counts (countOrder names n states text) (TotalsText names n states text) a
+      → Counts (countOrder names n states text) (TotalsText names n states text) b
+      → a ≡ b
+  unfolding Counts
+  counts-one (Counted t) (Counted u) x y =
+      let e = totals-unique (x .1) (y .1) in λ i. Counted (record { yes = e .0 i; no = e .1 i; unknown = e .2 i })
+  counts-one (Counted t) (Refused s) x y = absurd (refused-passed (countOrder names n states text) _ _ (x .0) y)
+  counts-one (Refused r) (Counted u) x y = absurd (refused-passed (countOrder names n states text) _ _ (y .0) x)
+  counts-one (Refused r) (Refused s) x y =
+      let e = count-sole (r .number) (s .number) (r .place) (s .place) x y in
+      λ i. Refused (record { number = e .0 i; place = e .1 i })
+
+pub counts-unique : {names : List ℕ} {n : ℕ} {states text : List ℕ} {a b : Counting}
+    → CountsText names n states text a → CountsText names n states text b → a ≡ b
+counts-unique {names} {n} {states} {text} {a} {b} x y = counts-one names n states text a b (x .comes) (y .comes)

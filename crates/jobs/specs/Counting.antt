@@ -1,0 +1,36 @@
+-- The totals of a pattern's text on a trace of n rows: document 01's totals of the vector expression that the text
+-- gives, or a refusal.
+--   countOrder     18 and 12 of the names, 1 to 8 of the text; then 18 and 15 of the trace. 10 is not among them: the
+--                  tree comes from a text, so it is accepted
+--   TotalsText     the totals of the pattern that the text gives
+--   CountsText     what the call comes to
+use Prim.Native.Nat.{ℕ}
+use mathlib.Core.List.{List, [], _∷_, _++_}
+use lib.ListN.{length}
+use Rattle.alf.specs.declared.Sort.the-variants as sort
+use Rattle.alf.specs.Expressions.{Vector, vector}
+use Rattle.alf.specs.Values.{stateAt}
+use Rattle.alf.specs.Traces.{Totals}
+use Rattle.alf.specs.Refusals.{Order, check, bad-lists, bad-code}
+use Rattle.reader.specs.Lookup.{countOf}
+use Rattle.reader.specs.Reading.{readOrder, Gives}
+use Rattle.calls.specs.declared.matching.Counting.{Counting}
+use Rattle.calls.specs.Orders.{Rows}
+use Rattle.calls.specs.Matching.{Counts}
+
+-- 18 and 15 of a trace of n rows
+abbrev pub traceChecks : ℕ → ℕ → List ℕ → Order
+traceChecks k n states = check 18 (bad-lists (Rows k n (length states))) ∷ check 15 (bad-code states) ∷ []
+
+abbrev pub countOrder : List ℕ → ℕ → List ℕ → List ℕ → Order
+countOrder names n states text = readOrder names text sort.Vector ++ traceChecks (countOf names) n states
+
+-- the totals of the pattern that the text gives
+pub record TotalsText (names : List ℕ) (n : ℕ) (states text : List ℕ) (yes no unknown : ℕ) : Type 0 where
+  pub pattern : Vector
+  pub given : Gives names text sort.Vector (vector pattern)
+  pub totals : Totals (stateAt (countOf names) states) pattern n yes no unknown
+
+-- counted, where no row of the order holds; else refused
+pub record CountsText (names : List ℕ) (n : ℕ) (states text : List ℕ) (r : Counting) : Type 0 where
+  pub comes : Counts (countOrder names n states text) (TotalsText names n states text) r

@@ -1,0 +1,8 @@
+-- What the calls come to that go from a text to what is asked of it.
+pub mod Counting
+pub mod Lines
+pub mod Sums
+pub mod Letters
+pub mod Correcting
+pub mod RowNumbers
+pub mod AlternativesText

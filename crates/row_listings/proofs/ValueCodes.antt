@@ -1,0 +1,77 @@
+-- The state and the value of a boolean expression are codes of states, where the recorded states are: value-code.
+use Prim.Native.Nat.{ℕ, _<_}
+use native.Mathlib.Omega.{arith}
+use mathlib.Core.Path.{_≡_, refl}
+use mathlib.Core.Bool.{Bool, true, false}
+use lib.Dec.{eqb}
+use borrow.Author.Tests.{ltb-true}
+use Rattle.alf.specs.Words.{if_then_else_}
+use Rattle.alf.specs.States.{reduce, rank, ranked, notOf, andOf, orOf, xorOf, xnorOf, relations, atLeast, atMost}
+use Rattle.alf.specs.States.{table, among, matches, inCells, inLines}
+use Rattle.alf.specs.Expressions.{Boolean, name, literal, negated, binary, choice, Over}
+use Rattle.alf.specs.Expressions.{Binary, and, or, xor, xnor, equals, differs, above, below, at-least, at-most}
+use Rattle.alf.specs.Values.{operate, chosen, settled, state, value}
+use Rattle.alf.proofs.Choices.{every, every-at}
+use Rattle.alf.proofs.Tables.{codes}
+
+-- of one state, and of two: one test over all of them
+coded : (g : ℕ → ℕ) → codes g ≡ true → (x : ℕ) → x < 8 → g x < 8
+unfolding codes
+coded g t x h = ltb-true (g x) 8 (every-at 8 _ t x h)
+
+coded-two : (g : ℕ → ℕ → ℕ) → every 8 (λ u. codes (g u)) ≡ true → (x y : ℕ) → x < 8 → y < 8
+    → g x y < 8
+coded-two g t x y h k = coded (g x) (every-at 8 _ t x h) y k
+
+operators : (o : Binary) → every 8 (λ u. codes (operate o u)) ≡ true
+unfolding every codes operate reduce rank ranked andOf orOf xorOf xnorOf relations atLeast atMost table among matches
+    inCells inLines
+operators and = refl
+operators or = refl
+operators xor = refl
+operators xnor = refl
+operators equals = refl
+operators differs = refl
+operators above = refl
+operators below = refl
+operators at-least = refl
+operators at-most = refl
+
+not-code : (s : ℕ) → s < 8 → notOf s < 8
+unfolding every codes notOf reduce
+not-code = coded notOf refl
+
+reduced-code : (s : ℕ) → s < 8 → reduce s < 8
+unfolding every codes reduce
+reduced-code = coded reduce refl
+
+settled-code : (e : Boolean) (s : ℕ) → s < 8 → settled e s < 8
+unfolding settled
+settled-code (name i) s h = reduced-code s h
+settled-code (literal l) s h = h
+settled-code (negated a) s h = h
+settled-code (binary o a b) s h = h
+settled-code (choice c a b) s h = h
+
+chosen-code : (c x y : ℕ) → x < 8 → y < 8 → chosen c x y < 8
+unfolding chosen
+chosen-code c x y h k = go (eqb (reduce c) 2) (eqb (reduce c) 1)
+  where
+    go : (p q : Bool) → (if p then 2 else if q then x else y) < 8
+    go true q = omega arith
+    go false true = h
+    go false false = k
+
+module _ (row : ℕ → ℕ) (names : ℕ) (recorded : (n : ℕ) → row n < 8) where
+  state-code : (e : Boolean) → Over names e → state row e < 8
+  unfolding Over state
+  state-code (name i) o = recorded i
+  state-code (literal s) o = o
+  state-code (negated a) o = not-code _ (state-code a o)
+  state-code (binary b x y) o = coded-two (operate b) (operators b) _ _ (state-code x (o .0)) (state-code y (o .1))
+  state-code (choice c x y) o =
+      chosen-code (state row c) _ _ (settled-code x _ (state-code x (o .1))) (settled-code y _ (state-code y (o .2)))
+
+  pub value-code : (e : Boolean) → Over names e → value row e < 8
+  unfolding value
+  value-code e o = settled-code e _ (state-code e o)

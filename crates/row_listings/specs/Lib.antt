@@ -1,0 +1,2 @@
+-- What the listing of a text, on a trace, comes to.
+pub mod Listings

@@ -1,0 +1,107 @@
+-- Listings of what a text gives, on a trace: a pattern's text comes to the listing of its answers, the text of a
+-- boolean expression to the listing of its values; or refused.
+-- Main names: patternListing, valueListing, ListsPattern, ListsValues. Both are one contract, Lists, over what the text
+-- gives. That result and buffer follow from the input is shown in proofs/ListingTheorems.antt.
+use Prim.Native.Nat.{ℕ, _/_}
+use mathlib.Core.Path.{_≡_}
+use mathlib.Core.List.{List, [], _∷_, _++_}
+use lib.ListN.{length}
+use Rattle.alf.specs.declared.Sort.{Sort}
+use Rattle.alf.specs.declared.Sort.the-variants as the-sort
+use Rattle.alf.specs.declared.Refusal.{Refusal}
+use Rattle.alf.specs.declared.Outcome.{Outcome}
+use Rattle.alf.specs.declared.Outcome.the-variants.{Done, Refused}
+use Rattle.alf.specs.Words.{listed}
+use Rattle.alf.specs.Expressions.{Boolean, Vector, Expression, boolean, vector}
+use Rattle.alf.specs.Values.{stateAt, valueAt}
+use Rattle.alf.specs.Windows.{rowAnswer, numberOf}
+use Rattle.alf.specs.Refusals.{Row, Order, check, bad-lists, bad-code, no-room, RefusedWith, Passed, Comes}
+use Rattle.trees.specs.Parts.{expressionAt}
+use Rattle.limits.specs.Accepted.{Accepted}
+use Rattle.reader.specs.Reading.{readOrder, Gives}
+use Rattle.calls.specs.Orders.{Rows}
+use Rattle.writer.specs.Writing.{after}
+use Rattle.listing.specs.Listing.{listing, valuesListing}
+
+-- of a pattern, its answers at all rows of a trace of k names; of a boolean expression, its values
+unfoldable pub patternListing : ℕ → List ℕ → List ℕ → Vector → List ℕ
+patternListing k times states p =
+    listing times (listed 0 (length times) (λ i. numberOf (rowAnswer (stateAt k states) p i)))
+
+unfoldable pub valueListing : ℕ → List ℕ → List ℕ → Boolean → List ℕ
+valueListing k times states c = valuesListing times (listed 0 (length times) (valueAt k states c))
+
+-- a row that speaks of what the text gives, as an expression of the sort
+pub record OfGiven {A : Type 0} (into : A → Expression) (names text : List ℕ) (sort : Sort) (row : A → Row)
+    (p : ℕ) : Type 0 where
+  pub it : A
+  pub given : Gives names text sort (into it)
+  pub holds : row it p
+
+-- 18 and 15 of a trace
+abbrev pub rowsOrder : ℕ → List ℕ → List ℕ → Order → Order
+rowsOrder k times states rest =
+    check 18 (bad-lists (Rows k (length times) (length states))) ∷ check 15 (bad-code states) ∷ rest
+
+-- all that reading refuses, then 18 and 15 of the trace, then 9
+abbrev pub listOrder :
+    {A : Type 0} → (A → Expression) → Sort → (A → List ℕ) → List ℕ → List ℕ → List ℕ
+    → List ℕ → ℕ
+    → Order
+listOrder into sort shown names times states text room =
+    readOrder names text sort
+    ++ rowsOrder (length names / 32) times states
+    (check 9 (OfGiven into names text sort (λ x. no-room (length (shown x)) room)) ∷ [])
+
+-- done: the text gives something, and its listing is at the front of the buffer; refused: the buffer is as before
+pub data Lists {A : Type 0} (into : A → Expression) (sort : Sort) (shown : A → List ℕ)
+    (names times states text out out′ : List ℕ) : Outcome → Type 0 where
+  lists :
+      {m : ℕ} (x : A) →
+      Passed (listOrder into sort shown names times states text (length out)) →
+      Gives names text sort (into x) →
+      m ≡ length (shown x) →
+      out′ ≡ after (shown x) out (Done m) →
+      Lists into sort shown names times states text out out′ (Done m)
+  refuses :
+      {r : Refusal} →
+      RefusedWith (listOrder into sort shown names times states text (length out)) (r .number) (r .place) →
+      out′ ≡ out →
+      Lists into sort shown names times states text out out′ (Refused r)
+
+-- of names, times, states, a text, and the buffer before and after
+abbrev pub ListsPattern : List ℕ → List ℕ → List ℕ → List ℕ → List ℕ → List ℕ → Outcome
+    → Type 0
+ListsPattern names times states =
+    Lists vector the-sort.Vector (patternListing (length names / 32) times states) names times states
+
+abbrev pub ListsValues : List ℕ → List ℕ → List ℕ → List ℕ → List ℕ → List ℕ → Outcome
+    → Type 0
+ListsValues names times states =
+    Lists boolean the-sort.Boolean (valueListing (length names / 32) times states) names times states
+
+-- For the functions inside: a text for the rows of a trace; 18, 15, 9.
+pub record RowsText (k : ℕ) (times states text out out′ : List ℕ) (r : Outcome) : Type 0 where
+  pub outcome :
+      Comes (rowsOrder k times states (check 9 (no-room (length text) (length out)) ∷ []))
+      (λ m. m ≡ length text) r
+  pub memory : out′ ≡ after text out r
+
+-- of an expression of either sort; of that which a tree is
+unfoldable pub listingOf : ℕ → List ℕ → List ℕ → Expression → List ℕ
+listingOf k times states (boolean c) = valueListing k times states c
+listingOf k times states (vector p) = patternListing k times states p
+
+abbrev pub treeListing : ℕ → List ℕ → List ℕ → List ℕ → List ℕ
+treeListing k times states tree = listingOf k times states (expressionAt tree k (length tree))
+
+-- a tree that a text gives, and lists of an entry for each row; of an entry for each row that there can be
+pub record Rowed (sort : Sort) (k : ℕ) (tree times codes tried : List ℕ) : Type 0 where
+  pub accepted : Accepted k sort tree
+  pub codes-size : length codes ≡ length times
+  pub tried-size : length tried ≡ length times
+
+pub record Roomy (sort : Sort) (k : ℕ) (tree codes tried : List ℕ) : Type 0 where
+  pub accepted : Accepted k sort tree
+  pub codes-size : length codes ≡ 65535
+  pub tried-size : length tried ≡ 65535
