@@ -100,6 +100,7 @@ END {
         if (!(f in size)) wrong(f " is not in the object code")
         if (down(f) > limit) wrong(f " can take over " limit " bytes")
         if (measured[f] > limit) wrong(f " took over " limit " bytes")
+        if (measured[f] > other && f != deepest) wrong(f " took over " other " bytes")
         if (measured[f] > down(f) + 1024) wrong(f " took more than is reckoned")
     }
     exit bad

@@ -1,135 +1,171 @@
 // Dachsmond, the program: counts patterns of pin events in a trace. Here stand the commands with the words that they
-// expect; each has a file of its own.
-mod alternatives;
-mod complaints;
-mod correct;
-mod files;
-mod help;
-mod lines;
-mod output;
-mod parts;
-mod patterns;
-mod rewrite;
-mod rows;
-mod show;
-mod table;
+// expect. What a command prints of an answer is made by a call of `jobs`; here are arguments, files and complaints.
+mod texts;
 
-use complaints::unfit;
-use complaints::unknown;
+use console::complaints::unfit;
+use console::complaints::unknown;
+use console::files::load;
+use console::output::say;
+use console::words::front;
+use console::words::line_of;
+use correct_command::correct;
+use show_command::show;
+use table_command::table::first_look;
+use table_command::table::table;
 
-enum Command {
-    Help,
-    Version,
-    Table,
-    List,
-    Values,
-    Rewrite,
-    Show,
-    Correct,
-    Unknown,
+// The commands by their number in `named`; `rewrite` is 3.
+const TABLE: usize = 0;
+
+const LIST: usize = 1;
+
+const VALUES: usize = 2;
+
+const SHOW: usize = 4;
+
+const CORRECT: usize = 5;
+
+const VERSION: usize = 6;
+
+const NONE: usize = 10;
+
+// A command's number; the words behind `--version` all ask for help.
+fn named(word: &[u8]) -> usize {
+    line_of(
+        b"table\nlist\nvalues\nrewrite\nshow\ncorrect\n--version\n--help\n-h\nhelp\n",
+        word,
+    )
 }
 
-fn named(word: &[u8]) -> Command {
-    if check::same(word, b"table") {
-        return Command::Table;
+// Whether so many words stand behind a command as it expects; where not, it is complained of.
+fn expects(c: usize, word: &[u8], more: usize) -> bool {
+    let least = [2usize, 2, 2, 2, 1, 4];
+    let most = [usize::MAX, 2, 2, 2, 1, 4];
+    if CORRECT < c {
+        return true;
     }
-    if check::same(word, b"list") {
-        return Command::List;
-    }
-    if check::same(word, b"values") {
-        return Command::Values;
-    }
-    if check::same(word, b"rewrite") {
-        return Command::Rewrite;
-    }
-    if check::same(word, b"show") {
-        return Command::Show;
-    }
-    if check::same(word, b"correct") {
-        return Command::Correct;
-    }
-    if check::same(word, b"--version") {
-        return Command::Version;
-    }
-    asks_help(word)
-}
-
-fn asks_help(word: &[u8]) -> Command {
-    if check::same(word, b"--help") {
-        return Command::Help;
-    }
-    if check::same(word, b"-h") {
-        return Command::Help;
-    }
-    if check::same(word, b"help") {
-        return Command::Help;
-    }
-    Command::Unknown
-}
-
-// Whether so many words are enough and not too many; where not, it is complained of.
-fn expects(name: &[u8], words: &[u8], more: usize, least: usize, most: usize) -> bool {
-    if more < least {
-        unfit(name, words);
-        return false;
-    }
-    if most < more {
-        unfit(name, words);
-        return false;
-    }
-    true
-}
-
-// The table of the commands: what stands behind each, and how many words that is.
-fn fits(c: Command, word: &[u8], more: usize) -> bool {
-    match c {
-        Command::Table => expects(
-            word,
-            b"TRACE PATTERN.. or TRACE -f FILE",
-            more,
-            2,
-            usize::MAX,
-        ),
-        Command::List => expects(word, b"TRACE PATTERN", more, 2, 2),
-        Command::Values => expects(word, b"TRACE EXPRESSION", more, 2, 2),
-        Command::Rewrite => expects(word, b"TRACE PATTERN", more, 2, 2),
-        Command::Show => expects(word, b"TRACE", more, 1, 1),
-        Command::Correct => expects(word, b"TRACE ROW STATES OUT", more, 4, 4),
-        Command::Help => true,
-        Command::Version => true,
-        Command::Unknown => {
-            unknown(word);
-            false
+    if least[c] <= more {
+        if more <= most[c] {
+            return true;
         }
     }
+    unfit(
+        word,
+        b"TRACE PATTERN.. or TRACE -f FILE\nTRACE PATTERN\nTRACE EXPRESSION\nTRACE PATTERN\nTRACE\nTRACE ROW STATES OUT\n",
+        c,
+    );
+    false
 }
 
-fn start(c: Command) {
+fn help() {
+    say(
+        b"dachsmond counts how often patterns of pin events occur in a simulation trace.
+
+  dachsmond                                the table of a small built-in trace, as a first look
+  dachsmond table TRACE PATTERN..          times seen, share of all events, unknown, no
+  dachsmond table TRACE -f FILE            the same for the patterns of a file, one a line
+  dachsmond list TRACE PATTERN             a pattern's answer at each row
+  dachsmond values TRACE EXPRESSION        a boolean expression's value at each row
+  dachsmond rewrite TRACE PATTERN          a pattern's alternatives, contradictory ones marked
+  dachsmond show TRACE                     the trace as a table, with the number of changed pins
+  dachsmond correct TRACE ROW STATES OUT   the trace with one row replaced, written to OUT
+  dachsmond --help, dachsmond --version
+
+rewrite writes `->` between steps, `&` between the tests of a step, and `( )` for an empty step.
+`-` for a file is standard input or output. Data goes to standard output, complaints go to standard error.
+Exit status: 0 where all was done, 1 where something was complained of.
+",
+    );
+}
+
+// A command on a trace; `list`, `values` and `rewrite` answer a text.
+fn start(c: usize, names: &[u8], times: &[u32], states: &mut [u8]) {
     match c {
-        Command::Table => table::table(),
-        Command::List => rows::rows(true),
-        Command::Values => rows::rows(false),
-        Command::Rewrite => rewrite::alternatives(),
-        Command::Show => show::show(),
-        Command::Correct => correct::correct(),
-        Command::Help => help::help(),
-        Command::Version => help::version(),
-        Command::Unknown => {}
+        TABLE => table(names, times.len(), states),
+        SHOW => show(names, times, states),
+        CORRECT => correct(names, times, states),
+        _ => texts::answer(c, names, times, states),
     }
+}
+
+// How many codes n rows of k names have.
+fn codes_in(n: usize, k: usize) -> usize {
+    if 32 < k {
+        return 0;
+    }
+    if 65535 < n {
+        return 0;
+    }
+    n * k
+}
+
+// The first n entries, or all: a list that is too short is refused by what takes it.
+fn front_times(list: &[u32], n: usize) -> &[u32] {
+    if n <= list.len() { &list[0..n] } else { list }
+}
+
+fn front_states(list: &mut [u8], n: usize) -> &mut [u8] {
+    if n <= list.len() {
+        &mut list[0..n]
+    } else {
+        list
+    }
+}
+
+// Of the lists, what the trace fills.
+fn on_lists(c: usize, names: &[u8], times: &[u32], states: &mut [u8], k: usize, n: usize) {
+    let a = front(names, codes_in(32, k));
+    let t = front_times(times, n);
+    let s = front_states(states, codes_in(n, k));
+    start(c, a, t, s);
+}
+
+fn on_lent(
+    c: usize,
+    names: &[u8; 1024],
+    times: &[u32; 65535],
+    states: &mut [u8; 2097120],
+    k: usize,
+    n: usize,
+) {
+    if 0 < k {
+        on_lists(c, names, times, states, k, n);
+    }
+}
+
+// The trace is loaded once, whatever is asked of it.
+fn on_trace(c: usize) {
+    let mut names = [0u8; 1024];
+    let mut times = [0u32; 65535];
+    let mut states = [0u8; 2097120];
+    let l = load(2, &mut names, &mut times, &mut states);
+    on_lent(c, &names, &times, &mut states, l.names, l.rows);
 }
 
 // The command, and how many words stand behind it.
 fn run(word: &[u8], more: usize) {
     let c = named(word);
-    if fits(c, word, more) {
-        start(c);
+    if NONE <= c {
+        unknown(word);
+        return;
     }
+    if !expects(c, word, more) {
+        return;
+    }
+    if c < VERSION {
+        on_trace(c);
+        return;
+    }
+    if c == VERSION {
+        say(b"dachsmond 1.0\n");
+        return;
+    }
+    help();
 }
 
 fn main() {
     let count = os::arg_count();
     if count < 2 {
-        table::first_look();
+        first_look();
         return;
     }
     let mut word = io::buffer();

@@ -1,0 +1,98 @@
+// What is asked of one text: `list`, `values`, `rewrite`. Each text that is printed is made by a call of `jobs`.
+use crate::LIST;
+use crate::VALUES;
+use alf::Outcome;
+use alf::Refusal;
+use console::complaints::refused;
+use console::complaints::refused_text;
+use console::files::take_argument;
+use console::output::complain;
+use console::output::note;
+use console::output::note_number;
+use console::output::say_front;
+use jobs::alternatives::alternatives_text;
+use row_listings::listings::list_text;
+use row_listings::listings::values_text;
+
+fn complain_of(what: &[u8], text: &[u8], r: Refusal) {
+    if r.number < 9 {
+        refused_text(what, text, r);
+    } else {
+        refused(what, r);
+    }
+}
+
+fn complain_by(values: bool, text: &[u8], r: Refusal) {
+    if values {
+        complain_of(b"expression", text, r);
+    } else {
+        complain_of(b"pattern", text, r);
+    }
+}
+
+// What was made is printed, or it is said why not: refusals up to 8 are the text's.
+fn tell(values: bool, text: &[u8], out: &[u8], o: Outcome) {
+    match o {
+        Outcome::Done(n) => say_front(out, n),
+        Outcome::Refused(r) => complain_by(values, text, r),
+    }
+}
+
+// How many tests are shown as `...`.
+fn tell_untold(n: usize) {
+    if 0 < n {
+        complain();
+        note(b"tests shown as ... since their text is over 4,096 bytes or 32 brackets deep: ");
+        note_number(n);
+        note(b"\n");
+    }
+}
+
+// A pattern's alternatives; tests that have no text are told of.
+fn rewrite(names: &[u8], text: &[u8], out: &mut [u8]) -> Outcome {
+    let l = alternatives_text(names, text, out);
+    let written = l.written;
+    tell_untold(l.untold);
+    written
+}
+
+fn ask(
+    c: usize,
+    names: &[u8],
+    times: &[u32],
+    states: &[u8],
+    text: &[u8],
+    out: &mut [u8],
+) -> Outcome {
+    if c == LIST {
+        return list_text(names, times, states, text, out);
+    }
+    if c == VALUES {
+        return values_text(names, times, states, text, out);
+    }
+    rewrite(names, text, out)
+}
+
+fn told(c: usize, names: &[u8], times: &[u32], states: &[u8], text: &[u8], out: &mut [u8]) {
+    let o = ask(c, names, times, states, text, out);
+    tell(c == VALUES, text, out, o);
+}
+
+fn lent(
+    c: usize,
+    names: &[u8],
+    times: &[u32],
+    states: &[u8],
+    text: &[u8],
+    out: &mut [u8; 4600000],
+) {
+    told(c, names, times, states, text, out);
+}
+
+// Room for the longest: alternatives of 16 steps, 64 of them, each step with all of a text.
+pub fn answer(c: usize, names: &[u8], times: &[u32], states: &[u8]) {
+    let mut text = io::large_buffer();
+    let n = take_argument(3, &mut text);
+    let mut out = [0u8; 4600000];
+    lent(c, names, times, states, &text[..n], &mut out);
+}

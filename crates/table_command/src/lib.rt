@@ -1,0 +1,3 @@
+// The command `table`: the lines of the table for the patterns of the command's words and files, and their sums.
+mod patterns;
+pub mod table;
