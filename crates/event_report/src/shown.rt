@@ -1,52 +1,44 @@
 // An expression over a report: the times that 000 states, and those at which it is true, by windows and by
 // alternatives.
+ghost use Prim.Native.Nat.{_≤_};
+use crate::reports::names_of;
+use crate::reports::read;
+use crate::reports::rows_of;
+use crate::reports::size_of;
+use crate::reports::states_of;
+use crate::reports::time_of;
+use crate::reports::zeros;
 use alf::Outcome;
-use alf::Refusal;
-use alf::Sort;
 use calls::matching::match_all;
 use calls::written::Told;
 use calls::written::row_answer;
-use libc::STDOUT_FILENO;
 use matcher::tables::number_of;
-use reader::read_expression;
+use run_printing::printing::broken;
+use run_printing::printing::character;
+use run_printing::printing::number;
+use run_printing::printing::refusal;
+use run_printing::printing::write;
+use run_words::words::find;
+use run_words::words::part;
 
-fn say(text: &[u8]) {
-    io::write_all(STDOUT_FILENO, text);
-}
-
-fn number(n: u64) {
-    io::print_decimal(STDOUT_FILENO, n);
-}
-
-fn say_refusal(r: Refusal) {
-    say(b" refused ");
-    number(r.number as u64);
-    say(b" at ");
-    number(r.place as u64);
-}
-
-fn wide(n: u32) -> u64 {
-    n as u64
-}
-
-// The time of a row that answers yes, or with a `?` one that answers unknown; whether it is one of these.
-fn say_row(time: u32, answer: u8) -> bool {
+// The time of a row that answers yes, or with a `?` one that answers unknown; whether it or one before is one of these.
+fn say_row(some: bool, time: usize, answer: u8) -> bool {
     if answer != 1 && answer != 2 {
-        return false;
+        return some;
     }
-    say(b" ");
-    number(wide(time));
+    character(b' ');
+    number(time);
     if answer == 2 {
-        say(b"?");
+        character(b'?');
     }
     true
 }
 
-fn say_told(time: u32, told: Told) -> bool {
+fn say_told(some: bool, time: usize, told: Told) -> bool {
     match told {
-        Told::Answered(a) => say_row(time, number_of(a)),
+        Told::Answered(a) => say_row(some, time, number_of(a)),
         Told::Refused(r) => {
-            say_refusal(r);
+            refusal(r);
             true
         }
     }
@@ -54,106 +46,128 @@ fn say_told(time: u32, told: Told) -> bool {
 
 fn say_none(some: bool) {
     if !some {
-        say(b" none");
+        write(b" none");
     }
 }
 
 // The times at which an expression is true as it is written: on a window that ends there.
-fn say_windows(names: usize, tree: &[u8], times: &[u32], states: &[u8]) {
-    let n = times.len();
+fn windows(report: &[u8], n: usize, tree: &[u8], states: &[u8])
+    requires { ⌜ n ≤ 12 ⌝ }
+{
+    let names = names_of(report);
     let mut some = false;
-    let mut i = 0;
+    let mut i: usize = 0;
     while i < n {
-        if say_told(times[i], row_answer(names, n, tree, states, i)) {
-            some = true;
-        }
+        some = say_told(
+            some,
+            time_of(report, i),
+            row_answer(names, n, tree, states, i),
+        );
         i += 1;
     }
     say_none(some);
 }
 
 // The times of the rows that are answered so.
-fn say_times(times: &[u32], answers: &[u8]) {
+fn say_times(report: &[u8], n: usize, answers: &[u8; 64])
+    requires { ⌜ n ≤ 12 ⌝ }
+{
     let mut some = false;
-    let mut i = 0;
-    while i < times.len() {
-        if i < answers.len() && say_row(times[i], answers[i]) {
-            some = true;
-        }
+    let mut i: usize = 0;
+    while i < n {
+        some = say_row(some, time_of(report, i), answers[i]);
         i += 1;
     }
     say_none(some);
 }
 
+fn say_all(report: &[u8], n: usize, r: Outcome, answers: &[u8; 64])
+    requires { ⌜ n ≤ 12 ⌝ }
+{
+    match r {
+        Outcome::Refused(f) => refusal(f),
+        Outcome::Done(_) => say_times(report, n, answers),
+    }
+}
+
 // The same by its alternatives, all rows in one call.
-fn say_alternatives(
-    names: usize,
-    tree: &[u8],
-    times: &[u32],
-    states: &[u8],
-    answers: &mut [u8],
-    tried: &mut [u32],
-) {
-    match match_all(names, times.len(), tree, states, answers, tried) {
-        Outcome::Refused(r) => say_refusal(r),
-        Outcome::Done(_) => say_times(times, answers),
-    }
+fn alternatives(report: &[u8], n: usize, tree: &[u8], states: &[u8])
+    requires { ⌜ n ≤ 12 ⌝ }
+{
+    let mut answers = zeros();
+    let mut tried = [0u32; 64];
+    let r = match_all(
+        names_of(report),
+        n,
+        tree,
+        states,
+        &mut answers[0..n],
+        &mut tried[0..n],
+    );
+    say_all(report, n, r, &answers);
 }
 
-fn say_tree(
-    names: usize,
-    tree: &[u8],
-    times: &[u32],
-    states: &[u8],
-    answers: &mut [u8],
-    tried: &mut [u32],
-) {
-    say(b"\n  windows:     ");
-    say_windows(names, tree, times, states);
-    say(b"\n  alternatives:");
-    say_alternatives(names, tree, times, states, answers, tried);
-    say(b"\n");
+fn show_tree(report: &[u8], tree: &[u8]) {
+    let states = states_of(report);
+    let n = rows_of(report);
+    let end = size_of(names_of(report), n);
+    write(b"\n  windows:     ");
+    windows(report, n, tree, &states[0..end]);
+    write(b"\n  alternatives:");
+    alternatives(report, n, tree, &states[0..end]);
+    character(b'\n');
 }
 
-fn say_front(
-    names: usize,
-    tree: &[u8],
-    len: usize,
-    times: &[u32],
-    states: &[u8],
-    answers: &mut [u8],
-    tried: &mut [u32],
-) {
+fn show_first(report: &[u8], tree: &[u8], len: usize) {
     if len <= tree.len() {
-        say_tree(names, &tree[..len], times, states, answers, tried);
+        show_tree(report, &tree[0..len]);
     }
 }
 
-// An expression over a report, with the times stated.
-pub fn show(
-    label: &[u8],
-    text: &[u8],
-    stated: &[u8],
-    names: &[u8],
-    times: &[u32],
-    states: &[u8],
-    answers: &mut [u8],
-    tried: &mut [u32],
-) {
-    say(label);
-    say(b": ");
-    say(text);
-    say(b"\n  000:          ");
-    say(stated);
-    let r = read_expression(names, text, Sort::Vector);
+fn show_read(report: &[u8], tree: &[u8; 256], len: usize) {
+    show_first(report, tree, len);
+}
+
+fn show_text(report: &[u8], text: &[u8]) {
+    let r = read(report, text);
     let refused = r.refused;
     if refused {
-        let refusal = r.refusal;
-        say_refusal(refusal);
-        say(b"\n");
+        refusal(r.refusal);
+        return character(b'\n');
+    }
+    let tree = r.tree;
+    show_read(report, &tree, r.len);
+}
+
+// A case: its parts are separated by `;`, the report, a label, an expression, and the times stated.
+fn show_case(report: &[u8], line: &[u8]) {
+    write(part(line, 1, b';'));
+    write(b": ");
+    write(part(line, 2, b';'));
+    write(b"\n  000:          ");
+    write(part(line, 3, b';'));
+    show_text(report, part(line, 2, b';'));
+}
+
+// A line that is empty or starts with `#` is a remark; one that starts with `=` is a report.
+fn show_line(input: &[u8], line: &[u8]) {
+    if line.len() == 0 {
         return;
     }
-    let len = r.len;
-    let tree = r.tree;
-    say_front(names.len() / 32, &tree, len, times, states, answers, tried);
+    match line[0] {
+        b'#' | b'=' => return,
+        b'w' => show_case(part(input, 0, b'\n'), line),
+        b'n' => show_case(part(input, 1, b'\n'), line),
+        _ => broken(line),
+    }
+}
+
+// Each line of the input, of which the first two are the reports.
+pub fn show_lines(input: &[u8]) {
+    let mut at: usize = 0;
+    while at < input.len() {
+        let end = find(input, at, b'\n');
+        show_line(input, &input[at..end]);
+        at = end + 1;
+    }
 }

@@ -1,82 +1,147 @@
-// Table T of document 01, the readings that look right, a trace of one row, and 16 steps. Beside each run: the number
-// tried, worked out by the document's words, "in order up to and including the first yes, or all"; 0 at row 0.
-use crate::routes::run;
-use crate::routes::run_boolean;
+// A line's case: its expression, as a text or as a tree, and the calls that its kind names. A line of no kind is
+// printed behind a `?`.
+use crate::lists::lend;
+use crate::lists::lend_out;
+use crate::routes::push_in;
+use crate::routes::queue_in;
+use crate::routes::row_in;
+use crate::routes::rows_in;
+use crate::routes::totals_in;
+use crate::routes::zeros_in;
+use alf::Sort;
+use reader::Read;
+use reader::read_expression;
+use run_printing::printing::broken;
+use run_printing::printing::character;
+use run_printing::printing::refusal;
+use run_printing::printing::write;
+use run_words::words::find;
+use run_words::words::list_in;
+use run_words::words::number_in;
+use run_words::words::start_of;
 
-// T: names A B C, rows 011 111 10X X01 1Z1 10H.
-pub const TABLE: [u8; 18] = [0, 1, 1, 1, 1, 1, 1, 0, 2, 2, 0, 1, 1, 6, 1, 1, 0, 3];
-
-fn vector(text: &[u8]) {
-    let states = TABLE;
-    let mut answers = [9u8; 6];
-    let mut tried = [9u32; 6];
-    run(text, 3, 6, &states, 0, &mut answers, &mut tried);
+// A vector expression: as written from word 4 on, by alternatives row by row and all rows, by the queue; the totals.
+fn show_vector(line: &[u8], tree: &[u8]) {
+    write(b"\n written");
+    rows_in(b'w', line, tree, number_in(line, 4));
+    write(b" row");
+    rows_in(b'r', line, tree, 0);
+    lend(b'v', line, tree);
+    write(b" queue");
+    queue_in(line, tree);
+    totals_in(line, tree);
+    character(b'\n');
 }
 
-fn boolean(text: &[u8]) {
-    let states = TABLE;
-    let mut out = [9u8; 6];
-    run_boolean(text, 3, 6, &states, &mut out);
+// A boolean expression: all values, then row by row, then the states.
+fn show_boolean(line: &[u8], tree: &[u8]) {
+    character(b'\n');
+    lend_out(b'b', line, tree);
+    write(b" value");
+    rows_in(b'v', line, tree, 0);
+    write(b" state");
+    rows_in(b's', line, tree, 0);
 }
 
-// Cases 1 to 7 and 11. One alternative: 1 tried at each row but the first.
-pub fn vectors() {
-    vector(b"01 A");
-    vector(b"01 A -> 10 B");
-    vector(b"( 01 A -> 10 B ) & C");
-    vector(b"01 ( A & B )");
-    vector(b"'bX'b1 A");
-    vector(b"?! B");
-    // three: A then B, both at once, B then A. The first is yes at row 2, none anywhere else: 3 1 3 3 3
-    vector(b"01 A <&> 10 B");
-    vector(b"10 C & ( 01 A -> 10 B )");
+// Two calls at a row.
+fn show_row(line: &[u8], tree: &[u8], first: u8, second: u8) {
+    character(b'\n');
+    row_in(first, line, tree);
+    row_in(second, line, tree);
 }
 
-// More alternatives than T has.
-pub fn choices() {
-    // the first is yes at row 1, the second at row 2; rows 3 to 5 have no yes: 1 2 2 2 2
-    vector(b"01 A | 10 B");
-    // at row 1 the first is too long, which counts as tried, and the second is yes; at row 2 the first is: 2 1 2 2 2
-    vector(b"01 A -> 10 B | 01 A");
+fn show_vector_calls(line: &[u8], tree: &[u8]) {
+    show_row(line, tree, b'w', b'r');
+    lend(b'V', line, tree);
 }
 
-// Cases 8 to 10; a name, whose state at row 5 is H and whose value is 1.
-pub fn booleans() {
-    boolean(b"A ? C : 'bZ");
-    boolean(b"C == 'bH");
-    boolean(b"A | B");
-    boolean(b"C");
+fn show_boolean_calls(line: &[u8], tree: &[u8]) {
+    show_row(line, tree, b's', b'v');
+    lend_out(b'B', line, tree);
 }
 
-// Readings that look right.
-pub fn readings() {
-    // A is 0 at row 0, so row 2 answers no; at rows 3 to 5 it is X 1 1, so row 5 stays unknown
-    vector(b"( 01 A -> 10 B ) & A");
-    boolean(b"'bU == 'bU");
-    // rows X, X: contradictory, and kept
-    let states = [2u8, 2];
-    let mut answers = [9u8; 2];
-    let mut tried = [9u32; 2];
-    run(b"01 A & 10 A", 1, 2, &states, 0, &mut answers, &mut tried);
+fn show_case(kind: u8, line: &[u8], tree: &[u8]) {
+    match kind {
+        b'v' => show_vector(line, tree),
+        b'b' => show_boolean(line, tree),
+        b'c' => lend(b'c', line, tree),
+        b'T' => zeros_in(line, tree),
+        b'V' => show_vector_calls(line, tree),
+        b'B' => show_boolean_calls(line, tree),
+        b'P' => push_in(line, tree),
+        _ => broken(line),
+    }
 }
 
-// A trace of one row answers 3 alone, with nothing tried and nothing to count.
-pub fn one_row() {
-    let states = [0u8];
-    let mut answers = [9u8; 1];
-    let mut tried = [9u32; 1];
-    run(b"01 A", 1, 1, &states, 0, &mut answers, &mut tried);
+fn show_first(kind: u8, line: &[u8], tree: &[u8], len: usize) {
+    if len <= tree.len() {
+        show_case(kind, line, &tree[0..len]);
+    }
 }
 
-// 16 steps on 18 rows: one alternative, too long before row 16, yes from there on; 17 steps are over a limit.
-// As written from row 15 on.
-pub fn steps() {
-    let states = [0u8; 18];
-    let mut answers = [9u8; 18];
-    let mut tried = [9u32; 18];
-    let text = b"??A->??A->??A->??A->??A->??A->??A->??A->??A->??A->??A->??A->??A->??A->??A->??A";
-    run(text, 1, 18, &states, 15, &mut answers, &mut tried);
-    let over =
-        b"??A->??A->??A->??A->??A->??A->??A->??A->??A->??A->??A->??A->??A->??A->??A->??A->??A";
-    run(over, 1, 18, &states, 15, &mut answers, &mut tried);
+fn show_read(kind: u8, line: &[u8], tree: &[u8; 256], len: usize) {
+    show_first(kind, line, tree, len);
+}
+
+// A text over the names A, B, C.
+fn read(text: &[u8], sort: Sort) -> Read {
+    let mut names = [0u8; 96];
+    names[0] = b'A';
+    names[32] = b'B';
+    names[64] = b'C';
+    read_expression(&names, text, sort)
+}
+
+fn sort_of(kind: u8) -> Sort {
+    if kind == b'b' {
+        return Sort::Boolean;
+    }
+    Sort::Vector
+}
+
+// An expression as a text.
+fn show_text(kind: u8, line: &[u8], text: &[u8]) {
+    let r = read(text, sort_of(kind));
+    let refused = r.refused;
+    if refused {
+        character(b'\n');
+        refusal(r.refusal);
+        return character(b'\n');
+    }
+    let tree = r.tree;
+    show_read(kind, line, &tree, r.len);
+}
+
+// What stands from word 9 on is printed: a text, from which the tree is read, or a label, where word 8 is the tree. For
+// the totals it is the number of rows.
+fn show_rest(kind: u8, line: &[u8], rest: &[u8]) {
+    write(rest);
+    match kind {
+        b'a'..=b'z' => show_text(kind, line, rest),
+        _ => show_case(kind, line, list_in(line, 8)),
+    }
+}
+
+// A line that is empty or starts with `#` is a remark.
+fn show_line(line: &[u8]) {
+    if line.len() == 0 {
+        return;
+    }
+    let kind = line[0];
+    if kind == b'#' {
+        return;
+    }
+    let at = start_of(line, 9, b' ');
+    let end = line.len();
+    show_rest(kind, line, &line[at..end]);
+}
+
+// Each line of the input.
+pub fn show_lines(input: &[u8]) {
+    let mut at: usize = 0;
+    while at < input.len() {
+        let end = find(input, at, b'\n');
+        show_line(&input[at..end]);
+        at = end + 1;
+    }
 }

@@ -1,30 +1,21 @@
-// Runs of the calls over rows: table T by all three routes, corrections, and each refusal at its boundary.
-mod boolean_refusals;
+// Runs of the calls over rows: table T by all three routes, corrections, and each refusal at its boundary. The cases
+// come from standard input, one a line; its first lines say how a case is written.
 mod cases;
-mod corrections;
-mod large;
-mod printing;
-mod queue_refusals;
-mod refusals;
+mod lists;
 mod routes;
 
+use libc::STDIN_FILENO;
+use run_words::lists::decode;
+
+fn run(input: &mut [u8]) {
+    let n = io::read_full(STDIN_FILENO, input);
+    decode(input);
+    if n <= input.len() {
+        cases::show_lines(&input[0..n]);
+    }
+}
+
 fn main() {
-    cases::vectors();
-    cases::choices();
-    cases::booleans();
-    cases::readings();
-    cases::one_row();
-    cases::steps();
-    corrections::rows();
-    refusals::trees();
-    refusals::codes();
-    refusals::name_counts();
-    refusals::row_counts();
-    refusals::lists();
-    boolean_refusals::faults();
-    boolean_refusals::counts();
-    queue_refusals::lists();
-    queue_refusals::trees();
-    queue_refusals::codes();
-    large::rows();
+    let mut input = io::large_buffer();
+    run(&mut input);
 }

@@ -1,38 +1,16 @@
 // Reads texts from standard input, one a line, and writes each with its tokens, as code@place, or with its refusal.
 ghost use Prim.Native.Nat.{_≤_};
-ghost use lib.ListN.{length};
 use libc::STDIN_FILENO;
-use libc::STDOUT_FILENO;
-
-fn write(text: &[u8]) {
-    io::write_all(STDOUT_FILENO, text);
-}
-
-fn number(n: usize) {
-    io::print_decimal(STDOUT_FILENO, n as u64);
-}
-
-fn wide8(n: u8) -> usize {
-    n as usize
-}
+use run_printing::printing::character;
+use run_printing::printing::number;
+use run_printing::printing::refusal;
+use run_printing::printing::small;
+use run_printing::printing::write;
+use run_printing::texts::length;
+use run_words::words::find;
 
 fn wide16(n: u16) -> usize {
     n as usize
-}
-
-// The first line end from `from` on, or the length.
-fn line_end(input: &[u8], from: usize) -> usize
-    requires { ⌜ from ≤ length (now input) ⌝ }
-    ensures { λ r. ⌜ (from ≤ r) × (r ≤ length (now (input .entry))) ⌝ }
-{
-    let mut i = from;
-    while i < input.len() {
-        if input[i] == b'\n' {
-            return i;
-        }
-        i += 1;
-    }
-    i
 }
 
 // The first `count` tokens.
@@ -41,9 +19,9 @@ fn list(codes: &[u8; 4096], places: &[u16; 4096], count: usize)
 {
     let mut i: usize = 0;
     while i < count {
-        write(b" ");
-        number(wide8(codes[i]));
-        write(b"@");
+        character(b' ');
+        number(small(codes[i]));
+        character(b'@');
         number(wide16(places[i]));
         i += 1;
     }
@@ -54,20 +32,14 @@ fn show(text: &[u8]) {
     if text.len() <= 40 {
         write(text);
     } else {
-        number(text.len());
-        write(b" bytes");
+        length(text);
     }
     write(b"\n ");
     let t = tokens::read_tokens(text);
     let refused = t.refused;
     if refused {
-        let refusal = t.refusal;
-        write(b" refused ");
-        number(wide8(refusal.number));
-        write(b" at ");
-        number(refusal.place);
-        write(b"\n");
-        return;
+        refusal(t.refusal);
+        return character(b'\n');
     }
     let count = t.count;
     if count <= 10 {
@@ -78,14 +50,14 @@ fn show(text: &[u8]) {
         write(b" tokens ");
         number(count);
     }
-    write(b"\n");
+    character(b'\n');
 }
 
 // Each line of the input.
 fn show_lines(input: &[u8]) {
     let mut at: usize = 0;
     while at < input.len() {
-        let end = line_end(input, at);
+        let end = find(input, at, b'\n');
         show(&input[at..end]);
         at = end + 1;
     }

@@ -1,39 +1,58 @@
 // Runs of the trace reader and writer: document 01's example, files cut at every byte, each refusal at its boundary.
-ghost use Prim.Native.Nat.{_<_};
+// The files come from standard input, one a line, in hexadecimal digits.
+ghost use Prim.Native.Nat.{_≤_};
+
+mod long;
+
 use alf::Outcome;
-use libc::STDOUT_FILENO;
+use libc::STDIN_FILENO;
+use long::read_rows;
+use run_printing::printing::broken;
+use run_printing::printing::character;
+use run_printing::printing::number;
+use run_printing::printing::small;
+use run_printing::printing::write;
+use run_words::words::digit;
+use run_words::words::find;
 use traces::Reading;
 use traces::read::read_trace;
 use traces::write::write_trace;
 
 // A number or two of an answer, on a line.
 fn line(word: &[u8], a: usize, between: &[u8], b: usize) {
-    io::write_all(STDOUT_FILENO, word);
-    io::print_decimal(STDOUT_FILENO, a as u64);
-    io::write_all(STDOUT_FILENO, between);
-    io::print_decimal(STDOUT_FILENO, b as u64);
-    io::write_all(STDOUT_FILENO, b"\n");
+    write(word);
+    number(a);
+    write(between);
+    number(b);
+    character(b'\n');
 }
 
 fn show_reading(r: Reading) {
     match r {
         Reading::Read { names, rows } => line(b"read ", names, b" ", rows),
-        Reading::Refused(f) => line(b"refused ", f.number as usize, b" at ", f.place),
+        Reading::Refused(f) => line(b"refused ", small(f.number), b" at ", f.place),
     }
 }
 
 fn show_outcome(r: Outcome) {
     match r {
         Outcome::Done(n) => line(b"done ", n, b" ", 0),
-        Outcome::Refused(f) => line(b"refused ", f.number as usize, b" at ", f.place),
+        Outcome::Refused(f) => line(b"refused ", small(f.number), b" at ", f.place),
     }
 }
 
-fn read(file: &[u8]) {
+// A file, read into so much room for names, times and states.
+fn read_into(file: &[u8], a: usize, b: usize, c: usize)
+    requires { ⌜ (a ≤ 1024) × (b ≤ 4) × (c ≤ 64) ⌝ }
+{
     let mut names = [0u8; 1024];
     let mut times = [0u32; 4];
     let mut states = [0u8; 64];
-    show_reading(read_trace(file, &mut names, &mut times, &mut states));
+    show_reading(read_trace(file, &mut names[0..a], &mut times[0..b], &mut states[0..c]));
+}
+
+fn read(file: &[u8]) {
+    read_into(file, 1024, 4, 64);
 }
 
 // Every beginning of a file but the whole.
@@ -47,180 +66,133 @@ fn read_cut(file: &[u8]) {
 
 // Too little room for names, times, states.
 fn read_short(file: &[u8]) {
-    let mut names = [0u8; 32];
-    let mut few = [0u8; 31];
-    let mut times = [0u32; 2];
-    let mut one = [0u32; 1];
-    let mut states = [0u8; 2];
-    let mut state = [0u8; 1];
-    show_reading(read_trace(file, &mut few, &mut one, &mut state));
-    show_reading(read_trace(file, &mut names, &mut one, &mut state));
-    show_reading(read_trace(file, &mut names, &mut times, &mut state));
-    show_reading(read_trace(file, &mut names, &mut times, &mut states));
+    read_into(file, 31, 1, 1);
+    read_into(file, 32, 1, 1);
+    read_into(file, 32, 2, 1);
+    read_into(file, 32, 2, 2);
 }
 
-fn write(names: &[u8], times: &[u32], states: &[u8], n: usize) {
+fn same(out: [u8; 64]) -> [u8; 64] {
+    out
+}
+
+// Two rows of one name, written into so much room; whether the document's example comes of it.
+fn write_rows(names: &[u8], times: &[u32], states: &[u8], n: usize, room: usize, file: &[u8])
+    requires { ⌜ room ≤ 64 ⌝ }
+{
     let mut out = [0u8; 64];
-    show_outcome(write_trace(names, times, states, n, &mut out));
+    show_outcome(write_trace(names, times, states, n, &mut out[0..room]));
+    let written = same(out);
+    if check::same(&written[0..24], file) {
+        write(b"same\n");
+    }
 }
 
-// The document's example, written: its bytes, and a buffer one byte too short.
-fn write_example(file: &[u8]) {
+// A name of one letter; the time of the first of two rows, and the state of the second.
+fn write_one(letter: u8, time: u32, state: u8, n: usize, room: usize, file: &[u8])
+    requires { ⌜ room ≤ 64 ⌝ }
+{
     let mut name = [0u8; 32];
-    name[0] = b'A';
-    let mut digit = [0u8; 32];
-    digit[0] = b'1';
+    name[0] = letter;
+    let times = [time, 10];
+    let states = [0u8, state];
+    write_rows(&name, &times, &states, n, room, file);
+}
+
+// A list of names that is no slot long.
+fn write_short(file: &[u8]) {
     let times = [0u32, 10];
-    let equal = [10u32, 10];
     let states = [0u8, 1];
-    let high = [0u8, 8];
-    let mut out = [0u8; 24];
-    let mut short = [0u8; 23];
-    show_outcome(write_trace(&name, &times, &states, 2, &mut out));
-    if check::same(&out, file) {
-        io::write_all(STDOUT_FILENO, b"same\n");
+    write_rows(b"A", &times, &states, 2, 64, file);
+}
+
+// The document's example, written; a buffer one byte too short; a row less than there are; names of one byte; a digit
+// for a name; equal times and a code 8; a code 8.
+fn write_example(file: &[u8]) {
+    write_one(b'A', 0, 1, 2, 24, file);
+    write_one(b'A', 0, 1, 2, 23, file);
+    write_one(b'A', 0, 1, 1, 64, file);
+    write_short(file);
+    write_one(b'1', 0, 1, 2, 64, file);
+    write_one(b'A', 10, 8, 2, 64, file);
+    write_one(b'A', 0, 8, 2, 64, file);
+}
+
+fn no_bytes() -> [u8; 512] {
+    [0u8; 512]
+}
+
+// The bytes that pairs of digits stand for.
+fn bytes_of(digits: &[u8]) -> [u8; 512] {
+    let mut out = no_bytes();
+    let mut i: usize = 0;
+    while i < 512 {
+        if digits.len() / 2 <= i {
+            return out;
+        }
+        out[i] = 16 * digit(digits[2 * i]) + digit(digits[2 * i + 1]);
+        i += 1;
     }
-    show_outcome(write_trace(&name, &times, &states, 2, &mut short));
-    write(&name, &times, &states, 1);
-    write(b"A", &times, &states, 2);
-    write(&digit, &times, &states, 2);
-    write(&name, &equal, &high, 2);
-    write(&name, &times, &high, 2);
+    out
 }
 
-// A byte at a place, where there is room.
-fn put(out: &mut [u8], at: usize, b: u8) {
-    if at < out.len() {
-        out[at] = b;
+// How many they are.
+fn size_of(digits: &[u8]) -> usize
+    ensures { λ r. ⌜ r ≤ 512 ⌝ }
+{
+    let n = digits.len() / 2;
+    if n < 512 { n } else { 512 }
+}
+
+// A file by its digits. The first one, the document's example, is also cut at every byte, read into too little room,
+// and written.
+fn show_file(digits: &[u8], first: bool) {
+    let bytes = bytes_of(digits);
+    let n = size_of(digits);
+    if first {
+        show_example(&bytes[0..n]);
+    }
+    read(&bytes[0..n]);
+}
+
+fn show_example(file: &[u8]) {
+    read_cut(file);
+    read_short(file);
+    write_example(file);
+}
+
+// A line that is empty or starts with `#` is a remark, one with half a byte is broken.
+fn show_line(line: &[u8], first: bool) -> bool {
+    if line.len() == 0 {
+        return first;
+    }
+    if line[0] == b'#' {
+        return first;
+    }
+    if line.len() % 2 == 1 {
+        broken(line);
+        return first;
+    }
+    show_file(line, first);
+    false
+}
+
+// Each line of the input.
+fn show_lines(input: &[u8]) {
+    let mut first = true;
+    let mut at: usize = 0;
+    while at < input.len() {
+        let end = find(input, at, b'\n');
+        first = show_line(&input[at..end], first);
+        at = end + 1;
     }
 }
 
-// A mark and a number of four bytes.
-fn put_record(out: &mut [u8], at: usize, a: u8, b: u8, x: u32)
-    requires { ⌜ at < 1048576 ⌝ }
-{
-    put(out, at, a);
-    put(out, at + 1, b);
-    put(out, at + 2, (x % 256) as u8);
-    put(out, at + 3, (x / 256 % 256) as u8);
-    put(out, at + 4, (x / 65536 % 256) as u8);
-    put(out, at + 5, (x / 16777216 % 256) as u8);
-}
-
-// Rows 0 to n-1 of one name, at times 0 to n-1, all in state 0.
-fn put_rows(out: &mut [u8], n: u32)
-    requires { ⌜ n < 65537 ⌝ }
-{
-    let mut r: u32 = 0;
-    while r < n {
-        let at = 4 + 7 * r as usize;
-        put_record(out, at, b'R', b'W', r);
-        put(out, at + 6, 0);
-        r += 1;
-    }
-}
-
-// A whole file of one name and n rows; its length.
-fn put_file(out: &mut [u8], n: u32) -> usize
-    requires { ⌜ n < 65537 ⌝ }
-{
-    put(out, 0, b'N');
-    put(out, 1, b'M');
-    put(out, 2, 1);
-    put(out, 3, b'A');
-    put_rows(out, n);
-    let at = 4 + 7 * n as usize;
-    put_record(out, at, b'E', b'N', n);
-    at + 6
-}
-
-fn read_long(file: &[u8]) {
-    let mut names = [0u8; 32];
-    let mut times = [0u32; 65536];
-    let mut states = [0u8; 65536];
-    show_reading(read_trace(file, &mut names, &mut times, &mut states));
-}
-
-fn read_first(file: &[u8], n: usize) {
-    if n <= file.len() {
-        read_long(&file[..n]);
-    }
-}
-
-fn read_file(file: &[u8; 458776], n: usize) {
-    read_first(file, n);
-}
-
-fn fill_file(file: &mut [u8; 458776], n: u32) -> usize
-    requires { ⌜ n < 65537 ⌝ }
-{
-    put_file(file, n)
-}
-
-// A file of one name and so many rows.
-fn read_rows(n: u32)
-    requires { ⌜ n < 65537 ⌝ }
-{
-    let mut file = [0u8; 458776];
-    let size = fill_file(&mut file, n);
-    read_file(&file, size);
-}
-
+// The files of the input; then one name and 65,535 rows, and 65,536: the last one's mark is at byte 4 + 7 * 65,535.
 fn main() {
-    let example = b"NM\x01ARW\x00\x00\x00\x00\x00RW\x0a\x00\x00\x00\x01EN\x02\x00\x00\x00";
-    read_cut(example);
-    read_short(example);
-    write_example(example);
-    // the document's example
-    read(b"NM\x01ARW\x00\x00\x00\x00\x00RW\x0a\x00\x00\x00\x01EN\x02\x00\x00\x00");
-    // 32 names
-    read(
-        b"NM\x01ANM\x01BNM\x01CNM\x01DNM\x01ENM\x01FNM\x01GNM\x01HNM\x01INM\x01JNM\x01KNM\x01LNM\x01MNM\x01N\
-        NM\x01ONM\x01PNM\x01QNM\x01RNM\x01SNM\x01TNM\x01UNM\x01VNM\x01WNM\x01XNM\x01YNM\x01ZNM\x01aNM\x01b\
-        NM\x01cNM\x01dNM\x01eNM\x01fRW\x00\x00\x00\x00\x00\x00\x00\x00\x00\x00\x00\x00\x00\x00\x00\x00\x00\
-        \x00\x00\x00\x00\x00\x00\x00\x00\x00\x00\x00\x00\x00\x00\x00\x00\x00\x00\x00EN\x01\x00\x00\x00",
-    );
-    // 33 names
-    read(
-        b"NM\x01ANM\x01BNM\x01CNM\x01DNM\x01ENM\x01FNM\x01GNM\x01HNM\x01INM\x01JNM\x01KNM\x01LNM\x01MNM\x01N\
-        NM\x01ONM\x01PNM\x01QNM\x01RNM\x01SNM\x01TNM\x01UNM\x01VNM\x01WNM\x01XNM\x01YNM\x01ZNM\x01aNM\x01b\
-        NM\x01cNM\x01dNM\x01eNM\x01fNM\x01gRW\x00\x00\x00\x00\x00\x00\x00\x00\x00\x00\x00\x00\x00\x00\x00\
-        \x00\x00\x00\x00\x00\x00\x00\x00\x00\x00\x00\x00\x00\x00\x00\x00\x00\x00\x00\x00\x00\x00EN\x01\x00\
-        \x00\x00",
-    );
-    // a name of 32 bytes
-    read(b"NM\x20AAAAAAAAAAAAAAAAAAAAAAAAAAAAAAAARW\x05\x00\x00\x00\x00EN\x01\x00\x00\x00");
-    // a name of 33 bytes
-    read(b"NM\x21AAAAAAAAAAAAAAAAAAAAAAAAAAAAAAAAARW\x05\x00\x00\x00\x00EN\x01\x00\x00\x00");
-    // an empty name
-    read(b"NM\x00RW\x05\x00\x00\x00\x00EN\x01\x00\x00\x00");
-    // a digit first
-    read(b"NM\x011RW\x05\x00\x00\x00\x00EN\x01\x00\x00\x00");
-    // a repeat
-    read(b"NM\x01ANM\x01ARW\x05\x00\x00\x00\x00\x00EN\x01\x00\x00\x00");
-    // a length that the file is too short for
-    read(b"NM\x21AB");
-    // a row before a name
-    read(b"RW\x00\x00\x00\x00EN\x01\x00\x00\x00");
-    // EN before a row
-    read(b"NM\x01AEN\x01\x00\x00\x00");
-    // a name after a row
-    read(b"NM\x01ARW\x05\x00\x00\x00\x00NM\x01B");
-    // no mark
-    read(b"NM\x01AXX");
-    // equal times
-    read(b"NM\x01ARW\x05\x00\x00\x00\x00RW\x05\x00\x00\x00\x00EN\x02\x00\x00\x00");
-    // a code 8
-    read(b"NM\x01ARW\x05\x00\x00\x00\x08EN\x01\x00\x00\x00");
-    // a code 7
-    read(b"NM\x01ARW\x05\x00\x00\x00\x07EN\x01\x00\x00\x00");
-    // a wrong count
-    read(b"NM\x01ARW\x05\x00\x00\x00\x00EN\x02\x00\x00\x00");
-    // a wrong count and a byte after it
-    read(b"NM\x01ARW\x05\x00\x00\x00\x00EN\x02\x00\x00\x00\x00");
-    // a byte after EN
-    read(b"NM\x01ARW\x05\x00\x00\x00\x00EN\x01\x00\x00\x00\x00");
-    // 65,535 rows, and 65,536: the last one's mark is at byte 4 + 7 * 65,535
+    let mut input = io::large_buffer();
+    let n = io::read_full(STDIN_FILENO, &mut input);
+    show_lines(&input[..n]);
     read_rows(65535);
     read_rows(65536);
 }

@@ -1,4 +1,4 @@
--- `show_lines` stays within the input and ends: the measure is what is left of it. Assumes nothing.
+-- `show_lines` stays within the input and ends: the measure is what is left of it.
 use borrow.Author.Needs.{needs}
 use Prim.Native.Nat.{_-_}
 use lib.ListN.{length}
@@ -18,7 +18,7 @@ show-lines-spec =
     Inv-loop
     μ-loop
     (λ c. search needs)  -- loop-holds
-    (λ c κs. search needs)  -- line-end-requires
+    (λ c κs. search needs)  -- find-requires
     (λ c. search needs)  -- sub-show
     (λ c. search needs)  -- part-show-start
     (λ c. search needs)  -- part-show-end

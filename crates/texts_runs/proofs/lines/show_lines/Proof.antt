@@ -1,4 +1,4 @@
--- `show_lines` stays within the input and ends: the measure is what is left of it. Assumes nothing.
+-- `show_lines` stays within the input and ends: the measure is what is left of it.
 use borrow.Author.Needs.{needs}
 use Prim.Native.Nat.{_-_}
 use lib.ListN.{length}
@@ -6,10 +6,10 @@ use Rattle.texts_runs.proofs.lines.show_lines.Statement.{statement}
 use Rattle.texts_runs.proofs.lines.show_lines.Tie as tie
 
 abbrev Inv-loop : tie.InvT-loop
-Inv-loop input at₀ at = Unit {0}
+Inv-loop input usual at₀ at = Unit {0}
 
 abbrev μ-loop : tie.MeasureT-loop
-μ-loop input at₀ at = length input - at
+μ-loop input usual at₀ at = length input - at
 
 pub show-lines-spec : {M : Type 1} → statement M
 show-lines-spec =
@@ -17,6 +17,7 @@ show-lines-spec =
     (tie.spec
     Inv-loop
     μ-loop
+    (λ c κs. search needs)  -- usual-in-requires
     (λ c. search needs)  -- loop-holds
     (λ c κs. search needs)  -- find-requires
     (λ c. search needs)  -- sub-show-line

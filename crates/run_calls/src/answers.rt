@@ -1,0 +1,48 @@
+// Answers by document 01's numbers, numbers tried, totals.
+use calls::matching::Counting;
+use calls::matching::Matching;
+use calls::written::Told;
+use matcher::tables::number_of;
+use run_printing::printing::character;
+use run_printing::printing::number;
+use run_printing::printing::refusal;
+use run_printing::printing::wide;
+use run_printing::printing::write;
+use run_printing::states::entry;
+
+pub fn told(r: Told) {
+    match r {
+        Told::Answered(a) => entry(number_of(a), false),
+        Told::Refused(f) => refusal(f),
+    }
+}
+
+// An answer and the number tried.
+pub fn matching(r: Matching) {
+    match r {
+        Matching::Found(m) => {
+            let answer = m.answer;
+            let tries = m.tries;
+            entry(number_of(answer), false);
+            character(b'/');
+            number(wide(tries));
+        }
+        Matching::Refused(f) => refusal(f),
+    }
+}
+
+fn totals(yes: u32, no: u32, unknown: u32) {
+    write(b" yes ");
+    number(wide(yes));
+    write(b" no ");
+    number(wide(no));
+    write(b" unknown ");
+    number(wide(unknown));
+}
+
+pub fn counting(r: Counting) {
+    match r {
+        Counting::Counted(t) => totals(t.yes, t.no, t.unknown),
+        Counting::Refused(f) => refusal(f),
+    }
+}

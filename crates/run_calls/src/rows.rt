@@ -1,0 +1,36 @@
+// Calls at a row, at all rows one by one, and the totals.
+use crate::answers::counting;
+use crate::answers::matching;
+use crate::answers::told;
+use calls::matching::match_row;
+use calls::matching::totals;
+use calls::written::row_answer;
+use calls::written::row_state;
+use calls::written::row_value;
+use run_printing::states::state;
+
+// At a row: the answer as written, by alternatives, the value, the state.
+pub fn at_row(call: u8, names: usize, n: usize, tree: &[u8], states: &[u8], row: usize) {
+    match call {
+        b'w' => told(row_answer(names, n, tree, states, row)),
+        b'r' => matching(match_row(names, n, tree, states, row)),
+        b'v' => state(row_value(names, n, tree, states, row)),
+        _ => state(row_state(names, n, tree, states, row)),
+    }
+}
+
+// The same at rows `from` to n-1.
+pub fn at_rows(call: u8, names: usize, n: usize, tree: &[u8], states: &[u8], from: usize) {
+    let mut i = from;
+    while i < n {
+        at_row(call, names, n, tree, states, i);
+        i += 1;
+    }
+}
+
+// The totals on the first n of some rows of one name.
+pub fn totals_first(n: usize, tree: &[u8], rows: &[u8]) {
+    if n <= rows.len() {
+        counting(totals(1, n, tree, &rows[0..n]));
+    }
+}
