@@ -6,30 +6,24 @@
 use Prim.Native.Nat.{ℕ, _+_, _*_, _<_, _≤_}
 use native.Mathlib.Omega.{arith}
 use mathlib.Core.Path.{_≡_, refl, ap}
-use mathlib.Core.Bool.{Bool, true, false}
 use mathlib.Core.List.{List}
 use lib.ListN.{length}
-use Rattle.alf.specs.declared.Sort.{Sort}
 use Rattle.alf.specs.declared.Sort.the-variants as sort
-use Rattle.alf.specs.Expressions.{Expression, boolean, vector}
+use Rattle.alf.specs.Expressions.{vector}
 use Rattle.alf.specs.Bytes.{Decodes, topVector}
 use Rattle.alf.specs.Refusals.{Passed}
-use Rattle.alf.proofs.Bools.{never}
 use Rattle.names.specs.Check.{namesOrder}
 use Rattle.traces.specs.Format.{Trace, fileOf, count}
 use Rattle.trees.specs.Parts.{top, expressionAt}
-use Rattle.limits.specs.Accepted.{sortOf, Accepted}
+use Rattle.limits.specs.Accepted.{Accepted}
 use Rattle.updates.specs.Copies.{Codes}
 use Rattle.calls.specs.Orders.{Rows}
 use Rattle.calls.specs.Matching.{expression}
 use Rattle.writer.specs.Writing.{textAt, Named}
 use Rattle.round_trip.proofs.Given.{written-gives}
 use Rattle.exactness.proofs.Sound.{gives-accepted, gives-decodes}
+use Rattle.exactness.proofs.ReadTrees.{sorted-vector}
 use Rattle.demands.specs.Questions.{Question, treeOf}
-
-isVector : Sort → Bool
-isVector sort.Boolean = false
-isVector sort.Vector = true
 
 module _ {file text : List ℕ} (q : Question file text) where
   pub names-good : Passed (namesOrder (q .names))
@@ -72,21 +66,18 @@ module _ {names times states : List ℕ} {rows : ℕ} (t : Trace names times sta
       }
 
   pub question-of : Question (fileOf names times states rows) (textAt names tree)
-  unfolding Decodes top sortOf isVector
-  question-of = go (a .expression) (a .decodes) (a .sorted)
-    where
-      go : (e : Expression) → Decodes (count names) tree e → sortOf e ≡ sort.Vector
-          → Question (fileOf names times states rows) (textAt names tree)
-      go (boolean c) d s = never (ap isVector s)
-      go (vector p) d s =
-          record {
-            names = names;
-            times = times;
-            states = states;
-            rows = rows;
-            trace = t;
-            read = refl;
-            pattern = p;
-            given = rw (ap top d) at (written-gives named a);
-            short = l;
-          }
+  unfolding Decodes top
+  question-of =
+      let v = sorted-vector (a .expression) (a .sorted) in
+      let d : Decodes (count names) tree (vector (v .p)) = rw (v .is-vector) at (a .decodes) in
+      record {
+        names = names;
+        times = times;
+        states = states;
+        rows = rows;
+        trace = t;
+        read = refl;
+        pattern = v .p;
+        given = rw (ap top d) at (written-gives named a);
+        short = l;
+      }

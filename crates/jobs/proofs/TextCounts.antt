@@ -4,15 +4,17 @@
 --   counted-rows     what is counted is counted on 1 to 65,535 rows
 --   counts-unique    any two results that the contract allows coincide
 use Prim.Native.Nat.{ℕ}
-use mathlib.Core.Path.{_≡_, refl, sym, _∙_}
+use mathlib.Core.Path.{_≡_, refl, ap, sym, _∙_}
 use mathlib.Core.Bool.{true}
 use mathlib.Core.List.{List}
 use lib.ListN.{take}
 use Rattle.alf.specs.declared.Sort.the-variants as sort
+use Rattle.alf.specs.Bytes.{Decodes, topVector}
 use Rattle.alf.specs.Refusals.{RowCount, Passed}
 use Rattle.alf.proofs.Outcomes.{at-fixed, first-fixed, refused-passed}
 use Rattle.alf.proofs.Stable.{le-stable}
 use Rattle.names.proofs.Orders.{refused-first, refused-then, passed-both, passed-right}
+use Rattle.names.proofs.Orders.{Sole, sole-both, sole-fixed}
 use Rattle.matcher.specs.declared.tables.Total.{Total}
 use Rattle.reader.specs.declared.Read.{Read}
 use Rattle.reader.specs.Lookup.{countOf}
@@ -20,11 +22,16 @@ use Rattle.reader.specs.Reading.{readOrder, Reading}
 use Rattle.reader.proofs.Unique.{gives-unique}
 use Rattle.calls.specs.declared.matching.Counting.{Counting}
 use Rattle.calls.specs.declared.matching.Counting.the-variants.{Counted, Refused}
-use Rattle.calls.specs.Matching.{Counts, RowTotals}
+use Rattle.calls.specs.Matching.{expression, Counts, RowTotals}
+use Rattle.exactness.proofs.ReadTrees.{Found, read-refused, read-sole, found-accepted, found-vector}
+use Rattle.exactness.proofs.ReadTrees.{vector-given, vector-decodes}
 use Rattle.jobs.specs.Counting.{traceChecks, countOrder, TotalsText, CountsText}
-use Rattle.jobs.proofs.TextOrders.{Sole, sole-both, sole-fixed, read-sole}
 use Rattle.jobs.proofs.TextOrders.{passed-without-ten, refused-without-ten}
-use Rattle.jobs.proofs.TextTrees.{Given, read-refused, tree-accepted, tree-is, front-is}
+
+tree-is : {names text : List ℕ} {r : Read} (f : Found names text sort.Vector r)
+    → expression (take (r .len) (r .tree)) (countOf names) ≡ found-vector f .p
+unfolding Decodes topVector
+tree-is f = ap topVector (vector-decodes f)
 
 module _ {names : List ℕ} {n : ℕ} {states text : List ℕ} {r : Read} where
   pub text-refused : Reading names text sort.Vector r → r .refused ≡ true
@@ -32,25 +39,24 @@ module _ {names : List ℕ} {n : ℕ} {states text : List ℕ} {r : Read} where
   unfolding Counts
   text-refused h e = record { comes = refused-first (readOrder names text sort.Vector) _ _ _ (read-refused h e) }
 
-  module _ (g : Given names text r) where
+  module _ (f : Found names text sort.Vector r) where
     counted : (c : Counting) → RowTotals (countOf names) n (take (r .len) (r .tree)) states c
         → CountsText names n states text c
     unfolding Counts
     counted (Counted t) h =
-        let (a, b) = rw (front-is g) at (h .comes) in
+        let (a, b) = h .comes in
         record {
           comes = (
-            passed-both (readOrder names text sort.Vector) _ (g .passed)
-                (passed-without-ten _ _ _ (tree-accepted g) a),
-            record { pattern = g .pattern; given = g .given; totals = rw (tree-is g) at b },
+            passed-both (readOrder names text sort.Vector) _ (f .passed)
+                (passed-without-ten _ _ _ (found-accepted f) a),
+            record { pattern = found-vector f .p; given = vector-given f; totals = rw (tree-is f) at b },
           );
         }
     counted (Refused q) h =
-        let a = rw (front-is g) at (h .comes) in
         record {
           comes =
-              refused-then (readOrder names text sort.Vector) _ _ _ (g .passed)
-              (refused-without-ten _ _ _ (tree-accepted g) _ _ a);
+              refused-then (readOrder names text sort.Vector) _ _ _ (f .passed)
+              (refused-without-ten _ _ _ (found-accepted f) _ _ (h .comes));
         }
 
     pub tree-counted : {c : Counting} → RowTotals (countOf names) n (take (r .len) (r .tree)) states c

@@ -4,7 +4,6 @@
 --   pattern-totals                          the last line's numbers are the pattern's totals
 use Prim.Native.Nat.{ℕ, _/_}
 use mathlib.Core.Path.{_≡_, refl, ap, sym, _∙_}
-use mathlib.Core.Logic.{_⊎_, inl, inr}
 use mathlib.Core.List.{List, [], _∷_, _++_}
 use lib.ListN.{length, drop}
 use Rattle.alf.specs.declared.Answer.the-variants.{No, Yes, Unknown}
@@ -18,12 +17,12 @@ use Rattle.alf.specs.Expressions.{Vector, Expression, boolean, vector}
 use Rattle.alf.specs.Values.{stateAt}
 use Rattle.alf.specs.Windows.{rowAnswer, numberOf}
 use Rattle.alf.specs.Traces.{total}
-use Rattle.alf.specs.Refusals.{Order, check, no-room, RefusedWith, Passed}
-use Rattle.alf.proofs.Outcomes.{Fixed, at-fixed, first-fixed, refused-passed, refused-unique}
-use Rattle.reader.specs.declared.Read.{Read}
-use Rattle.reader.specs.Reads.{refusedWith}
-use Rattle.reader.specs.Reading.{readOrder, Gives, refused}
-use Rattle.reader.proofs.Unique.{gives-unique, read-unique}
+use Rattle.alf.specs.Refusals.{check, no-room}
+use Rattle.alf.proofs.Outcomes.{Fixed, at-fixed, first-fixed, refused-passed}
+use Rattle.names.proofs.Orders.{Sole, sole-both, sole-fixed}
+use Rattle.reader.specs.Reading.{readOrder, Gives}
+use Rattle.reader.proofs.Unique.{gives-unique}
+use Rattle.exactness.proofs.ReadTrees.{read-sole}
 use Rattle.writer.specs.Writing.{after}
 use Rattle.listing.specs.declared.lines.Column.the-variants.{Answers}
 use Rattle.listing.specs.Text.{bytes, joined}
@@ -32,28 +31,6 @@ use Rattle.listing.proofs.Theorems.{listed-totals}
 use Rattle.row_listings.specs.Listings.{patternListing, OfGiven, rowsOrder, listOrder}
 use Rattle.row_listings.specs.Listings.{Lists, lists, refuses, ListsPattern, ListsValues}
 use Rattle.row_listings.proofs.TextListings.{vector-one, boolean-one}
-
--- refused by an order of two parts: by the first, or by the second where the first lets pass
-refused-split : (o o′ : Order) (n p : ℕ) → RefusedWith (o ++ o′) n p
-    → RefusedWith o n p ⊎ (Passed o × RefusedWith o′ n p)
-unfolding RefusedWith Passed
-refused-split [] o′ n p r = inr (tt, r)
-refused-split (c ∷ o) o′ n p (inl r) = inl (inl r)
-refused-split (c ∷ o) o′ n p (inr (a, r)) = go (refused-split o o′ n p r)
-  where
-    go : RefusedWith o n p ⊎ (Passed o × RefusedWith o′ n p)
-        → RefusedWith (c ∷ o) n p ⊎ (Passed (c ∷ o) × RefusedWith o′ n p)
-    go (inl h) = inl (inr (a, h))
-    go (inr h) = inr ((a, h .0), h .1)
-
--- a text is refused with one number at one place
-read-one : (names text : List ℕ) (sort : Sort) {n m p q : ℕ} → RefusedWith (readOrder names text sort) n p
-    → RefusedWith (readOrder names text sort) m q
-    → (n ≡ m) × (p ≡ q)
-unfolding refusedWith
-read-one names text sort {n} {m} {p} {q} a b =
-    let e = read-unique (refused n p a) (refused m q b) in
-    (ap (λ (r : Read). r .refusal .number) e, ap (λ (r : Read). r .refusal .place) e)
 
 module _ {A : Type 0} (into : A → Expression) (one : (a b : A) → into a ≡ into b → a ≡ b) (sort : Sort)
     (shown : A → List ℕ) (names times states text : List ℕ) where
@@ -64,28 +41,13 @@ module _ {A : Type 0} (into : A → Expression) (one : (a b : A) → into a ≡ 
   room-fixed room p q a b =
       a .holds .there ∙ ap (λ (x : A). length (shown x)) (given-one (a .given) (b .given)) ∙ sym (b .holds .there)
 
-  order-one : (room : ℕ) {n m p q : ℕ}
-      → RefusedWith (listOrder into sort shown names times states text room) n p
-      → RefusedWith (listOrder into sort shown names times states text room) m q
-      → (n ≡ m) × (p ≡ q)
-  order-one room {n} {m} {p} {q} a b = go (refused-split reads rest n p a) (refused-split reads rest m q b)
-    where
-      reads : Order
-      reads = readOrder names text sort
-
-      rest : Order
-      rest =
-          rowsOrder (length names / 32) times states
-          (check 9 (OfGiven into names text sort (λ y. no-room (length (shown y)) room)) ∷ [])
-
-      go : RefusedWith reads n p ⊎ (Passed reads × RefusedWith rest n p)
-          → RefusedWith reads m q ⊎ (Passed reads × RefusedWith rest m q)
-          → (n ≡ m) × (p ≡ q)
-      go (inl x) (inl y) = read-one names text sort x y
-      go (inl x) (inr y) = absurd (refused-passed reads n p (y .0) x)
-      go (inr x) (inl y) = absurd (refused-passed reads m q (x .0) y)
-      go (inr x) (inr y) =
-          refused-unique rest (at-fixed _ _, (first-fixed _, (room-fixed room, tt))) (x .1) (y .1)
+  order-sole : (room : ℕ) → Sole (listOrder into sort shown names times states text room)
+  order-sole room =
+      sole-both (readOrder names text sort) _ (read-sole names text sort)
+      (sole-fixed
+      (rowsOrder (length names / 32) times states
+      (check 9 (OfGiven into names text sort (λ y. no-room (length (shown y)) room)) ∷ []))
+      (at-fixed _ _, (first-fixed _, (room-fixed room, tt))))
 
   pub lists-unique : {out x y : List ℕ} {r s : Outcome} → Lists into sort shown names times states text out x r
       → Lists into sort shown names times states text out y s
@@ -99,7 +61,7 @@ module _ {A : Type 0} (into : A → Expression) (one : (a b : A) → into a ≡ 
   lists-unique (lists a p g k h) (refuses b i) = absurd (refused-passed _ _ _ p b)
   lists-unique (refuses a h) (lists b q j l i) = absurd (refused-passed _ _ _ q a)
   lists-unique {out} (refuses a h) (refuses b i) =
-      let e = order-one (length out) a b in
+      let e = order-sole (length out) _ _ _ _ a b in
       ((λ t. Refused (record { number = e .0 t; place = e .1 t })), h ∙ sym i)
 
 module _ {names times states text out x y : List ℕ} {r s : Outcome} where

@@ -7,7 +7,6 @@
 use Prim.Native.Nat.{ℕ, _+_, _*_, _<_, _≤_}
 use native.Mathlib.Omega.{arith}
 use mathlib.Core.Path.{_≡_, refl, ap, sym, _∙_}
-use mathlib.Core.Bool.{Bool, true, false}
 use mathlib.Core.Logic.{_⊎_, inl, inr}
 use mathlib.Core.List.{List, [], _∷_}
 use lib.ListN.{length, getD, List·getD-eq-default}
@@ -19,19 +18,20 @@ use Rattle.alf.specs.declared.Refusal.{Refusal}
 use Rattle.alf.specs.declared.Outcome.{Outcome}
 use Rattle.alf.specs.declared.Outcome.the-variants.{Done, Refused}
 use Rattle.alf.specs.Words.{listed}
-use Rattle.alf.specs.Expressions.{Expression, boolean, vector, Over, ExpressionOver}
+use Rattle.alf.specs.Expressions.{boolean, vector, Over, ExpressionOver}
 use Rattle.alf.specs.Bytes.{topBoolean, topVector, Decodes}
 use Rattle.alf.specs.Values.{rowOf, valueAt}
 use Rattle.alf.specs.Windows.{numberOf}
 use Rattle.alf.specs.Refusals.{check, bad-lists, bad-code, no-room, RefusedWith, Passed, Comes}
-use Rattle.alf.proofs.Bools.{never, below?}
+use Rattle.alf.proofs.Bools.{below?}
 use Rattle.alf.proofs.Decoding.{decode-over}
 use Rattle.alf.proofs.Tables.{listed-at}
 use Rattle.evaluator.proofs.Lists.{listed-length}
 use Rattle.names.proofs.Orders.{none-first}
 use Rattle.trees.specs.Parts.{booleanAt, vectorAt}
-use Rattle.limits.specs.Accepted.{sortOf, Accepted}
+use Rattle.limits.specs.Accepted.{Accepted}
 use Rattle.limits.proofs.Acceptance.{decoded}
+use Rattle.exactness.proofs.ReadTrees.{sorted-vector, sorted-boolean}
 use Rattle.updates.specs.Copies.{Codes}
 use Rattle.calls.specs.Orders as calls
 use Rattle.calls.specs.Orders.{Rows}
@@ -132,42 +132,30 @@ module _ (k : ℕ) (tree times states : List ℕ) (sort : Sort) (lent : Type 0) 
       record { outcome = listed-as most text codes (length out) (p .0) same good r (d .outcome); memory = d .memory }
 
 -- what an accepted tree is, by its sort
-unfoldable pub isVector : Sort → Bool
-isVector the-sort.Boolean = false
-isVector the-sort.Vector = true
-
 pub tree-vector : (k : ℕ) (times states tree : List ℕ) → Accepted k the-sort.Vector tree
     → treeListing k times states tree ≡ patternListing k times states (vectorAt tree k (length tree))
-unfolding Decodes topVector sortOf isVector listingOf
-tree-vector k times states tree a = go (a .expression) (a .decodes) (a .sorted)
-  where
-    go : (e : Expression) → Decodes k tree e → sortOf e ≡ the-sort.Vector
-        → treeListing k times states tree ≡ patternListing k times states (vectorAt tree k (length tree))
-    go (boolean c) d s = never (ap isVector s)
-    go (vector p) d s =
-        ap (listingOf k times states) (decoded k tree (vector p) d)
-        ∙ ap (patternListing k times states) (sym (ap topVector d))
+unfolding Decodes topVector listingOf
+tree-vector k times states tree a =
+    let v = sorted-vector (a .expression) (a .sorted) in
+    let d : Decodes k tree (vector (v .p)) = rw (v .is-vector) at (a .decodes) in
+    ap (listingOf k times states) (decoded k tree (vector (v .p)) d)
+    ∙ ap (patternListing k times states) (sym (ap topVector d))
 
 pub tree-boolean : (k : ℕ) (times states tree : List ℕ) → Accepted k the-sort.Boolean tree
     → treeListing k times states tree ≡ valueListing k times states (booleanAt tree k (length tree))
-unfolding Decodes topBoolean sortOf isVector listingOf
-tree-boolean k times states tree a = go (a .expression) (a .decodes) (a .sorted)
-  where
-    go : (e : Expression) → Decodes k tree e → sortOf e ≡ the-sort.Boolean
-        → treeListing k times states tree ≡ valueListing k times states (booleanAt tree k (length tree))
-    go (boolean c) d s =
-        ap (listingOf k times states) (decoded k tree (boolean c) d)
-        ∙ ap (valueListing k times states) (sym (ap topBoolean d))
-    go (vector p) d s = never (sym (ap isVector s))
+unfolding Decodes topBoolean listingOf
+tree-boolean k times states tree a =
+    let b = sorted-boolean (a .expression) (a .sorted) in
+    let d : Decodes k tree (boolean (b .c)) = rw (b .is-boolean) at (a .decodes) in
+    ap (listingOf k times states) (decoded k tree (boolean (b .c)) d)
+    ∙ ap (valueListing k times states) (sym (ap topBoolean d))
 
 tree-over : (k : ℕ) (tree : List ℕ) → Accepted k the-sort.Boolean tree → Over k (booleanAt tree k (length tree))
-unfolding Decodes topBoolean sortOf isVector ExpressionOver
-tree-over k tree a = go (a .expression) (a .decodes) (a .sorted)
-  where
-    go : (e : Expression) → Decodes k tree e → sortOf e ≡ the-sort.Boolean
-        → Over k (booleanAt tree k (length tree))
-    go (boolean c) d s = rw (ap topBoolean d) (decode-over k tree (boolean c) d)
-    go (vector p) d s = never (sym (ap isVector s))
+unfolding Decodes topBoolean ExpressionOver
+tree-over k tree a =
+    let b = sorted-boolean (a .expression) (a .sorted) in
+    let d : Decodes k tree (boolean (b .c)) = rw (b .is-boolean) at (a .decodes) in
+    rw (ap topBoolean d) (decode-over k tree (boolean (b .c)) d)
 
 pub text-as : {k : ℕ} {times states v w out out′ : List ℕ} {r : Outcome} → v ≡ w
     → RowsText k times states v out out′ r

@@ -16,7 +16,7 @@ use Rattle.alf.specs.declared.Outcome.the-variants as outcome
 use Rattle.alf.specs.Expressions.{Vector, vector}
 use Rattle.alf.specs.Alternatives.{alternatives}
 use Rattle.alf.specs.Refusals.{Order, check, no-room, RefusedWith, Passed, Comes}
-use Rattle.names.proofs.Orders.{refused-first, refused-then, passed-both}
+use Rattle.names.proofs.Orders.{refused-first, refused-then, refused-either, passed-both}
 use Rattle.limits.specs.Accepted.{Accepted}
 use Rattle.reader.specs.Reading.{readOrder, Gives}
 use Rattle.reader.proofs.Unique.{gives-unique}
@@ -29,7 +29,6 @@ use Rattle.alternative_lines.proofs.Theorems.{alternatives-unique}
 use Rattle.row_listings.specs.Listings.{OfGiven}
 use Rattle.row_listings.proofs.TextListings.{vector-one}
 use Rattle.jobs.specs.AlternativesText.{RewritesText, refused, rewritten}
-use Rattle.jobs.proofs.TextOrders.{refused-either}
 use Rattle.jobs.proofs.AlternativesLaws.{text-unique}
 use Rattle.shut_out.specs.Reasons.{IsRefusal, refusal, Exactly}
 use Rattle.shut_out.proofs.Reasons.{exactly}

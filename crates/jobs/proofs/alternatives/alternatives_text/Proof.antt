@@ -1,8 +1,7 @@
 -- `alternatives_text` meets its contract.
 use borrow.Author.Needs.{needs}
-use mathlib.Core.Path.{sym}
-use lib.Seq.{length-take-le}
-use Rattle.jobs.proofs.AlternativesLaws.{refused-text, rewritten-text, tree-within}
+use Rattle.exactness.proofs.ReadTrees.{read-found, found-within, found-count}
+use Rattle.jobs.proofs.AlternativesLaws.{refused-text, rewritten-text}
 use Rattle.jobs.proofs.alternatives.alternatives_text.Statement.{statement}
 use Rattle.jobs.proofs.alternatives.alternatives_text.Tie as tie
 
@@ -17,13 +16,13 @@ returns c =
 
 array-share-prefix-tree : tie.Need-array-share-prefix-tree
 array-share-prefix-tree c =
-    let c2 = c .before .before in
-    tree-within (c2 .read-expression .ensures)
+    let c1 = c .before in
+    found-within (read-found (c1 .before .read-expression .ensures) (c1 .if1 .left))
 
 slice-aggregate-write-alternatives : tie.Need-slice-aggregate-write-alternatives
 slice-aggregate-write-alternatives c =
-    let c3 = c .before .before .before in
-    sym (length-take-le _ _ (tree-within (c3 .read-expression .ensures)))
+    let c2 = c .before .before in
+    found-count (read-found (c2 .before .read-expression .ensures) (c2 .if1 .left))
 
 write-alternatives-requires : tie.Need-write-alternatives-requires
 write-alternatives-requires c κs = search needs
@@ -35,8 +34,8 @@ returns-2 : tie.Need-returns-2
 returns-2 c =
     let c2 = c .before .before in
     let c6 = c2 .before .before .before .before in
-    let c7 = c6 .before in
-    rewritten-text (c7 .read-expression .ensures) (c6 .if1 .left) (c2 .write-alternatives .ensures)
+    let f = read-found (c6 .before .read-expression .ensures) (c6 .if1 .left) in
+    rewritten-text f (c2 .write-alternatives .ensures)
 
 pub alternatives-text-spec : {M : Type 1} → statement M
 alternatives-text-spec =

@@ -1,9 +1,6 @@
 -- `counting::count_text` meets its contract.
-use mathlib.Core.Path.{_≡_}
-use lib.ListN.{length}
 use borrow.Author.Needs.{needs}
-use Rattle.calls.proofs.ByAlternatives.{front-within, front-length}
-use Rattle.jobs.proofs.TextTrees.{read-given, len-few}
+use Rattle.exactness.proofs.ReadTrees.{read-found, found-within, found-count}
 use Rattle.jobs.proofs.TextCounts.{text-refused, tree-counted}
 use Rattle.jobs.proofs.counting.count_text.Statement.{statement}
 use Rattle.jobs.proofs.counting.count_text.Tie as tie
@@ -16,15 +13,13 @@ returns c = text-refused (c .before .before .read-expression .ensures) (c .befor
 
 array-share-prefix-tree : tie.Need-array-share-prefix-tree
 array-share-prefix-tree c =
-    let r = c .before .before .read-expression in
-    let e : length (r .result .tree) ≡ 256 = search needs in
-    front-within (r .result .tree) e (len-few (read-given (r .ensures) (c .before .if1 .left)))
+    let c1 = c .before in
+    found-within (read-found (c1 .before .read-expression .ensures) (c1 .if1 .left))
 
 slice-aggregate-totals : tie.Need-slice-aggregate-totals
 slice-aggregate-totals c =
-    let r = c .before .before .before .read-expression in
-    let e : length (r .result .tree) ≡ 256 = search needs in
-    front-length _ e (len-few (read-given (r .ensures) (c .before .before .if1 .left)))
+    let c2 = c .before .before in
+    found-count (read-found (c2 .before .read-expression .ensures) (c2 .if1 .left))
 
 totals-requires : tie.Need-totals-requires
 totals-requires c κs = search needs
@@ -32,7 +27,7 @@ totals-requires c κs = search needs
 returns-2 : tie.Need-returns-2
 returns-2 c =
     let c3 = c .before .before .before in
-    tree-counted (read-given (c3 .before .read-expression .ensures) (c3 .if1 .left)) (c .totals .ensures)
+    tree-counted (read-found (c3 .before .read-expression .ensures) (c3 .if1 .left)) (c .totals .ensures)
 
 pub count-text-spec : {M : Type 1} → statement M
 count-text-spec =

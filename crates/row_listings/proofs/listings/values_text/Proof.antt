@@ -1,6 +1,6 @@
 -- `values_text` meets its contract.
 use borrow.Author.Needs.{needs}
-use Rattle.row_listings.proofs.TextListings.{read-found, found-within, found-count, found-accepted}
+use Rattle.exactness.proofs.ReadTrees.{read-found, found-within, found-count, found-accepted}
 use Rattle.row_listings.proofs.TextListings.{values-lists, values-refused}
 use Rattle.row_listings.proofs.listings.values_text.Statement.{statement}
 use Rattle.row_listings.proofs.listings.values_text.Tie as tie
