@@ -1,16 +1,16 @@
 // A line's case: its expression, as a text or as a tree, and the calls that its kind names. A line of no kind is
 // printed behind a `?`.
-use crate::lists::lend;
-use crate::lists::lend_out;
-use crate::routes::push_in;
-use crate::routes::queue_in;
-use crate::routes::row_in;
-use crate::routes::rows_in;
-use crate::routes::totals_in;
-use crate::routes::zeros_in;
 use alf::Sort;
 use reader::Read;
 use reader::read_expression;
+use run_lines::lists::lend;
+use run_lines::lists::lend_out;
+use run_lines::routes::push_in;
+use run_lines::routes::queue_in;
+use run_lines::routes::row_in;
+use run_lines::routes::rows_in;
+use run_lines::routes::totals_in;
+use run_lines::routes::zeros_in;
 use run_printing::printing::broken;
 use run_printing::printing::character;
 use run_printing::printing::refusal;

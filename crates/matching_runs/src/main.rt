@@ -1,8 +1,6 @@
 // Runs of the calls over rows: table T by all three routes, corrections, and each refusal at its boundary. The cases
 // come from standard input, one a line; its first lines say how a case is written.
 mod cases;
-mod lists;
-mod routes;
 
 use libc::STDIN_FILENO;
 use run_words::lists::decode;
