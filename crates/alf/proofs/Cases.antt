@@ -1,8 +1,8 @@
 -- Table T: cases 1 to 12 as a single statement over the table of them, computed.
--- Main name: cases-hold. Assumes nothing.
+-- Main name: cases-hold.
 use mathlib.Core.Path.{_≡_, refl}
 use mathlib.Core.Bool.{true}
-use Rattle.alf.specs.Words.{greatest, least, listed, greatestOf, leastOf}
+use Rattle.basics.specs.Words.{greatest, least, listed, greatestOf, leastOf, same}
 use Rattle.alf.specs.States.{reduce, rank, ranked, notOf, andOf, orOf, xorOf, xnorOf, table, among, matches}
 use Rattle.alf.specs.States.{inCells, inLines, relations, atLeast, atMost}
 use Rattle.alf.specs.Values.{operate, chosen, settled, state, value}
@@ -12,7 +12,7 @@ use Rattle.alf.specs.Windows.{answer, best, named, rowAnswer, numberOf}
 use Rattle.alf.specs.Alternatives.{each, padded, zipped, overlaid, conditioned, rewritten}
 use Rattle.alf.specs.Alternatives.{alternatives, stepsOf}
 use Rattle.alf.specs.Traces.{corrected, lastRewritten}
-use Rattle.alf.specs.TableT.{states, cases, same, holds, allHold}
+use Rattle.alf.specs.TableT.{states, cases, holds, allHold}
 
 pub cases-hold : allHold cases ≡ true
 unfolding

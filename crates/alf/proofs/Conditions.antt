@@ -3,15 +3,15 @@
 --   Asks Q x          Q holds of the operand of each test of the alternative x
 --   alternatives-ask  if p's operands have a property, those of its alternatives' tests have it
 --   over-asked        an expression over n names has operands over n names
--- Assumes nothing.
-use mathlib.Core.List.{List, [], _∷_, _++_, map}
+use mathlib.Core.List.{List, [], _∷_, _++_}
 use Prim.Native.Nat.{ℕ, zero, suc, _-_}
 use lib.ListN.{length, replicate}
-use Rattle.alf.specs.Expressions.{Boolean, Half, the, Edge, pair, Vector, edge, join, while, Over, VectorOver}
+use Rattle.alf.specs.Expressions.{Boolean, the, pair, Vector, edge, join, while, Over, VectorOver}
 use Rattle.alf.specs.Expressions.{Join, followed-by, either-order, with-or-then, any-order, with, or-else}
-use Rattle.alf.specs.Alternatives.{Test, test, Step, Alternative, padded, zipped, overlaid, conditioned}
+use Rattle.alf.specs.Alternatives.{Test, test, Alternative, padded, zipped, overlaid, conditioned}
 use Rattle.alf.specs.Alternatives.{chained, overlapped, rewritten, alternatives}
-use Rattle.alf.proofs.Lists.{All, none, more, all-append, all-map, all-each}
+use Rattle.basics.proofs.AllEntries.{All, none, more, all-append, all-map}
+use Rattle.alf.proofs.EachAll.{all-each}
 
 module _ (Q : Boolean → Type 0) where
   abbrev pub Asked : Vector → Type 0

@@ -1,9 +1,9 @@
 -- A contradictory alternative never answers yes.
 --   contradictory-not-yes        from any row, whatever the states, if they are codes below 8
 --   contradictory-row-not-yes    so at no row
--- That it may answer unknown is an example in Readings.antt. Assumes nothing.
+-- That it may answer unknown is an example in Readings.antt.
 use mathlib.Core.Path.{_≡_, refl, ap, sym, _∙_}
-use mathlib.Core.Bool.{Bool, true, false, not, _&&_, _||_}
+use mathlib.Core.Bool.{Bool, true, false, not, _||_}
 use mathlib.Core.List.{List, [], _∷_, _++_}
 use mathlib.Core.Logic.{_⊎_, inl, inr}
 use Prim.Native.Nat.{ℕ, zero, suc, _+_, _-_, _<_, _≤_, min}
@@ -12,14 +12,14 @@ use native.Mathlib.Omega.{arith}
 use lib.Dec.{eqb}
 use lib.ListN.{length}
 use borrow.Author.Tests.{eq-eqb, eqb-true}
-use Rattle.alf.specs.Words.{if_then_else_, some, all, leastOf}
+use Rattle.basics.specs.Words.{if_then_else_, some, all, leastOf}
 use Rattle.alf.specs.Expressions.{Boolean, name, literal, negated, binary, choice}
-use Rattle.alf.specs.Expressions.{Half, Edge, pair, changes, stays}
+use Rattle.alf.specs.Expressions.{Half, pair, changes, stays}
 use Rattle.alf.specs.Windows.{asked, edgeOn}
-use Rattle.alf.specs.Alternatives.{Test, test, Step, Alternative, testAt, stepAt, stepsFrom, atRow}
+use Rattle.alf.specs.Alternatives.{test, Step, Alternative, testAt, stepAt, stepsFrom, atRow}
 use Rattle.alf.specs.Alternatives.{isName, halves, first, second, literalsAt, possible, contradictory}
-use Rattle.alf.proofs.Bools.{never, and-left, and-right, or-yes, equal?, below?}
-use Rattle.alf.proofs.Extremes.{leastOf-small}
+use Rattle.basics.proofs.Bools.{never, and-left, and-right, or-yes, equal?, below?}
+use Rattle.basics.proofs.Extremes.{leastOf-small}
 use Rattle.alf.proofs.Steps.{asked-small, step-small, steps-small}
 use Rattle.alf.proofs.RowsAreAlternatives.{row-on, row-off}
 

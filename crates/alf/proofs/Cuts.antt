@@ -5,8 +5,7 @@
 --   cut-followed, cut-either, cut-together, cut-held      the operators on windows
 --   run, cut-row      a row's answer, cut, is one Boolean run over the alternatives
 --   two-cuts          an answer is what its two cuts say
--- Assumes nothing.
-use mathlib.Core.Path.{_≡_, refl, ap, sym, _∙_}
+use mathlib.Core.Path.{_≡_, refl, ap, _∙_}
 use mathlib.Core.Bool.{Bool, true, false, _&&_, _||_}
 use mathlib.Core.List.{List, [], _∷_}
 use mathlib.Core.Logic.{_⊎_, inl, inr}
@@ -15,13 +14,13 @@ use native.Mathlib.Omega.{arith}
 use lib.Dec.{leb}
 use lib.ListN.{length}
 use borrow.Author.Tests.{le-leb, lt-leb}
-use Rattle.alf.specs.Words.{if_then_else_, greatest, least, some, greatestOf, leastOf, all}
+use Rattle.basics.specs.Words.{if_then_else_, greatest, least, some, greatestOf, leastOf, all}
 use Rattle.alf.specs.Expressions.{Boolean, Vector}
 use Rattle.alf.specs.Windows.{Window, followedBy, either, together, certainty, held, best}
-use Rattle.alf.specs.Alternatives.{Test, Step, Alternative, alternatives, testAt, stepAt, stepsFrom, atRow}
+use Rattle.alf.specs.Alternatives.{Alternative, alternatives, testAt, stepAt, stepsFrom, atRow}
 use Rattle.alf.specs.Alternatives.{bestOf}
-use Rattle.alf.proofs.Bools.{below?}
-use Rattle.alf.proofs.Choices.{every}
+use Rattle.basics.proofs.Bools.{below?}
+use Rattle.basics.proofs.Choices.{every}
 use Rattle.alf.proofs.RowsAreAlternatives.{row-on, row-off, row-alternatives}
 
 pub cut-min : (k x y : ℕ) → leb k (min x y) ≡ (leb k x && leb k y)

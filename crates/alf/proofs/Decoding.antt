@@ -1,5 +1,5 @@
 -- Whatever bytes decode to an expression are its bytes: same expression, same bytes, and a tree decodes to at most one.
--- Main names: bytes-decode, decode-over, decode-unique, same-bytes. Assumes nothing.
+-- Main names: bytes-decode, decode-over, decode-unique, same-bytes.
 use Prim.Native.Nat.{ℕ, zero, suc, _+_, _-_, _≤_}
 use native.Mathlib.Omega.{arith}
 use mathlib.Core.Path.{_≡_, refl, ap, sym, _∙_}
@@ -11,7 +11,7 @@ use Rattle.alf.specs.Bytes.{booleanBytes, vectorBytes, bytesOf}
 use Rattle.alf.specs.Bytes.{Stack, empty, broken, push, stackAt, Decodes}
 use Rattle.alf.proofs.Made.{Made, a-name, a-literal, a-negation, a-binary, a-choice, an-edge, a-join}
 use Rattle.alf.proofs.Made.{a-condition, a-condition-before, nothing, made}
-use Rattle.alf.proofs.Codes.{binary-byte, join-byte, edge-byte}
+use Rattle.alf.proofs.OperatorBytes.{binary-byte, join-byte, edge-byte}
 use Rattle.alf.proofs.Stacks.{AllOver, stack-over}
 
 -- the bytes of all that a stack holds, from the bottom

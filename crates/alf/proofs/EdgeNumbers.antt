@@ -1,7 +1,6 @@
 -- An edge from its number, and a half from its number: what the code's tests on numbers say of the definitions.
 -- Main names: half-any, half-the (a half from its number), edge-pair, edge-changes, edge-stays (an edge from its
 -- number).
--- Assumes nothing.
 use mathlib.Core.Path.{_≡_, refl}
 use mathlib.Core.Bool.{true, false}
 use Prim.Native.Nat.{ℕ, zero, suc, _-_, _/_, _%_, _<_, _≤_}

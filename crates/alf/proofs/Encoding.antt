@@ -12,9 +12,9 @@ use Rattle.alf.specs.Expressions.{on-right, on-left, Expression, boolean
 use Rattle.alf.specs.Expressions.{Over, VectorOver, ExpressionOver}
 use Rattle.alf.specs.Bytes.{booleanBytes, vectorBytes, bytesOf, Stack, empty, push, operationAt, run}
 use Rattle.alf.specs.Bytes.{ifSo, isBoolean, isVector, topBoolean, topVector, under, stackAt, Decodes}
-use Rattle.alf.proofs.Codes.{name-operation, literal-operation, binary-operation}
-use Rattle.alf.proofs.Codes.{join-operation, edge-operation}
-use Rattle.alf.proofs.Codes.{negation-operation, choice-operation, right-operation, left-operation}
+use Rattle.alf.proofs.OperatorBytes.{name-operation, literal-operation, binary-operation}
+use Rattle.alf.proofs.OperatorBytes.{join-operation, edge-operation}
+use Rattle.alf.proofs.OperatorBytes.{negation-operation, choice-operation, right-operation, left-operation}
 
 -- the stack that a list of bytes makes of a stack
 unfoldable pub runs : ℕ → List ℕ → Stack → Stack

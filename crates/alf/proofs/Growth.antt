@@ -4,24 +4,23 @@
 --   length-each, tests-append, tests-overlaid, tests-conditioned     how many there are of each
 --   Within, join-left, join-right, while-part     a part's three numbers are at most the whole's
 --   limit-part                    so a part over a limit makes a whole over a limit
--- Assumes nothing.
-use mathlib.Core.Path.{_≡_, refl, ap, sym, _∙_}
+use mathlib.Core.Path.{_≡_, refl, _∙_}
 use mathlib.Core.Bool.{Bool, true, false, _||_}
 use mathlib.Core.List.{List, [], _∷_, _++_, map}
-use Prim.Native.Nat.{ℕ, zero, suc, _+_, _-_, _*_, _<_, _≤_, max}
-use native.Mathlib.Nat.{suc-mul, mul-pos, mul-comm, le-mul-of-pos-right}
+use Prim.Native.Nat.{ℕ, zero, suc, _+_, _-_, _*_, _<_, _≤_}
+use native.Mathlib.Nat.{suc-mul, mul-comm, le-mul-of-pos-right}
 use native.Mathlib.Omega.{arith}
 use lib.Dec.{ltb}
 use lib.ListN.{length, replicate, length-append, length-map}
 use borrow.Author.Tests.{lt-ltb, ltb-true}
-use Rattle.alf.specs.Words.{greatestOf, sumOf}
+use Rattle.basics.specs.Words.{greatestOf, sumOf}
 use Rattle.alf.specs.Expressions.{Boolean, the, pair, Vector, edge, join, while, Side}
 use Rattle.alf.specs.Expressions.{Join, followed-by, either-order, with-or-then, any-order, with, or-else}
-use Rattle.alf.specs.Alternatives.{test, Alternative, each, chained, padded, zipped, overlaid, overlapped}
+use Rattle.alf.specs.Alternatives.{test, Alternative, each, padded, zipped, overlaid}
 use Rattle.alf.specs.Alternatives.{conditioned}
-use Rattle.alf.specs.Alternatives.{rewritten, alternatives, numberOfAlternatives, stepsOf, tests, testsOf}
+use Rattle.alf.specs.Alternatives.{rewritten, alternatives, tests}
 use Rattle.alf.specs.Alternatives.{overLimit}
-use Rattle.alf.proofs.Extremes.{greatestOf-append}
+use Rattle.basics.proofs.Extremes.{greatestOf-append}
 use Rattle.alf.proofs.Steps.{overlaid-length, conditioned-length}
 
 -- how many alternatives

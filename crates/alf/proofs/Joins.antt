@@ -1,18 +1,17 @@
 -- `->` on windows, alternative by alternative: it lifts (Lifting.antt).
 -- Main name: chain-lifts (`->` with the steps in a row).
--- Assumes nothing.
-use mathlib.Core.Path.{_≡_, refl, ap, sym, _∙_}
+use mathlib.Core.Path.{_≡_, refl, sym, _∙_}
 use mathlib.Core.List.{_++_}
 use mathlib.Core.Logic.{_⊎_, inl, inr}
-use Prim.Native.Nat.{ℕ, zero, suc, _+_, _-_, _<_, _≤_, min, max}
+use Prim.Native.Nat.{ℕ, _+_, _-_, _<_, min, max}
 use native.Mathlib.Omega.{arith}
 use lib.ListN.{length, length-append}
-use Rattle.alf.specs.Words.{greatest}
+use Rattle.basics.specs.Words.{greatest}
 use Rattle.alf.specs.Expressions.{Boolean}
 use Rattle.alf.specs.Windows.{Window, followedBy, either}
 use Rattle.alf.specs.Alternatives.{Alternative, stepsFrom}
-use Rattle.alf.proofs.Bools.{equal?}
-use Rattle.alf.proofs.Extremes.{min-max-left, greatest-same, greatest-zero, greatest-one, greatest-max}
+use Rattle.basics.proofs.Bools.{equal?}
+use Rattle.basics.proofs.Extremes.{min-max-left, greatest-same, greatest-zero, greatest-one, greatest-max}
 use Rattle.alf.proofs.Steps.{steps-append}
 use Rattle.alf.proofs.Lifting.{win, win-on, win-off, Lifts}
 

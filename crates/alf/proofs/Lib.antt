@@ -1,12 +1,7 @@
 -- The laws of document 01's definitions.
-pub mod Bools
-pub mod Stable
-pub mod Ranges
-pub mod Counts
+-- an expression's bytes
 pub mod NameBytes
-pub mod Extremes
 pub mod Steps
-pub mod Lists
 pub mod Lifting
 pub mod Joins
 pub mod Overlays
@@ -19,20 +14,19 @@ pub mod TraceNearness
 pub mod Cuts
 pub mod Contradictions
 pub mod Outcomes
+pub mod Orders
 pub mod Totals
 pub mod Readings
 pub mod Tries
-pub mod Tables
 pub mod Masks
 pub mod EdgeNumbers
 pub mod Cases
 pub mod Theorems
--- an expression's bytes
-pub mod Choices
 pub mod Made
-pub mod Codes
+pub mod OperatorBytes
 pub mod Stacks
 pub mod Encoding
 pub mod Decoding
 pub mod Parts
-pub mod Tops
+pub mod StackTops
+pub mod EachAll

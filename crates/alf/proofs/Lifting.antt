@@ -2,20 +2,19 @@
 -- An operator on windows `Op` that answers on two alternatives as `f` of them does, and goes through the greater on
 -- either
 -- side, answers on two lists of alternatives as `each f` of them does.
--- Main names: win, most (what one, and a list, answers on windows), Steps (each has a step), Lifts, lift. Assumes
--- nothing.
+-- Main names: win, most (what one, and a list, answers on windows), Steps (each has a step), Lifts, lift.
 use mathlib.Core.Path.{_≡_, refl, _∙_}
-use mathlib.Core.List.{List, [], _∷_, _++_, map}
-use Prim.Native.Nat.{ℕ, zero, suc, _+_, _<_, max}
+use mathlib.Core.List.{List, [], _∷_, map}
+use Prim.Native.Nat.{ℕ, _+_, _<_, max}
 use native.Mathlib.Omega.{arith}
 use lib.ListN.{length}
 use borrow.Author.Tests.{eq-eqb, ne-eqb}
-use Rattle.alf.specs.Words.{greatestOf}
+use Rattle.basics.specs.Words.{greatestOf}
 use Rattle.alf.specs.Expressions.{Boolean}
 use Rattle.alf.specs.Windows.{Window, either}
 use Rattle.alf.specs.Alternatives.{Alternative, each, stepsFrom, onWindow}
-use Rattle.alf.proofs.Lists.{All, none, more}
-use Rattle.alf.proofs.Extremes.{greatestOf-append}
+use Rattle.basics.proofs.AllEntries.{All, none, more}
+use Rattle.basics.proofs.Extremes.{greatestOf-append}
 
 -- every alternative of a list has a step
 abbrev pub Steps : List Alternative → Type 0

@@ -1,5 +1,5 @@
 -- What a byte makes of a stack of expressions, one case for each kind of byte: laws about bytes go by these cases.
--- Main names: Made, made. Assumes nothing.
+-- Main names: Made, made.
 use Prim.Native.Nat.{ℕ, _-_, _<_, _≤_}
 use mathlib.Core.Path.{_≡_, refl, ap, _∙_}
 use mathlib.Core.Bool.{false}
@@ -11,7 +11,7 @@ use Rattle.alf.specs.Bytes.{Stack, empty, broken, push, Operation, of-on
 use Rattle.alf.specs.Bytes.{of-side, wrong, binaryAt, joinAt, edgeAt, leafAt, pairAt}
 use Rattle.alf.specs.Bytes.{threeAt, oneAt, operationAt}
 use Rattle.alf.specs.Bytes.{isBoolean, isVector, topBoolean, topVector, under, ifSo, run}
-use Rattle.alf.proofs.Choices.{if-all}
+use Rattle.basics.proofs.Choices.{if-all}
 
 -- the stack that byte b leaves of the stack s
 pub data Made (names b : ℕ) (s : Stack) : Stack → Type 0 where

@@ -2,7 +2,7 @@
 -- mask-below: nothing stands above bit n-1. mask-bit: bit i says whether i is in the set. mask-only: no other number
 -- does.
 -- mask-ones: the number of ones is the number of members. mask-set, mask-keep: one place more. changes-ones,
--- changes-first: of the variables that change at a row. Assumes nothing.
+-- changes-first: of the variables that change at a row.
 use mathlib.Core.Path.{_≡_, refl, _∙_, sym, ap, ap₂}
 use mathlib.Core.Bool.{Bool, true, false}
 use mathlib.Core.Logic.{_⊎_, inl, inr}
@@ -16,7 +16,7 @@ use lib.Bits.{bitOr, or-shifted-r}
 use lib.Count.{ones, ones-cat}
 use lib.Dec.{lit<}
 use lib.Pow.{pow-pos, split, shr-mod, field, mod-mod-pow, high, low, shl-exact}
-use Rattle.alf.specs.Words.{if_then_else_, count}
+use Rattle.basics.specs.Words.{if_then_else_, count}
 use Rattle.alf.specs.Traces.{mask, changed, changeMask, changeCount}
 
 -- 1 for a member, 0 for any other

@@ -1,5 +1,4 @@
 -- The bytes of names. Main name: starts-goes-on, a byte that starts a name may stand further on in it too.
--- Assumes nothing.
 use Prim.Native.Nat.{ℕ}
 use mathlib.Core.Path.{_≡_}
 use mathlib.Core.Bool.{true}

@@ -3,21 +3,20 @@
 --   steps-near     an alternative's answers on two runs of rows that agree
 --   Near           rows i and j of two traces agree back to K rows before, or to the first row of both
 --   answers-near, tries-near     so they have the same answer and the same number tried
--- Assumes nothing.
 use mathlib.Core.Path.{_≡_, refl, ap, sym, _∙_}
 use mathlib.Core.List.{List, [], _∷_, map}
 use mathlib.Core.Logic.{_⊎_, inl, inr}
-use Prim.Native.Nat.{ℕ, zero, suc, _+_, _-_, _<_, _≤_, min, max}
+use Prim.Native.Nat.{ℕ, zero, suc, _+_, _-_, _<_, _≤_, min}
 use native.Mathlib.Nat.{add-zero}
 use native.Mathlib.Omega.{arith}
 use lib.ListN.{length}
-use Rattle.alf.specs.Words.{leastOf, greatestOf}
+use Rattle.basics.specs.Words.{leastOf, greatestOf}
 use Rattle.alf.specs.Expressions.{Boolean}
 use Rattle.alf.specs.Windows.{named}
-use Rattle.alf.specs.Alternatives.{Test, test, Step, Alternative, testAt, stepAt, stepsFrom, atRow}
+use Rattle.alf.specs.Alternatives.{test, Step, Alternative, testAt, stepAt, stepsFrom, atRow}
 use Rattle.alf.specs.Alternatives.{bestOf, answerOf, tried, tries}
-use Rattle.alf.proofs.Bools.{below?}
-use Rattle.alf.proofs.Lists.{All, none, more}
+use Rattle.basics.proofs.Bools.{below?}
+use Rattle.basics.proofs.AllEntries.{All, none, more}
 use Rattle.alf.proofs.Conditions.{AsksTest, Asks}
 use Rattle.alf.proofs.RowsAreAlternatives.{row-on, row-off}
 

@@ -4,16 +4,15 @@
 --   refused-unique    one number and one place
 --   refused-passed    nothing is refused and passed
 --   comes-unique      one outcome
--- Assumes nothing.
-use mathlib.Core.Path.{_≡_, refl, sym, ap, _∙_}
-use mathlib.Core.List.{List, [], _∷_}
+use mathlib.Core.Path.{_≡_, sym, ap, _∙_}
+use mathlib.Core.List.{[], _∷_}
 use mathlib.Core.Logic.{_⊎_, inl, inr}
 use Prim.Native.Nat.{ℕ, _<_, _≤_}
 use native.Mathlib.Omega.{arith}
-use Rattle.alf.specs.declared.Outcome.{Outcome}
-use Rattle.alf.specs.declared.Outcome.the-variants.{Done, Refused}
+use Rattle.basics.specs.declared.Outcome.{Outcome}
+use Rattle.basics.specs.declared.Outcome.the-variants.{Done, Refused}
 use Rattle.alf.specs.Refusals.{Row, At, First, FirstOf, Order, RefusedWith, Passed, Comes}
-use Rattle.alf.proofs.Bools.{below?}
+use Rattle.basics.proofs.Bools.{below?}
 
 -- a row holds at one place at most
 abbrev pub Fixed : Row → Type 0

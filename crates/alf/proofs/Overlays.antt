@@ -1,18 +1,18 @@
 -- `&` of two vectors on windows, alternative by alternative: it lifts (Lifting.antt) with empty steps before the
 -- shorter.
--- Main name: overlay-lifts. Assumes nothing.
-use mathlib.Core.Path.{_≡_, refl, ap, sym, _∙_}
+-- Main name: overlay-lifts.
+use mathlib.Core.Path.{_≡_, refl, sym, _∙_}
 use mathlib.Core.Logic.{_⊎_, inl, inr}
-use Prim.Native.Nat.{ℕ, zero, suc, _+_, _-_, _<_, _≤_, min, max}
+use Prim.Native.Nat.{ℕ, _+_, _-_, _<_, _≤_, min, max}
 use native.Mathlib.Nat.{add-zero}
 use native.Mathlib.Omega.{arith}
 use lib.ListN.{length}
-use Rattle.alf.specs.Words.{greatest}
+use Rattle.basics.specs.Words.{greatest}
 use Rattle.alf.specs.Expressions.{Boolean}
 use Rattle.alf.specs.Windows.{Window, either, together}
 use Rattle.alf.specs.Alternatives.{Alternative, overlaid, stepsFrom}
-use Rattle.alf.proofs.Bools.{equal?, below?}
-use Rattle.alf.proofs.Extremes.{min-max-left, greatest-same, greatest-zero, greatest-one, greatest-max}
+use Rattle.basics.proofs.Bools.{equal?, below?}
+use Rattle.basics.proofs.Extremes.{min-max-left, greatest-same, greatest-zero, greatest-one, greatest-max}
 use Rattle.alf.proofs.Steps.{steps-overlaid, overlaid-length}
 use Rattle.alf.proofs.Lifting.{win, win-on, win-off, Lifts}
 

@@ -1,7 +1,6 @@
 -- The stack before a place in a tree, from its last byte: how many expressions that byte takes, what is under them, and
 -- how many bytes they have.
 -- Main names: last, made-last, deep, unders, size, Has, back, deep-le; the arity of each class of byte.
--- Assumes nothing.
 use Prim.Native.Nat.{ℕ, zero, suc, _+_, _-_, _<_, _≤_}
 use native.Mathlib.Omega.{arith}
 use native.Mathlib.Numerals.{sub-one, add-one, add-two, add-three}

@@ -4,23 +4,21 @@
 --   not-last-row-only  testing a condition only at the last row: `( 01 A -> 10 B ) & A` is no at row 2
 --   u-equals-u         `U == U` gives X, not 1
 --   not-only-row-r     stopping a correction at row r: in case 12 the answer at row 4 changes too
--- Assumes nothing.
 use mathlib.Core.Path.{_≡_, refl}
 use mathlib.Core.Bool.{true}
-use mathlib.Core.List.{List, [], _∷_}
-use Prim.Native.Nat.{ℕ, _+_}
+use mathlib.Core.List.{[], _∷_}
 use Rattle.alf.specs.declared.Answer.the-variants.{No, Yes, Unknown}
-use Rattle.alf.specs.Words.{greatest, least, greatestOf, leastOf, some, all}
+use Rattle.basics.specs.Words.{greatest, least, some, all}
 use Rattle.alf.specs.States.{X, U, reduce, table, among, matches, inCells, inLines, relations}
-use Rattle.alf.specs.Expressions.{name, edge, join, while, followed-by, with, on-right, Vector}
-use Rattle.alf.specs.Values.{operate, chosen, settled, state, stateAt}
-use Rattle.alf.specs.Windows.{asked, digitAsked, letterAsked, edgeOn, followedBy, either, together, certainty}
+use Rattle.alf.specs.Expressions.{edge, join, while, with, on-right, Vector}
+use Rattle.alf.specs.Values.{state, stateAt}
+use Rattle.alf.specs.Windows.{asked, digitAsked, letterAsked, edgeOn, followedBy, together, certainty}
 use Rattle.alf.specs.Windows.{held}
 use Rattle.alf.specs.Windows.{joined, answer, best, named, rowAnswer}
 use Rattle.alf.specs.Alternatives.{test, Alternative, padded, zipped, overlaid, isName, halves, literalsAt}
 use Rattle.alf.specs.Alternatives.{possible, contradictory, each, rewritten, alternatives}
 use Rattle.alf.specs.Traces.{corrected}
-use Rattle.alf.specs.TableT.{names, states, A, B, C, rise, fall, pulse}
+use Rattle.alf.specs.TableT.{names, states, A, C, rise, fall, pulse}
 
 abbrev pub both : Vector
 both = join with (edge rise A) (edge fall A)

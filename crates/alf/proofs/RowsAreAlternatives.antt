@@ -4,22 +4,21 @@
 --   empty-window       every window answer with b = a is no
 --   best-short         so the greatest over the windows that start before row i is enough
 --   best-small         no row's answer is above yes
--- Assumes nothing.
 use mathlib.Core.Path.{_≡_, refl, ap, sym, _∙_}
 use mathlib.Core.List.{List, [], _∷_}
 use mathlib.Core.Logic.{_⊎_, inl, inr}
-use Prim.Native.Nat.{ℕ, zero, suc, _+_, _-_, _<_, _≤_, max}
+use Prim.Native.Nat.{ℕ, zero, suc, _+_, _-_, _<_, _≤_}
 use native.Mathlib.Numerals.{add-one}
 use native.Mathlib.Omega.{arith}
 use lib.ListN.{length}
 use borrow.Author.Tests.{le-leb, lt-leb}
-use Rattle.alf.specs.Words.{greatest, greatestOf}
+use Rattle.basics.specs.Words.{greatest, greatestOf}
 use Rattle.alf.specs.Expressions.{Boolean, Vector}
 use Rattle.alf.specs.Windows.{answer, best, rowAnswer, named}
 use Rattle.alf.specs.Alternatives.{Alternative, alternatives, stepsFrom, onWindow, atRow, bestOf, answerOf}
-use Rattle.alf.proofs.Bools.{below?}
-use Rattle.alf.proofs.Lists.{All, none, more}
-use Rattle.alf.proofs.Extremes.{greatest-same, greatest-zero, greatest-one, greatestOf-swap, greatestOf-same}
+use Rattle.basics.proofs.Bools.{below?}
+use Rattle.basics.proofs.AllEntries.{none, more}
+use Rattle.basics.proofs.Extremes.{greatest-same, greatest-zero, greatest-one, greatestOf-swap, greatestOf-same}
 use Rattle.alf.proofs.Steps.{steps-small}
 use Rattle.alf.proofs.Lifting.{Steps, most, win-on, win-off}
 use Rattle.alf.proofs.WindowsAreAlternatives.{window-alternatives, every-has-steps}

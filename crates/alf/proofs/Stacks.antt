@@ -1,4 +1,4 @@
--- All that bytes leave on a stack is over the names. Main names: AllOver, stack-over. Assumes nothing.
+-- All that bytes leave on a stack is over the names. Main names: AllOver, stack-over.
 use Prim.Native.Nat.{ℕ, zero, suc}
 use native.Mathlib.Omega.{arith}
 use mathlib.Core.List.{List}
@@ -7,7 +7,7 @@ use Rattle.alf.specs.Expressions.{Over, VectorOver, ExpressionOver}
 use Rattle.alf.specs.Bytes.{Stack, empty, broken, push, stackAt}
 use Rattle.alf.proofs.Made.{Made, a-name, a-literal, a-negation, a-binary, a-choice, an-edge, a-join}
 use Rattle.alf.proofs.Made.{a-condition, a-condition-before, nothing, made}
-use Rattle.alf.proofs.Codes.{edge-known}
+use Rattle.alf.proofs.OperatorBytes.{edge-known}
 
 unfoldable pub AllOver : ℕ → Stack → Type 0
 AllOver names empty = Unit {0}

@@ -4,22 +4,21 @@
 --   steps-overlaid      `&`: both end together
 --   steps-conditioned   `P & c`: the steps, and the condition at each row
 --   overlaid-length, conditioned-length, asked-one
--- Assumes nothing.
-use mathlib.Core.Path.{_≡_, refl, ap, sym, _∙_}
+use mathlib.Core.Path.{_≡_, refl, ap, _∙_}
 use mathlib.Core.Bool.{Bool, true, false}
-use mathlib.Core.List.{List, [], _∷_, _++_, map}
+use mathlib.Core.List.{[], _∷_, _++_}
 use Prim.Native.Nat.{ℕ, zero, suc, _+_, _-_, _<_, _≤_, min, max}
 use native.Mathlib.Nat.{add-zero}
 use native.Mathlib.Omega.{arith}
 use lib.ListN.{length, replicate, length-append, length-replicate, length-map}
 use lib.Dec.{eqb}
-use Rattle.alf.specs.Words.{if_then_else_, least, leastOf}
+use Rattle.basics.specs.Words.{if_then_else_, least, leastOf}
 use Rattle.alf.specs.States.{X, reduce}
 use Rattle.alf.specs.Expressions.{Boolean, Half, any, the, Edge, pair, changes, stays}
 use Rattle.alf.specs.Windows.{isDigit, asked, digitAsked, letterAsked, edgeOn, certainty, held}
-use Rattle.alf.specs.Alternatives.{Test, test, Step, Alternative, padded, zipped, overlaid, conditioned}
+use Rattle.alf.specs.Alternatives.{test, Step, Alternative, padded, zipped, overlaid, conditioned}
 use Rattle.alf.specs.Alternatives.{testAt, stepAt, stepsFrom}
-use Rattle.alf.proofs.Extremes.{least-same, least-first, leastOf-append, leastOf-small}
+use Rattle.basics.proofs.Extremes.{least-same, least-first, leastOf-append, leastOf-small}
 
 pick-small : (q : Bool) (x y : ℕ) → x ≤ 2 → y ≤ 2 → (if q then x else y) ≤ 2
 pick-small true x y h k = h

@@ -1,14 +1,12 @@
 -- Totals: yes, no and unknown together are n-1.
 --   totals-sum    of a trace of n rows, n at least 1
--- Assumes nothing.
 use mathlib.Core.Path.{_≡_, refl}
-use mathlib.Core.Bool.{Bool}
 use Prim.Native.Nat.{ℕ, zero, suc, _+_, _-_, _<_}
 use native.Mathlib.Omega.{arith}
 use lib.Dec.{eqb}
 use Rattle.alf.specs.declared.Answer.{Answer}
 use Rattle.alf.specs.declared.Answer.the-variants.{No, Yes, Unknown, NoEvent}
-use Rattle.alf.specs.Words.{if_then_else_, count}
+use Rattle.basics.specs.Words.{if_then_else_, count}
 use Rattle.alf.specs.Expressions.{Boolean, Vector}
 use Rattle.alf.specs.Windows.{best, named, rowAnswer, numberOf}
 use Rattle.alf.specs.Traces.{total}

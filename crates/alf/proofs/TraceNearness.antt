@@ -5,23 +5,22 @@
 --   rows-near        so a vector expression of at most K steps answers the same, and tries as many alternatives
 --   corrected-other, corrected-row     a correction changes row r and no other
 --   correction-elsewhere               so the answers before r and after r+K stay
--- Assumes nothing.
 use mathlib.Core.Path.{_≡_, refl, ap, sym, _∙_}
 use mathlib.Core.List.{List, [], _∷_, _++_}
 use mathlib.Core.Logic.{_⊎_, inl, inr}
-use Prim.Native.Nat.{ℕ, zero, suc, _+_, _-_, _*_, _<_, _≤_, min}
+use Prim.Native.Nat.{ℕ, suc, _+_, _-_, _*_, _<_, _≤_, min}
 use native.Mathlib.Nat.{suc-mul, mul-le-mul-right}
 use native.Mathlib.Omega.{arith}
-use lib.ListN.{length, getD, take, drop, length-append, List·getD-append}
+use lib.ListN.{length, getD, take, drop, List·getD-append}
 use lib.Seq.{getD-take, getD-drop, getD-append-add, length-take-le}
-use Rattle.alf.specs.Words.{greatestOf}
+use Rattle.basics.specs.Words.{greatestOf}
 use Rattle.alf.specs.Expressions.{Boolean, name, literal, negated, binary, choice, Vector, Over, VectorOver}
-use Rattle.alf.specs.Values.{operate, chosen, settled, state, rowOf, stateAt}
+use Rattle.alf.specs.Values.{state, rowOf, stateAt}
 use Rattle.alf.specs.Windows.{rowAnswer}
 use Rattle.alf.specs.Alternatives.{Alternative, alternatives, stepsOf, tries}
 use Rattle.alf.specs.Traces.{corrected}
-use Rattle.alf.proofs.Bools.{below?}
-use Rattle.alf.proofs.Lists.{All, none, more, all-weaken}
+use Rattle.basics.proofs.Bools.{below?}
+use Rattle.basics.proofs.AllEntries.{All, none, more, all-weaken}
 use Rattle.alf.proofs.Lifting.{Steps}
 use Rattle.alf.proofs.WindowsAreAlternatives.{every-has-steps}
 use Rattle.alf.proofs.RowsAreAlternatives.{same-answer}

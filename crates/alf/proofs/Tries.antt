@@ -2,18 +2,16 @@
 --   tried-first     no yes before it: its position
 --   tried-all       no yes at all: the length
 --   tries-zero      at row 0 it is 0
--- Assumes nothing.
-use mathlib.Core.Path.{_≡_, refl, ap, _∙_}
+use mathlib.Core.Path.{_≡_, refl}
 use mathlib.Core.List.{List, [], _∷_, _++_}
-use Prim.Native.Nat.{ℕ, zero, suc, _+_}
+use Prim.Native.Nat.{ℕ, _+_}
 use native.Mathlib.Omega.{arith}
-use lib.Dec.{eqb}
 use lib.ListN.{length}
 use borrow.Author.Tests.{ne-eqb}
 use Rattle.alf.specs.Expressions.{Boolean}
 use Rattle.alf.specs.Windows.{YES}
 use Rattle.alf.specs.Alternatives.{Alternative, tried, tries}
-use Rattle.alf.proofs.Lists.{All, none, more}
+use Rattle.basics.proofs.AllEntries.{All, none, more}
 
 abbrev NoYes : List ℕ → Type 0
 NoYes = All (λ r. r ≡ YES → ⊥)

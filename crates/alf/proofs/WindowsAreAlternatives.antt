@@ -5,24 +5,23 @@
 --   row-alternatives       row i's answer = greatest over the alternatives, each ending at i
 --   same-answer            so the named answers are the same at every row, row 0 included
 --   empty-window           a window of no event answers no
--- Assumes nothing.
-use mathlib.Core.Path.{_≡_, refl, ap, sym, _∙_}
+use mathlib.Core.Path.{_≡_, refl, ap, _∙_}
 use mathlib.Core.List.{List, [], _∷_, _++_, map}
 use mathlib.Core.Logic.{_⊎_, inl, inr}
-use Prim.Native.Nat.{ℕ, zero, suc, _+_, _-_, _<_, _≤_, min, max}
-use native.Mathlib.Nat.{add-zero}
+use Prim.Native.Nat.{ℕ, _+_, _-_, _<_, min, max}
 use native.Mathlib.Omega.{arith}
 use lib.ListN.{length, length-append}
-use borrow.Author.Tests.{eq-eqb, ne-eqb, le-leb, lt-leb}
-use Rattle.alf.specs.Words.{greatest, greatestOf, leastOf}
+use borrow.Author.Tests.{eq-eqb, ne-eqb}
+use Rattle.basics.specs.Words.{greatestOf, leastOf}
 use Rattle.alf.specs.Expressions.{Boolean, Edge, Vector, edge, join, while}
 use Rattle.alf.specs.Expressions.{Join, followed-by, either-order, with-or-then, any-order, with, or-else}
 use Rattle.alf.specs.Windows.{Window, edgeOn, followedBy, either, together, held, joined, answer}
 use Rattle.alf.specs.Alternatives.{Alternative, test, chained, overlapped, overlaid, conditioned, rewritten}
-use Rattle.alf.specs.Alternatives.{alternatives, testAt, stepAt, stepsFrom, onWindow, atRow, bestOf, answerOf}
-use Rattle.alf.proofs.Bools.{equal?, below?}
-use Rattle.alf.proofs.Lists.{All, none, more, all-append, all-map, all-each}
-use Rattle.alf.proofs.Extremes.{min-max-left, greatestOf-append}
+use Rattle.alf.specs.Alternatives.{alternatives, testAt, stepAt, stepsFrom, onWindow}
+use Rattle.basics.proofs.Bools.{equal?}
+use Rattle.basics.proofs.AllEntries.{none, more, all-append, all-map}
+use Rattle.alf.proofs.EachAll.{all-each}
+use Rattle.basics.proofs.Extremes.{min-max-left, greatestOf-append}
 use Rattle.alf.proofs.Steps.{overlaid-length, conditioned-length, steps-conditioned, edge-small}
 use Rattle.alf.proofs.Lifting.{Steps, win, most, win-on, win-off, lift}
 use Rattle.alf.proofs.Joins.{chain-lifts}

@@ -1,12 +1,21 @@
 -- Document 01, "Alternatives": rewriting a vector expression, the alternatives' answers, tries and contradictions.
-use Prim.Native.Nat.{ℕ, zero, suc, _+_, _-_, min, max}
-use mathlib.Core.Bool.{Bool, true, false, not, _||_}
+--   Test, Step, Alternative                          an alternative is a list of steps, a step a list of edge tests
+--   each, chained, padded, zipped, overlaid, overlapped, conditioned     how alternatives are put together
+--   rewritten, alternatives                          those that an operator makes, and those of an expression
+--   testAt, stepAt, stepsFrom, onWindow, atRow       the answer of a test, a step, an alternative
+--   bestOf, answerOf                                 the answer of all of them at a row
+--   tried, tries                                     how many are tried
+--   isName, halves, first, second, literalsAt        the literals asked of a name at a row of the window
+--   possible, contradictory   whether some state answers yes to all of them; for no state at some row
+--   numberOfAlternatives, stepsOf, tests, testsOf, overLimit     limit 8, and K
+use Prim.Native.Nat.{ℕ, zero, suc, _+_, _-_, min}
+use mathlib.Core.Bool.{Bool, false, not, _||_}
 use mathlib.Core.List.{List, [], _∷_, _++_, map}
 use lib.Dec.{eqb, ltb, leb}
 use lib.ListN.{length, replicate}
 use Rattle.alf.specs.declared.Answer.{Answer}
 use Rattle.alf.specs.declared.Answer.the-variants.{NoEvent}
-use Rattle.alf.specs.Words.{if_then_else_, greatestOf, leastOf, sumOf, some, all}
+use Rattle.basics.specs.Words.{if_then_else_, greatestOf, leastOf, sumOf, some, all}
 use Rattle.alf.specs.Expressions.{Boolean, name, literal, negated, binary, choice}
 use Rattle.alf.specs.Expressions.{Half, the, Edge, pair, changes, stays, Vector, edge, join, while}
 use Rattle.alf.specs.Expressions.{Join, followed-by, either-order, with-or-then, any-order, with, or-else}

@@ -5,13 +5,19 @@
 --   50 to 55   -> <-> &> <&> & | of vectors        64 to 144   an edge, 64 + 9 f + t, halves as ? 0 1 X H L W Z U
 --   145 146    ?! and ?-                           147         !
 -- What is no such byte, or lacks an operand of the right sort, is no expression.
+--   binaryByte, joinByte, halfNumber, edgeNumber, booleanBytes, vectorBytes, bytesOf   from an expression to its bytes
+--   Stack, Operation, run, stackAt       the stack that the first n bytes build
+--   binaryAt, joinAt, halfAt, edgeAt, negation, edging, leafAt, pairAt, threeAt, oneAt, operationAt   what a byte does
+--   arityAt                              how many operands it takes
+--   isBoolean, isVector, topBoolean, topVector, under, ifSo     the top of the stack, and what is under it
+--   Decodes                              these bytes are this expression
 use Prim.Native.Nat.{ℕ, zero, suc, _+_, _-_, _*_, _/_, _%_}
 use mathlib.Core.Bool.{Bool, true, false, _&&_}
 use mathlib.Core.Path.{_≡_}
 use mathlib.Core.List.{List, [], _∷_, _++_}
 use lib.Dec.{eqb, ltb}
 use lib.ListN.{getD, length}
-use Rattle.alf.specs.Words.{if_then_else_}
+use Rattle.basics.specs.Words.{if_then_else_}
 use Rattle.alf.specs.Expressions.{Boolean, name, literal, negated, binary, choice}
 use Rattle.alf.specs.Expressions.{Binary, and, or, xor, xnor, equals, differs, above, below, at-least, at-most}
 use Rattle.alf.specs.Expressions.{Half, any, the, Edge, pair, changes, stays, Vector, edge, join, while}

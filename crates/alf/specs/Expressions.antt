@@ -1,5 +1,9 @@
 -- Document 01, "Text": what an expression is once its text is read. Brackets leave no trace; an operator has a name.
 -- A name is its number in the list of names, counted from 0; a literal is the code of its state.
+--   Binary, Boolean                      operators of two booleans; boolean expressions
+--   Half, Edge, Join, Side, Vector   edges, operators of two vectors, where a condition stands; vector expressions
+--   Expression                           either
+--   Over, HalfKnown, EdgeKnown, VectorOver, ExpressionOver     over a number of names, with known states
 use Prim.Native.Nat.{ℕ, _<_}
 
 -- operators of two booleans: & | ^ ~^ == != > < >= <=

@@ -1,5 +1,4 @@
 -- Document 01 as definitions, a file for each chapter. The laws of these definitions are in proofs/.
-pub mod Words
 pub mod States
 pub mod Expressions
 pub mod Values
@@ -10,4 +9,3 @@ pub mod Bytes
 pub mod Names
 pub mod Refusals
 pub mod TableT
-pub mod Contracts

@@ -1,11 +1,14 @@
 -- Document 01, "Text": what is a name, and a list of names as slots of 32 bytes, zero-filled behind the name.
-use Prim.Native.Nat.{ℕ, zero, suc, _+_, _*_, _%_, _/_, _<_, _≤_}
-use mathlib.Core.Bool.{Bool, true, false, not, _&&_, _||_}
+--   between, isLetter, isDecimal, startsName, goesOnName, isName     bytes of names, and names
+--   slot, untilZero, nameAt, slotOf      a slot of a list, the name in it, a name as a slot
+--   GoodSlot                             a slot that passes refusal 12
+use Prim.Native.Nat.{ℕ, _+_, _*_, _<_}
+use mathlib.Core.Bool.{Bool, true, false, _&&_, _||_}
 use mathlib.Core.Path.{_≡_}
 use mathlib.Core.List.{List, [], _∷_, _++_}
 use lib.Dec.{eqb, ltb, leb}
 use lib.ListN.{length, take, drop, replicate}
-use Rattle.alf.specs.Words.{if_then_else_, all}
+use Rattle.basics.specs.Words.{if_then_else_, all}
 
 -- Letters, digits, `_`. Each byte is put in its class by ranges; bytes 128 to 255 belong to no class.
 abbrev pub between : ℕ → ℕ → ℕ → Bool

@@ -1,14 +1,21 @@
 -- Document 01, "Numbers for refused work": a definition for each row of the table, and the outcome of a call as the
 -- first of its order. A row says, for each place, whether the refusal is given there. Where it speaks of tokens,
 -- expressions or records, what these are is a parameter: the crate that reads texts or files says it.
+--   Row, At, First, FirstOf              a row of the table, by its kind of place
+--   too-long (1), no-token (2), too-deep (3), too-many-tokens (4), no-grammar (5), unknown-name (6), wrong-sort (7),
+--   over-limits (8), no-room (9), cannot-be (10), wrong-mark (11), bad-name and bad-slot (12), early-time and
+--   not-above (13), cut-short (14), bad-code (15), wrong-count (16), bytes-after (17), NameCount, RowCount and
+--   bad-lists (18), no-such-row (19)
+--   Check, Order, check                  a call's order of rows
+--   Never, RefusedWith, Passed, Comes    refused by the first row that holds; passed; the outcome of a call
 use Prim.Native.Nat.{ℕ, _-_, _/_, _<_, _≤_}
 use mathlib.Core.Bool.{true}
 use mathlib.Core.Logic.{_⊎_}
 use mathlib.Core.Path.{_≡_}
 use mathlib.Core.List.{List, [], _∷_}
 use lib.ListN.{length, getD}
-use Rattle.alf.specs.declared.Outcome.{Outcome}
-use Rattle.alf.specs.declared.Outcome.the-variants.{Done, Refused}
+use Rattle.basics.specs.declared.Outcome.{Outcome}
+use Rattle.basics.specs.declared.Outcome.the-variants.{Done, Refused}
 use Rattle.alf.specs.Names.{GoodSlot}
 use Rattle.alf.specs.Alternatives.{Alternative, overLimit}
 

@@ -1,11 +1,17 @@
 -- Document 01, "States and values": the eight states, their reduced values, the operators and the relations on them.
 -- A state is its code: 0 and 1 are themselves, and a letter is the name of its code. A value is 0, 1 or X.
-use Prim.Native.Nat.{ℕ, zero, suc, _+_, min, max}
+--   X, H, L, W, Z, U                     the codes of the letters
+--   reduce, rank, ranked                 reducing; the order 0 < X < 1
+--   notOf, andOf, orOf, xorOf, xnorOf    the operators on reduced values
+--   Answers, gives, Right, Cell, Line, table     the relation table as document 01 lays it out
+--   among, matches, inCells, inLines, relations  looking it up
+--   atLeast, atMost                      >= and <=
+use Prim.Native.Nat.{ℕ, min, max}
 use mathlib.Core.Bool.{Bool, true, false, _||_}
 use mathlib.Core.List.{List, [], _∷_}
 use lib.Dec.{eqb}
 use lib.ListN.{getD}
-use Rattle.alf.specs.Words.{if_then_else_}
+use Rattle.basics.specs.Words.{if_then_else_}
 
 -- Eight states with codes 0 to 7: 0 1 X H L W Z U
 abbrev pub X : ℕ

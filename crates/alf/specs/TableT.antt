@@ -1,10 +1,12 @@
 -- Document 01, "Table T and its answers": the trace, and the cases 1 to 12 as a table.
-use Prim.Native.Nat.{ℕ, zero, suc, _+_, _-_, _*_, min}
-use mathlib.Core.Bool.{Bool, true, false, _&&_}
+--   names, rows, A, B, C, times, states  the trace T
+--   rise, fall, settle, pulse            edges and the pattern that cases use
+--   Case, cases                          the table of cases 1 to 12
+--   numbers, entries, holds, allHold       that a case holds, as a test that computes
+use Prim.Native.Nat.{ℕ, _+_, _-_}
+use mathlib.Core.Bool.{Bool, true, _&&_}
 use mathlib.Core.List.{List, [], _∷_, _++_}
-use lib.Dec.{eqb}
-use lib.ListN.{length}
-use Rattle.alf.specs.Words.{listed}
+use Rattle.basics.specs.Words.{listed, same}
 use Rattle.alf.specs.States.{X, H, Z}
 use Rattle.alf.specs.Expressions.{Boolean, name, literal, binary, choice, and, or, equals}
 use Rattle.alf.specs.Expressions.{the, Edge, pair, changes}
@@ -90,12 +92,6 @@ cases =
     -- 12: case 1, row 3 corrected to 001; entries 3 and 4 rewritten
     ∷ correction (edge rise A) 3 (0 ∷ 0 ∷ 1 ∷ []) (3 ∷ 1 ∷ 0 ∷ 0 ∷ 1 ∷ 0 ∷ []) (3 ∷ 4 ∷ [])
     ∷ []
-
-unfoldable pub same : List ℕ → List ℕ → Bool
-same [] [] = true
-same [] (y ∷ ys) = false
-same (x ∷ xs) [] = false
-same (x ∷ xs) (y ∷ ys) = eqb x y && same xs ys
 
 -- the numbers that a vector expression answers on a trace of six rows, and the entries that a correction rewrites
 abbrev pub numbers : List ℕ → Vector → List ℕ

@@ -1,14 +1,17 @@
 -- Document 01, "Trace file": the variables that change at a row, the totals of a vector expression, a row's correction.
 -- The bytes of a trace file are not defined here.
+--   differAt, changed, mask, changeMask, changeCount     the changed variables of a row, as a set and how many
+--   total, Totals                                        how many rows have an answer
+--   corrected, lastRewritten   a trace with row r replaced; the last answer that is rewritten
 use Prim.Native.Nat.{ℕ, zero, suc, _+_, _-_, _*_, _^_, min}
 use mathlib.Core.Path.{_≡_}
-use mathlib.Core.Bool.{Bool, true, false, not}
-use mathlib.Core.List.{List, [], _∷_, _++_}
+use mathlib.Core.Bool.{Bool, false, not}
+use mathlib.Core.List.{List, _++_}
 use lib.Dec.{eqb}
-use lib.ListN.{length, getD, take, drop}
+use lib.ListN.{take, drop}
 use Rattle.alf.specs.declared.Answer.{Answer}
 use Rattle.alf.specs.declared.Answer.the-variants.{No, Yes, Unknown}
-use Rattle.alf.specs.Words.{if_then_else_, count}
+use Rattle.basics.specs.Words.{if_then_else_, count}
 use Rattle.alf.specs.Expressions.{Boolean, Vector}
 use Rattle.alf.specs.Values.{rowOf}
 use Rattle.alf.specs.Windows.{rowAnswer, numberOf}

@@ -1,10 +1,13 @@
 -- Document 01, "States and values": the state and the value of a boolean expression at a row of a trace.
 -- A row is the function from a name's number to its recorded state.
+--   operate, chosen              an operator on two states; the ternary
+--   settled, state, value        the value of what has a state; state and value of an expression at a row
+--   rowOf, stateAt, valueAt      a row of a trace; state and value there
 use Prim.Native.Nat.{ℕ, _+_, _*_}
 use mathlib.Core.List.{List}
 use lib.Dec.{eqb}
 use lib.ListN.{getD}
-use Rattle.alf.specs.Words.{if_then_else_}
+use Rattle.basics.specs.Words.{if_then_else_}
 use Rattle.alf.specs.States.{X, reduce, notOf, andOf, orOf, xorOf, xnorOf, relations, atLeast, atMost}
 use Rattle.alf.specs.Expressions.{Boolean, name, literal, negated, binary, choice}
 use Rattle.alf.specs.Expressions.{Binary, and, or, xor, xnor, equals, differs, above, below, at-least, at-most}

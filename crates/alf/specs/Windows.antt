@@ -1,13 +1,20 @@
 -- Document 01, "What a pattern says": the answer of a vector expression on the rows from a to b, and at a row.
 -- `st` is the state of each boolean expression at each row; all that follows depends on a trace by it alone.
+--   NO, UNKNOWN, YES                                 answers in their order
+--   isDigit, digitAsked, letterAsked, asked, edgeOn  a literal asked of a state, an edge of two states
+--   Window                                           what answers on windows
+--   followedBy, either, together, joined             the operators of two vectors
+--   certainty, held                                  a condition at every row
+--   answer, best, rowAnswer   the answer on a window, the greatest of those that end at a row, a row's answer
+--   named, numberOf                                  an answer by its place in the order; document 01's number of it
 use Prim.Native.Nat.{ℕ, zero, suc, _+_, _-_, min, max}
 use mathlib.Core.Bool.{Bool}
-use mathlib.Core.List.{List, [], _∷_}
+use mathlib.Core.List.{[], _∷_}
 use lib.Dec.{eqb, ltb}
 use lib.ListN.{getD}
 use Rattle.alf.specs.declared.Answer.{Answer}
 use Rattle.alf.specs.declared.Answer.the-variants.{No, Yes, Unknown, NoEvent}
-use Rattle.alf.specs.Words.{if_then_else_, greatest, least}
+use Rattle.basics.specs.Words.{if_then_else_, greatest, least}
 use Rattle.alf.specs.States.{X, reduce}
 use Rattle.alf.specs.Expressions.{Boolean, Half, any, the, Edge, pair, changes, stays}
 use Rattle.alf.specs.Expressions.{Vector, edge, join, while}

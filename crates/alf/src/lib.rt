@@ -1,7 +1,4 @@
-// What every crate of the project speaks of: answers, sorts, rows, times and the outcome of a call.
-pub mod changes;
-pub mod edges;
-pub mod states;
+// What every crate of the project speaks of: answers, sorts, rows and times.
 
 // What a row answers.
 pub enum Answer {
@@ -21,15 +18,3 @@ pub enum Sort {
 pub struct RowNo(pub u32);
 
 pub struct Stamp(pub u32);
-
-// Refused work: its number in document 01's table, and the place.
-pub struct Refusal {
-    pub number: u8,
-    pub place: usize,
-}
-
-// What a call comes to: done, with a count of what it made, or refused.
-pub enum Outcome {
-    Done(usize),
-    Refused(Refusal),
-}

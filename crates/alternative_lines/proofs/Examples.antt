@@ -5,7 +5,7 @@ use mathlib.Core.Path.{_≡_, refl}
 use mathlib.Core.List.{List, [], _∷_, _++_}
 use lib.ListN.{replicate}
 use Rattle.alf.specs.TableT.{A, B, C, rise, fall, pulse}
-use Rattle.alf.specs.Words.{sumOf, some, all}
+use Rattle.basics.specs.Words.{sumOf, some, all}
 use Rattle.alf.specs.Names.{untilZero, slot}
 use Rattle.alf.specs.States.{reduce}
 use Rattle.alf.specs.Windows.{asked, digitAsked, letterAsked}
@@ -18,10 +18,11 @@ use Rattle.trees.specs.Brackets.{binaryLevel, levelOf, bracketed, booleanDepth,
 use Rattle.grammar.specs.Tokens.{table, kindIn, kind}
 use Rattle.grammar.specs.Written.{fitted, written}
 use Rattle.writer.specs.Trees.{joinCode, booleanTree, vectorTree, treeOf}
-use Rattle.writer.specs.Spelled.{halfByte, literalSpelled, pairSpelled, operators, marks, prefixes, signSpelled}
-use Rattle.writer.specs.Spelled.{spelled, following, textOf, text}
-use Rattle.listing.specs.Text.{bytes, joined}
-use Rattle.listing.specs.Numbers.{digits, widthUpTo, width, decimal}
+use Rattle.spelling.specs.Spelled.{halfByte, literalSpelled, pairSpelled, operators, marks, prefixes, signSpelled}
+use Rattle.spelling.specs.Spelled.{spelled, following, textOf}
+use Rattle.writer.specs.Trees.{text}
+use Rattle.figures.specs.Text.{bytes, joined}
+use Rattle.figures.specs.Numbers.{digits, widthUpTo, width, decimal}
 use Rattle.alternative_texts.specs.Texts.{readable, shown, expressionOf, testText, behind, between, stepText}
 use Rattle.alternative_texts.specs.Texts.{alternativeText, missing}
 use Rattle.alternative_lines.specs.Listing.{note, lineOf, line, linesFrom, listing}

@@ -1,4 +1,5 @@
+-- The laws of the lines of alternatives.
 pub mod LineParts
-pub mod Returns
+pub mod WritingCases
 pub mod Theorems
 pub mod Examples

@@ -13,16 +13,17 @@ use mir.Val.{Fits}
 use mir.Syntax.{w64}
 use borrow.Author.Tests.{ne-eqb}
 use Rattle.alf.specs.Alternatives.{Test, Alternative}
-use Rattle.matcher.specs.Shapes.{cut, sum, alternativeIn, alternativesIn, alternativesOf}
-use Rattle.matcher.proofs.Cuts.{cut-none, sum-next, sum-part-drop, tests-length}
+use Rattle.alternatives.specs.InMemory.{cut, sum, alternativeIn, alternativesIn, alternativesOf}
+use Rattle.alternatives.proofs.Cuts.{cut-none, sum-next, sum-part-drop, tests-length}
 use Rattle.matcher.proofs.Walking.{alternatives-next}
-use Rattle.writer.specs.Inner.{Put}
-use Rattle.writer.specs.Writing.{countOf, Holds}
-use Rattle.writer.proofs.Spelling.{put-as}
-use Rattle.listing.specs.Text.{bytes, joined}
-use Rattle.listing.specs.Numbers.{decimal}
-use Rattle.listing.proofs.Parts.{put-then}
-use Rattle.listing.proofs.Sizes.{decimal-short}
+use Rattle.basics.specs.Memory.{Put}
+use Rattle.writer.specs.Writing.{countOf}
+use Rattle.basics.specs.Memory.{Holds}
+use Rattle.basics.proofs.PartByPart.{put-as}
+use Rattle.figures.specs.Text.{bytes, joined}
+use Rattle.figures.specs.Numbers.{decimal}
+use Rattle.basics.proofs.PartByPart.{put-then}
+use Rattle.figures.proofs.Digits.{decimal-short}
 use Rattle.alternative_texts.specs.Texts.{alternativeText}
 use Rattle.alternative_lines.specs.Listing.{note, lineOf}
 use Rattle.alternative_texts.specs.Inner.{Countable, Puts, OneAlternative, allTests}

@@ -5,10 +5,10 @@ use mathlib.Core.Path.{_≡_, sym, ap, _∙_}
 use mathlib.Core.List.{List}
 use lib.ListN.{length}
 use Rattle.alf.proofs.Outcomes.{AllFixed, at-fixed, first-fixed, comes-unique}
-use Rattle.writer.specs.Writing.{after}
 use Rattle.alternative_lines.specs.declared.Lines.{Lines}
 use Rattle.alternative_texts.specs.Texts.{untold}
-use Rattle.alternative_lines.specs.Calls.{ownAt, listingAt, order, tally, WritesAlternatives}
+use Rattle.alternative_lines.specs.Calls.{ownAt, order, tally, WritesAlternatives}
+use Rattle.basics.proofs.Memory.{after-unique}
 
 pub alternatives-unique : {names tree out a b : List ℕ} {r s : Lines}
     → WritesAlternatives names tree out a r → WritesAlternatives names tree out b s → (r ≡ s) × (a ≡ b)
@@ -22,5 +22,5 @@ alternatives-unique {names} {tree} {out} {r = r} {s = s} w v =
     let f : r .untold ≡ s .untold =
     w .untold-are ∙ ap (tally (untold names (ownAt names tree))) e ∙ sym (v .untold-are) in (
       λ i. record { written = e i; untold = f i },
-      w .memory ∙ ap (after (listingAt names tree) out) e ∙ sym (v .memory),
+      after-unique _ out e (w .memory) (v .memory),
     )

@@ -1,20 +1,27 @@
--- What `write_alternatives` comes to: 18 and 12 for the names, 10 for a tree that limits' `Accepted` refuses, 9 where
+-- What `write_alternatives` comes to: 18 and 12 for the names, 10 for a tree that acceptance's `Accepted` refuses, 9
+-- where
 -- the text is longer than the lent buffer; else the text stands at the buffer's front. Besides, how many tests are
--- shown as `...`. Main names: listingAt, order, WritesAlternatives.
+-- shown as `...`.
+--   ownAt, tally          the alternatives of a tree's expression; how many of their tests have no text
+--   listingAt             the alternatives of a tree's expression, and their text
+--   order                 the refusals in their order
+--   WritesAlternatives    what the call comes to
+--   DeliversLines         the same behind the checks
 use Prim.Native.Nat.{ℕ}
 use mathlib.Core.Path.{_≡_}
 use mathlib.Core.List.{List, [], _∷_}
 use lib.ListN.{length}
-use Rattle.alf.specs.declared.Outcome.{Outcome}
-use Rattle.alf.specs.declared.Outcome.the-variants.{Done, Refused}
+use Rattle.basics.specs.declared.Outcome.{Outcome}
+use Rattle.basics.specs.declared.Outcome.the-variants.{Done, Refused}
 use Rattle.alf.specs.declared.Sort.the-variants.{Vector}
 use Rattle.alf.specs.Alternatives.{Alternative, alternatives}
 use Rattle.alf.specs.Refusals.{Order, check, bad-lists, bad-slot, cannot-be, no-room, Comes}
 use Rattle.names.specs.Check.{Slots}
 use Rattle.trees.specs.Parts.{vectorAt}
-use Rattle.limits.specs.Accepted.{Accepted}
-use Rattle.writer.specs.Writing.{countOf, after}
-use Rattle.listing.specs.Calls.{Delivers}
+use Rattle.acceptance.specs.Accepted.{Accepted}
+use Rattle.writer.specs.Writing.{countOf}
+use Rattle.basics.specs.Memory.{after, front}
+use Rattle.figures.specs.Delivering.{Delivers}
 use Rattle.alternative_lines.specs.declared.Lines.{Lines}
 use Rattle.alternative_lines.specs.Listing.{listing}
 use Rattle.alternative_texts.specs.Texts.{untold}
@@ -42,7 +49,7 @@ tally n (Refused r) = 0
 
 pub record WritesAlternatives (names tree out out′ : List ℕ) (r : Lines) : Type 0 where
   pub outcome : Comes (order names tree (length out)) (λ k. k ≡ length (listingAt names tree)) (r .written)
-  pub memory : out′ ≡ after (listingAt names tree) out (r .written)
+  pub memory : out′ ≡ after (front (listingAt names tree) out) out (r .written)
   pub untold-are : r .untold ≡ tally (untold names (ownAt names tree)) (r .written)
 
 -- The end of the call, where the text is w and n tests are shown as `...`: 9, or done.

@@ -1,4 +1,8 @@
--- What the inner functions ask of their callers, and what they give, besides alternative_texts' own.
+-- What the functions inside ask and give, besides alternative_texts' own.
+--   flagged, noted, marked       a line's note by its flag; the line's number and note
+--   linesWith, headedLines       the lines, each note by a flag; the heading before them
+--   AllLines, Listed, Whole      the lists of an accepted tree, with flags or without; the tree itself
+--   Low                          a place far below the last one of 64 bits
 use Prim.Native.Nat.{ℕ, _+_, _≤_}
 use mathlib.Core.Bool.{Bool, not}
 use mathlib.Core.List.{List, [], _∷_, _++_}
@@ -6,11 +10,11 @@ use lib.Dec.{eqb}
 use lib.ListN.{length}
 use Rattle.alf.specs.Alternatives.{Alternative}
 use Rattle.alf.specs.declared.Sort.the-variants.{Vector}
-use Rattle.limits.specs.Accepted.{Accepted}
-use Rattle.matcher.specs.Shapes.{Shape}
+use Rattle.acceptance.specs.Accepted.{Accepted}
+use Rattle.alternatives.specs.InMemory.{Shape}
 use Rattle.writer.specs.Writing.{countOf, Named}
-use Rattle.listing.specs.Text.{bytes, joined}
-use Rattle.listing.specs.Numbers.{decimal}
+use Rattle.figures.specs.Text.{bytes, joined}
+use Rattle.figures.specs.Numbers.{decimal}
 use Rattle.alternative_lines.specs.Listing.{note, lineOf}
 
 -- the note by a flag, between its tabs

@@ -1,13 +1,15 @@
 -- The alternatives of a pattern as text: a heading, and a line for each alternative with its number from 1, a note
 -- whether it is contradictory, and the alternative (alternative_texts says what its text is). Columns stand between
--- tabs, and every line ends in LF. Main names: line, listing.
+-- tabs, and every line ends in LF.
+--   note, lineOf, line     a line, and its note
+--   linesFrom, listing     all lines, under the heading
 use Prim.Native.Nat.{ℕ, _+_}
 use mathlib.Core.Bool.{Bool, true, false}
 use mathlib.Core.List.{List, [], _∷_, _++_}
 use Rattle.alf.specs.Alternatives.{Alternative, contradictory}
 use Rattle.writer.specs.Writing.{countOf}
-use Rattle.listing.specs.Text.{bytes, joined}
-use Rattle.listing.specs.Numbers.{decimal}
+use Rattle.figures.specs.Text.{bytes, joined}
+use Rattle.figures.specs.Numbers.{decimal}
 use Rattle.alternative_texts.specs.Texts.{alternativeText}
 
 -- whether an alternative is contradictory, in words

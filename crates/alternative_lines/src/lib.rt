@@ -3,24 +3,24 @@ pub mod numbered;
 
 ghost use mathlib.Core.Path.{_≡_};
 ghost use lib.ListN.{length};
-ghost use Rattle.alf.specs.Words.{sumOf};
-ghost use Rattle.matcher.specs.Shapes.{alternativesOf};
-ghost use Rattle.rewriting.specs.Possible.{Flagged, Reported};
+ghost use Rattle.basics.specs.Words.{sumOf};
+ghost use Rattle.alternatives.specs.InMemory.{alternativesOf};
+ghost use Rattle.contradictions.specs.Possible.{Flagged, Reported};
 ghost use Rattle.writer.specs.Writing.{Named, countOf};
 ghost use Rattle.alternative_lines.specs.Listing.{listing};
 ghost use Rattle.alternative_texts.specs.Texts.{untold, untoldTest};
 ghost use Rattle.alternative_lines.specs.Calls.{listingAt, ownAt, WritesAlternatives, DeliversLines};
 ghost use Rattle.alternative_lines.specs.Inner.{AllLines, Whole, Listed, headedLines};
 ghost use Rattle.alternative_texts.specs.Inner.{allTests};
-use alf::Outcome;
+use crate::numbered::put_all;
+use acceptance::accepting::accepts;
 use alf::Sort;
 use alternative_texts::showing::count_untold;
-use limits::accepting::accepts;
+use basics::Outcome;
+use basics::refusing::refuse;
+use contradictions::possible::flag_all;
 use names::check_names;
-use names::refuse;
-use numbered::put_all;
 use rewriting::lists::alternatives_of;
-use rewriting::possible::flag_all;
 
 // What comes of a listing, and how many tests are shown in it as `...`.
 pub struct Lines {

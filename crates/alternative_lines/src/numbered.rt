@@ -1,16 +1,17 @@
 // The lines of a listing of alternatives.
 ghost use Prim.Native.Nat.{_+_};
-ghost use Rattle.writer.specs.Writing.{Holds, countOf};
-ghost use Rattle.matcher.specs.Shapes.{alternativeIn, alternativesOf};
-ghost use Rattle.listing.specs.Numbers.{decimal};
+ghost use Rattle.writer.specs.Writing.{countOf};
+ghost use Rattle.basics.specs.Memory.{Holds};
+ghost use Rattle.alternatives.specs.InMemory.{alternativeIn, alternativesOf};
+ghost use Rattle.figures.specs.Numbers.{decimal};
 ghost use Rattle.alternative_lines.specs.Listing.{lineOf};
 ghost use Rattle.alternative_texts.specs.Inner.{Puts, OneAlternative, allTests};
 ghost use Rattle.alternative_lines.specs.Inner.{AllLines, Low};
 ghost use Rattle.alternative_lines.specs.Inner.{flagged, noted, marked, linesWith, headedLines};
 use alternative_texts::puts::put;
 use alternative_texts::steps::put_steps;
-use listing::numbers::put_decimal;
-use matcher::shapes::pass;
+use alternatives::walking::pass;
+use figures::numbers::put_decimal;
 
 // The digits of a number at the front; how many.
 fn lay_number(n: u64, digits: &mut [u8; 20]) -> usize

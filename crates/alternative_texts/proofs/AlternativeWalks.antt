@@ -7,10 +7,10 @@ use mathlib.Core.Path.{_≡_, refl}
 use mathlib.Core.List.{List, [], _∷_, _++_, map}
 use lib.ListN.{length, getD, take, drop}
 use Rattle.alf.specs.Alternatives.{Test}
-use Rattle.matcher.specs.Shapes.{cut, sum, stepIn, alternativeIn}
-use Rattle.matcher.proofs.Cuts.{cut-at, sum-next, tests-length}
+use Rattle.alternatives.specs.InMemory.{cut, sum, stepIn, alternativeIn}
+use Rattle.alternatives.proofs.Cuts.{cut-at, sum-next, tests-length}
 use Rattle.writer.specs.Writing.{countOf}
-use Rattle.listing.specs.Text.{bytes}
+use Rattle.figures.specs.Text.{bytes}
 use Rattle.alternative_texts.specs.Texts.{stepText, alternativeText}
 use Rattle.alternative_texts.specs.Inner.{Puts, lead, OneStep}
 use Rattle.alternative_texts.specs.Inner.{OneAlternative, allTests}

@@ -5,7 +5,7 @@ use Prim.Native.Nat.{ℕ, zero, suc, _+_}
 use native.Mathlib.Numerals.{add-one}
 use mathlib.Core.Path.{_≡_, refl, sym, ap, _∙_}
 use mathlib.Core.List.{List, [], _∷_, _++_, map, append-assoc, append-nil}
-use Rattle.writer.specs.Inner.{Put}
+use Rattle.basics.specs.Memory.{Put}
 use Rattle.alternative_texts.specs.Texts.{behind, between}
 use Rattle.alternative_texts.specs.Inner.{lead}
 use Rattle.alternative_texts.proofs.Clipped.{Laying, laying-start, laying-on, laying-end, laying-parts}

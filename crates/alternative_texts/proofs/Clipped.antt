@@ -11,10 +11,10 @@ use mathlib.Core.Path.{_≡_, refl, sym, ap, _∙_}
 use mathlib.Core.List.{List, [], _∷_, _++_, append-assoc, append-nil}
 use lib.ListN.{length, getD, take}
 use lib.Seq.{set-out, take-suc, take-all, length-take-le}
-use Rattle.writer.specs.Inner.{Put}
-use Rattle.writer.proofs.Going.{flat}
-use Rattle.writer.proofs.Spelling.{put-as}
-use Rattle.listing.proofs.Parts.{put-then}
+use Rattle.basics.specs.Memory.{Put}
+use Rattle.basics.proofs.PartByPart.{flat}
+use Rattle.basics.proofs.PartByPart.{put-as}
+use Rattle.basics.proofs.PartByPart.{put-then}
 use Rattle.alternative_texts.specs.Inner.{Countable, lead}
 
 pub beyond : {out : List ℕ} {at : ℕ} (b : ℕ) → length out ≤ at → Put out at (b ∷ []) out (at + 1)

@@ -9,13 +9,13 @@ use mathlib.Core.Bool.{Bool, true, false}
 use mathlib.Core.List.{List, [], _∷_, _++_}
 use lib.ListN.{length, getD, take, drop, drop-of-length-le}
 use lib.Seq.{drop-cons, take-add, take-all}
-use Rattle.alf.specs.Words.{if_then_else_, sumOf}
+use Rattle.basics.specs.Words.{if_then_else_, sumOf}
 use Rattle.alf.specs.Expressions.{Expression, stays, literal, vector, edge}
 use Rattle.alf.specs.Bytes.{edgeAt}
 use Rattle.alf.specs.Alternatives.{Test, test}
 use Rattle.trees.specs.Parts.{booleanAt}
-use Rattle.matcher.specs.Shapes.{cut, testOf, sum}
-use Rattle.matcher.proofs.Cuts.{cut-length, sum-nil, sum-cons, test-at, tests-length}
+use Rattle.alternatives.specs.InMemory.{cut, testOf, sum}
+use Rattle.alternatives.proofs.Cuts.{cut-length, sum-nil, sum-cons, test-at, tests-length}
 use Rattle.writer.specs.Writing.{countOf}
 use Rattle.alternative_texts.specs.Texts.{readable, missing, expressionOf, untoldTest, untold}
 use Rattle.alternative_texts.specs.Inner.{Tells, Testable, Tested, Untold, allTests}

@@ -1,3 +1,4 @@
+-- The laws of the text of an alternative.
 pub mod Clipped
 pub mod PartBytes
 pub mod Telling

@@ -19,19 +19,19 @@ use lib.Seq.{take-suc, take-add, drop-at, length-take-le}
 use Rattle.alf.specs.Expressions.{boolean, vector, edge, stays, EdgeKnown, Over, VectorOver, ExpressionOver}
 use Rattle.alf.specs.Bytes.{booleanBytes, vectorBytes, bytesOf, Stack, empty, broken, push, stackAt, arityAt}
 use Rattle.alf.specs.Bytes.{isBoolean, topBoolean, edgeNumber, edgeAt, Decodes}
-use Rattle.alf.proofs.Bools.{never, below?}
-use Rattle.alf.proofs.Codes.{binary-byte, join-byte, edge-byte, edge-known}
+use Rattle.basics.proofs.Bools.{never, below?}
+use Rattle.alf.proofs.OperatorBytes.{binary-byte, join-byte, edge-byte, edge-known}
 use Rattle.alf.proofs.Encoding.{decode-bytes}
 use Rattle.alf.proofs.Stacks.{AllOver, stack-over}
 use Rattle.alf.proofs.Made.{Made, a-name, a-literal, a-negation, a-binary, a-choice, an-edge, a-join}
 use Rattle.alf.proofs.Made.{a-condition, a-condition-before, nothing, made}
 use Rattle.alf.proofs.Parts.{arity-zero, arity-one, arity-two, arity-three, deep, size, back}
 use Rattle.trees.specs.Parts.{top, EndsBoolean, booleanAt, Start}
-use Rattle.writer.specs.Inner.{Put}
-use Rattle.writer.specs.Writing.{Holds}
-use Rattle.writer.proofs.Calls.{held}
-use Rattle.writer.proofs.Spelling.{put-as}
-use Rattle.listing.proofs.Parts.{put-then}
+use Rattle.basics.specs.Memory.{Put}
+use Rattle.basics.specs.Memory.{Holds}
+use Rattle.basics.proofs.PartByPart.{held}
+use Rattle.basics.proofs.PartByPart.{put-as}
+use Rattle.basics.proofs.PartByPart.{put-then}
 
 -- the bytes of the n expressions on top, the lowest first
 tops : ℕ → Stack → List ℕ

@@ -11,13 +11,13 @@ use Rattle.alf.specs.Expressions.{vector, edge}
 use Rattle.alf.specs.Bytes.{edgeAt}
 use Rattle.alf.specs.Alternatives.{Test, Step}
 use Rattle.trees.specs.Parts.{booleanAt}
-use Rattle.matcher.specs.Shapes.{testOf, stepIn}
-use Rattle.matcher.proofs.Cuts.{part, part-first, part-next, part-last, test-at, tests-length}
-use Rattle.writer.specs.Inner.{Put}
+use Rattle.alternatives.specs.InMemory.{testOf, stepIn}
+use Rattle.alternatives.proofs.Cuts.{part, part-first, part-next, part-last, test-at, tests-length}
+use Rattle.basics.specs.Memory.{Put}
 use Rattle.writer.specs.Writing.{countOf}
-use Rattle.writer.proofs.Spelling.{put-as}
-use Rattle.listing.specs.Text.{bytes}
-use Rattle.listing.proofs.Parts.{put-then}
+use Rattle.basics.proofs.PartByPart.{put-as}
+use Rattle.figures.specs.Text.{bytes}
+use Rattle.basics.proofs.PartByPart.{put-then}
 use Rattle.alternative_texts.specs.Texts.{expressionOf, testText, between, stepText}
 use Rattle.alternative_texts.specs.Inner.{Countable, Puts, lead, Tells, Testable, OneTest, OneStep}
 use Rattle.alternative_texts.specs.Inner.{allTests, textOfTest}

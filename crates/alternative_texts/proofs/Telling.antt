@@ -11,26 +11,28 @@ use lib.Dec.{leb}
 use lib.ListN.{length, take}
 use lib.Seq.{take-at}
 use borrow.Author.Tests.{leb-true, leb-false}
-use Rattle.alf.specs.declared.Outcome.{Outcome}
-use Rattle.alf.specs.declared.Outcome.the-variants.{Done, Refused}
-use Rattle.alf.specs.declared.Refusal.{Refusal}
+use Rattle.basics.specs.declared.Outcome.{Outcome}
+use Rattle.basics.specs.declared.Outcome.the-variants.{Done, Refused}
+use Rattle.basics.specs.declared.Refusal.{Refusal}
 use Rattle.alf.specs.declared.Sort.the-variants.{Vector}
-use Rattle.alf.specs.Words.{greatestOf, sumOf}
+use Rattle.basics.specs.Words.{greatestOf, sumOf}
 use Rattle.alf.specs.Expressions.{Boolean, Edge, Expression, vector, edge}
 use Rattle.alf.specs.Bytes.{bytesOf, vectorBytes, edgeAt, Decodes}
 use Rattle.alf.specs.Alternatives.{alternatives, overLimit, tests}
 use Rattle.alf.specs.Refusals.{Passed, Comes}
-use Rattle.alf.proofs.Bools.{and-left, and-right}
+use Rattle.basics.proofs.Bools.{and-left, and-right}
 use Rattle.alf.proofs.Decoding.{bytes-decode, decode-unique}
 use Rattle.alf.proofs.Outcomes.{refused-passed}
 use Rattle.trees.specs.Parts.{expressionAt, booleanAt}
 use Rattle.trees.specs.Brackets.{depthOf}
-use Rattle.limits.specs.Accepted.{Accepted, sortOf, overSize}
-use Rattle.limits.proofs.Acceptance.{decoded}
-use Rattle.writer.specs.Spelled.{text}
-use Rattle.writer.specs.Writing.{countOf, textAt, order, after, Writes, Holds}
+use Rattle.acceptance.specs.Accepted.{Accepted, sortOf, overSize}
+use Rattle.acceptance.proofs.Acceptance.{decoded}
+use Rattle.writer.specs.Trees.{text}
+use Rattle.writer.specs.Writing.{countOf, textAt, order, Writes}
+use Rattle.basics.specs.Memory.{Holds}
+use Rattle.basics.specs.Memory.{after}
 use Rattle.writer.proofs.Calls.{names-few}
-use Rattle.listing.specs.Text.{bytes}
+use Rattle.figures.specs.Text.{bytes}
 use Rattle.alternative_texts.specs.Texts.{readable, shown, missing}
 use Rattle.alternative_texts.specs.Inner.{Tells, Tellable, Testable}
 use Rattle.alternative_texts.proofs.PartBytes.{laid-decodes}

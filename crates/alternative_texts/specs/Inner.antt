@@ -1,6 +1,9 @@
--- What the inner functions ask of their callers, and what they give. Writing behind what is written is the writer's
--- Put; here a text may go past the end of what is lent, and then only what has room is written. So a text is measured
--- by writing it where there is no room.
+-- What the functions inside ask and give. Writing behind what is written is Put; here a text may go past the end of
+-- what is lent, and then only what has room is written. So a text is measured by writing it where there is no room.
+--   Countable, Puts, lead                     a text from a place on, with the gap before it
+--   Joinable, Tells, Tellable, Untold         a test's expression, shown or not
+--   Testable, Tested, OneTest, OneStep, OneAlternative    a test, a step, an alternative in the lists
+--   allTests, textOfTest                      the tests of the lists and their texts
 use Prim.Native.Nat.{ℕ, zero, suc, _+_, _^_, _<_, _≤_}
 use mathlib.Core.Path.{_≡_}
 use mathlib.Core.List.{List, []}
@@ -9,9 +12,10 @@ use Rattle.alf.specs.Alternatives.{Test}
 use Rattle.alf.specs.Expressions.{Boolean, Edge, Expression, vector, edge}
 use Rattle.alf.specs.Bytes.{Decodes}
 use Rattle.trees.specs.Parts.{EndsBoolean}
-use Rattle.matcher.specs.Shapes.{sum, testOf, testsOf, Tests}
-use Rattle.writer.specs.Inner.{Put}
-use Rattle.writer.specs.Writing.{countOf, Named, Holds}
+use Rattle.alternatives.specs.InMemory.{sum, testOf, testsOf, Tests}
+use Rattle.basics.specs.Memory.{Put}
+use Rattle.writer.specs.Writing.{countOf, Named}
+use Rattle.basics.specs.Memory.{Holds}
 use Rattle.alternative_texts.specs.Texts.{shown, missing, testText}
 
 -- the place behind some bytes is a number of 64 bits

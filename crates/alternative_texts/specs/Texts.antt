@@ -2,19 +2,20 @@
 --   testText           a test, or `...` where its text cannot be read back: over 256 nodes, 32 brackets, 4,096 bytes
 --   stepText           the tests of a step between ` & `; an empty step is `( )`
 --   alternativeText    the steps of an alternative between ` -> `
---   untold             how many tests of some alternatives are shown as `...`
+--   readable, expressionOf, behind, missing     when a test's text can be read back, and its parts
+--   untoldTest, untold how many tests of some alternatives are shown as `...`
 use Prim.Native.Nat.{ℕ}
 use mathlib.Core.Bool.{Bool, _&&_}
 use mathlib.Core.List.{List, [], _∷_, _++_, map}
 use lib.Dec.{leb}
 use lib.ListN.{length}
-use Rattle.alf.specs.Words.{if_then_else_, sumOf}
+use Rattle.basics.specs.Words.{if_then_else_, sumOf}
 use Rattle.alf.specs.Expressions.{Expression, vector, edge}
 use Rattle.alf.specs.Bytes.{bytesOf}
 use Rattle.alf.specs.Alternatives.{Test, test, Step, Alternative}
 use Rattle.trees.specs.Brackets.{depthOf}
-use Rattle.writer.specs.Spelled.{text}
-use Rattle.listing.specs.Text.{bytes}
+use Rattle.writer.specs.Trees.{text}
+use Rattle.figures.specs.Text.{bytes}
 
 -- an expression has a text that can be read back: at most 256 nodes, brackets at most 32 deep, at most 4,096 bytes
 unfoldable pub readable : List ℕ → Expression → Bool

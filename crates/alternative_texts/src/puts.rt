@@ -1,5 +1,5 @@
 // Writing behind what is written, as far as there is room: what lies behind the end is counted and left out.
-ghost use Rattle.writer.specs.Inner.{Put};
+ghost use Rattle.basics.specs.Memory.{Put};
 ghost use Rattle.alternative_texts.specs.Inner.{Countable, lead};
 ghost use mathlib.Core.List.{[], _∷_};
 

@@ -1,8 +1,8 @@
 // The text of a step and of an alternative, from the lists.
 ghost use Prim.Native.Nat.{_+_};
 ghost use mathlib.Core.List.{_++_, map};
-ghost use Rattle.matcher.specs.Shapes.{stepIn, alternativeIn};
-ghost use Rattle.listing.specs.Text.{bytes};
+ghost use Rattle.alternatives.specs.InMemory.{stepIn, alternativeIn};
+ghost use Rattle.figures.specs.Text.{bytes};
 ghost use Rattle.alternative_texts.specs.Texts.{testText, between, stepText, alternativeText};
 ghost use Rattle.alternative_texts.specs.Inner.{Puts, lead, OneTest, OneStep, OneAlternative};
 ghost use Rattle.alternative_texts.specs.Inner.{allTests, textOfTest};

@@ -1,16 +1,18 @@
 -- What `changes_at` returns, case by case: 18, 15, 19, or the changes of the row.
--- Main names: inside, refused-18, refused-15, refused-19, changed-row. Assumes nothing.
-use mathlib.Core.Path.{_≡_, refl, sym}
+-- Main names: inside, refused-18, refused-15, refused-19, changed-row.
+use mathlib.Core.Path.{_≡_, refl}
 use mathlib.Core.List.{List}
 use mathlib.Core.Logic.{inl, inr}
-use Prim.Native.Nat.{ℕ, zero, suc, _+_, _*_, _<_, _≤_}
+use Prim.Native.Nat.{ℕ, suc, _*_, _<_, _≤_}
 use native.Mathlib.Nat.{suc-mul, mul-le-mul-right}
 use native.Mathlib.Omega.{arith}
 use lib.ListN.{length}
+use Rattle.basics.specs.declared.Refusal.{Refusal}
+use Rattle.basics.specs.Refusing.{refusal}
 use Rattle.alf.specs.Refusals.{RefusedWith, Passed, bad-code}
-use Rattle.alf.specs.declared.changes.Changes.{Changes}
-use Rattle.matcher.specs.Codes.{FirstBad}
-use Rattle.matcher.proofs.Coding.{bad-given, bad-never}
+use Rattle.states.specs.declared.changes.Changes.{Changes}
+use Rattle.states.specs.FirstBadCode.{FirstBad}
+use Rattle.states.proofs.BadCodes.{bad-given, bad-never}
 use Rattle.changes.specs.declared.RowChanges.{RowChanges}
 use Rattle.changes.specs.declared.RowChanges.the-variants.{Changed, Refused}
 use Rattle.changes.specs.Call.{Lists, Inside, RowSet, Comes}
@@ -19,10 +21,10 @@ module _ (names n : ℕ) (states : List ℕ) (row : ℕ) where
   abbrev Result : RowChanges → Type 0
   Result r = Comes names n states row r
 
-  pub refused-18 : (r : RowChanges) → (Lists names n (length states) → ⊥)
-      → r ≡ Refused (record { number = 18; place = 0 }) → Result r
+  pub refused-18 : {r : Refusal} → (Lists names n (length states) → ⊥)
+      → r ≡ refusal 18 0 → Result (Refused r)
   unfolding Comes RefusedWith
-  refused-18 r h e = rw e (inl (refl, record { given = h; there = refl }))
+  refused-18 h e = rw e (inl (refl, record { given = h; there = refl }))
 
   module _ (l : Lists names n (length states)) where
     pub inside : row < n → Inside names states row
@@ -35,10 +37,9 @@ module _ (names n : ℕ) (states : List ℕ) (row : ℕ) where
         }
 
     module _ {bad : ℕ} (c : FirstBad states bad) where
-      pub refused-15 : (r : RowChanges) → bad < length states
-          → r ≡ Refused (record { number = 15; place = bad }) → Result r
+      pub refused-15 : {r : Refusal} → bad < length states → r ≡ refusal 15 bad → Result (Refused r)
       unfolding Comes RefusedWith
-      refused-15 r h e =
+      refused-15 h e =
           rw e
           (inr (
             λ p a. a .given l,
@@ -49,10 +50,10 @@ module _ (names n : ℕ) (states : List ℕ) (row : ℕ) where
       none-bad : length states ≤ bad → (p : ℕ) → bad-code states p → ⊥
       none-bad h = bad-never c (omega (arith, c .within))
 
-      pub refused-19 : (r : RowChanges) → length states ≤ bad → n ≤ row
-          → r ≡ Refused (record { number = 19; place = 0 }) → Result r
+      pub refused-19 : {r : Refusal} → length states ≤ bad → n ≤ row → r ≡ refusal 19 0
+          → Result (Refused r)
       unfolding Comes RefusedWith
-      refused-19 r h k e =
+      refused-19 h k e =
           rw e
           (inr (
             λ p a. a .given l,

@@ -3,22 +3,19 @@
 --   part-at                  an entry of a part of a list
 --   row-set, row-changes     the changes of two parts are those of the row
 --   row-none, row-later      row 0 has none; a later one has a row before it
---   bound                    65,535 rows of 32 names fit
--- Assumes nothing.
-use mathlib.Core.Path.{_≡_, refl, ap, ap₂, sym, _∙_}
+use mathlib.Core.Path.{_≡_, refl, ap₂, sym, _∙_}
 use mathlib.Core.Bool.{Bool, false, not}
 use mathlib.Core.List.{List}
-use Prim.Native.Nat.{ℕ, zero, suc, _+_, _-_, _*_, _<_, _≤_, min}
-use native.Mathlib.Nat.{suc-mul, mul-le-mul}
+use Prim.Native.Nat.{ℕ, zero, suc, _+_, _-_, _*_, _<_, _≤_}
+use native.Mathlib.Nat.{suc-mul}
 use native.Mathlib.Omega.{arith}
 use lib.Dec.{eqb}
 use lib.ListN.{length, getD, take, drop, length-take, length-drop}
 use lib.Seq.{getD-take, getD-drop}
-use Rattle.alf.specs.Words.{count}
-use Rattle.alf.specs.Values.{rowOf}
+use Rattle.basics.specs.Words.{count}
 use Rattle.alf.specs.Traces.{mask, changed, changeMask, changeCount}
-use Rattle.alf.specs.Contracts.{compared, differ, Compared}
-use Rattle.alf.proofs.Counts.{count-same}
+use Rattle.states.specs.Comparing.{compared, differ, Compared}
+use Rattle.basics.proofs.Counts.{count-same}
 use Rattle.changes.specs.Call.{RowSet}
 
 pub mask-same : (n : ℕ) (p q : ℕ → Bool) → ((i : ℕ) → i < n → p i ≡ q i) → mask n p ≡ mask n q
@@ -31,9 +28,6 @@ part-at n at i s h = getD-take n (drop at s) i 0 h ∙ getD-drop at s i 0
 
 part-length : (n at : ℕ) (s : List ℕ) → at + n ≤ length s → length (take n (drop at s)) ≡ n
 part-length n at s h = let l = length-take n (drop at s) in let d = length-drop at s in omega arith
-
-pub bound : (n names : ℕ) → n ≤ 65535 → names ≤ 32 → n * names ≤ 65535 * 32
-bound n names h k = mul-le-mul h k
 
 both-rows : (x y names : ℕ) → x ≡ names → y ≡ names → names ≤ 32 → compared x y ≡ names
 both-rows x y names e f h = omega arith

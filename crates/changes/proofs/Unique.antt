@@ -1,13 +1,11 @@
--- Any two results that the contract of `changes_at` allows coincide. Main name: changes-unique. Assumes nothing.
-use mathlib.Core.Path.{_≡_, ap, sym, _∙_}
+-- Any two results that the contract of `changes_at` allows coincide. Main name: changes-unique.
+use mathlib.Core.Path.{_≡_, sym, _∙_}
 use mathlib.Core.List.{List}
 use Prim.Native.Nat.{ℕ}
-use Rattle.alf.specs.declared.Refusal.{Refusal}
-use Rattle.alf.specs.declared.changes.Changes.{Changes}
 use Rattle.alf.proofs.Outcomes.{AllFixed, at-fixed, first-fixed, refused-passed, refused-unique}
 use Rattle.changes.specs.declared.RowChanges.{RowChanges}
 use Rattle.changes.specs.declared.RowChanges.the-variants.{Changed, Refused}
-use Rattle.changes.specs.Call.{order, RowSet, Comes}
+use Rattle.changes.specs.Call.{order, Comes}
 
 order-fixed : (names n : ℕ) (states : List ℕ) (row : ℕ) → AllFixed (order names n states row)
 order-fixed names n states row = (at-fixed _ _, (first-fixed _, (at-fixed _ _, tt)))

@@ -1,6 +1,9 @@
 -- Document 01, "Totals, .., changes of a row: 18, 10, 15, 19": the call for the changes of a row, which is handed no
 -- tree.
--- Main names: order, Comes. The set and its size are alf's changeMask and changeCount.
+--   Lists, order     what 18 looks at, and the order of the call
+--   RowSet, Comes    the set of changed variables, and what the call comes to
+--   Inside           the row stands in the states
+-- The set and its size are alf's changeMask and changeCount.
 use Prim.Native.Nat.{ℕ, _+_, _*_, _<_, _≤_}
 use mathlib.Core.Path.{_≡_}
 use mathlib.Core.List.{List, [], _∷_}

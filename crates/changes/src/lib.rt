@@ -1,12 +1,11 @@
 // The changes of a row as a call: the set of changed variables and how many they are, or refused with 18, 15, 19.
-ghost use mathlib.Core.Path.{_≡_};
-ghost use lib.ListN.{length};
-ghost use Rattle.names.specs.Check.{Tells};
+ghost use Rattle.basics.specs.Deciding.{Decides};
 ghost use Rattle.changes.specs.Call.{Lists, Inside, RowSet, Comes};
-use alf::Refusal;
-use alf::changes::Changes;
-use alf::changes::changes_of;
-use matcher::codes::first_bad_code;
+use basics::Refusal;
+use basics::refusing::refusal_of;
+use states::changes::Changes;
+use states::changes::changes_of;
+use states::codes::first_bad_code;
 
 // The changes of a row, or a refusal.
 pub enum RowChanges {
@@ -14,15 +13,9 @@ pub enum RowChanges {
     Refused(Refusal),
 }
 
-fn refuse(number: u8, place: usize) -> RowChanges
-    ensures { λ r. ⌜ r ≡ RowChanges.Refused (record { number = number; place = place }) ⌝ }
-{
-    RowChanges::Refused(Refusal { number, place })
-}
-
 // Whether there are 1 to 32 names, 1 to 65,535 rows, and a state for each name of each row.
 fn lists_fit(names: usize, n: usize, len: usize) -> bool
-    ensures { λ r. ⌜ Tells (Lists names n len) r ⌝ }
+    ensures { λ r. ⌜ Decides r (Lists names n len) ⌝ }
 {
     if names == 0 {
         return false;
@@ -61,14 +54,14 @@ pub fn changes_at(names: usize, n: usize, states: &[u8], row: usize) -> RowChang
     ensures { λ r. ⌜ Comes names n (now (states .entry)) row r ⌝ }
 {
     if !lists_fit(names, n, states.len()) {
-        return refuse(18, 0);
+        return RowChanges::Refused(refusal_of(18, 0));
     }
     let bad = first_bad_code(states);
     if bad < states.len() {
-        return refuse(15, bad);
+        return RowChanges::Refused(refusal_of(15, bad));
     }
     if n <= row {
-        return refuse(19, 0);
+        return RowChanges::Refused(refusal_of(19, 0));
     }
     RowChanges::Changed(of_row(names, states, row))
 }

@@ -1,7 +1,4 @@
-// What the program says and reads: standard output and error, complaints, tables of words, files and arguments. It is
-// proved to be safe and to end; no contract can say what is read or written.
-pub mod complaints;
-pub mod files;
+// What the program writes: standard output and error, the start of a complaint, and files that are saved. It is proved
+// to be safe and to end; no contract can say what is written.
 pub mod output;
 pub mod saving;
-pub mod words;

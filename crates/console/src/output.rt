@@ -1,4 +1,4 @@
-// Writing: data to standard output, complaints to standard error; lines built in a buffer.
+// Writing: data to standard output, complaints to standard error.
 use libc::STDERR_FILENO;
 use libc::STDOUT_FILENO;
 
@@ -56,24 +56,4 @@ pub fn say_front(text: &[u8], n: usize) {
         return;
     }
     say(&text[0..n]);
-}
-
-// A byte behind what is written, where there is room.
-pub fn put(out: &mut [u8], at: usize, b: u8) -> usize {
-    if at < out.len() {
-        out[at] = b;
-        return at + 1;
-    }
-    at
-}
-
-// Some bytes.
-pub fn put_all(out: &mut [u8], at: usize, text: &[u8]) -> usize {
-    let mut p = at;
-    let mut i: usize = 0;
-    while i < text.len() {
-        p = put(out, p, text[i]);
-        i += 1;
-    }
-    p
 }

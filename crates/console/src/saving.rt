@@ -1,8 +1,9 @@
 // Saving: a file is written beside its name, and given the name when all of it is there.
 use crate::output::failed;
-use crate::output::put_all;
 use crate::output::say;
 use crate::output::short;
+use text_parts::parts::front;
+use text_parts::puts::put;
 
 fn save_as(path: &[u8], part: &[u8], data: &[u8]) {
     let fd = os::create(part);
@@ -30,13 +31,9 @@ fn save_as(path: &[u8], part: &[u8], data: &[u8]) {
 
 // The name beside it: `.part` behind the name.
 fn save_beside(path: &[u8], name: &mut [u8], data: &[u8]) {
-    let p = put_all(name, 0, path);
-    let n = put_all(name, p, b".part");
-    if name.len() < n {
-        short();
-        return;
-    }
-    save_as(path, &name[0..n], data);
+    let p = put(name, 0, path);
+    let n = put(name, p, b".part");
+    save_as(path, front(name, n), data);
 }
 
 fn save_named(path: &[u8], name: &mut [u8; 4096], data: &[u8]) {
@@ -44,11 +41,20 @@ fn save_named(path: &[u8], name: &mut [u8; 4096], data: &[u8]) {
 }
 
 // `-` is standard output.
-pub fn save(path: &[u8], data: &[u8]) {
+fn save(path: &[u8], data: &[u8]) {
     if check::same(path, b"-") {
         say(data);
         return;
     }
     let mut name = io::buffer();
     save_named(path, &mut name, data);
+}
+
+// The first n bytes.
+pub fn save_front(path: &[u8], data: &[u8], n: usize) {
+    if data.len() < n {
+        short();
+        return;
+    }
+    save(path, &data[0..n]);
 }

@@ -1,33 +1,27 @@
-// The command `correct`: the trace with one row's states replaced, written whole or not at all. The row is stored and the file is
-// made by calls of the library.
-use alf::Outcome;
-use alf::Refusal;
+// The command `correct`: the trace with one row's states replaced, written whole or not at all. The row is stored and
+// the file is made by calls of the library.
 use alf::RowNo;
-use console::complaints::refused;
-use console::complaints::refused_for;
+use basics::Outcome;
+use basics::Refusal;
+use complaints::refused;
+use complaints::refused_for;
 use console::output::failed;
-use console::output::short;
-use console::saving::save;
+use console::saving::save_front;
 use jobs::correcting::correct_letters;
 use jobs::correcting::row_number;
-use traces::write::write_trace;
+use trace_writer::write::write_trace;
 
-fn save_front(path: &[u8], out: &[u8], o: Outcome) {
+// A file that was made is saved, or it is said why there is none.
+fn save_made(path: &[u8], out: &[u8], o: Outcome) {
     match o {
+        Outcome::Done(n) => save_front(path, out, n),
         Outcome::Refused(r) => refused(b"trace", r),
-        Outcome::Done(n) => {
-            if out.len() < n {
-                short();
-                return;
-            }
-            save(path, &out[0..n]);
-        }
     }
 }
 
 fn write_file(names: &[u8], times: &[u32], states: &[u8], path: &[u8], out: &mut [u8]) {
     let o = write_trace(names, times, states, times.len(), out);
-    save_front(path, out, o);
+    save_made(path, out, o);
 }
 
 fn write_lent(names: &[u8], times: &[u32], states: &[u8], path: &[u8], out: &mut [u8; 2491456]) {

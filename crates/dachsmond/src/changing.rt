@@ -1,18 +1,18 @@
 // A row corrected and a row pushed, for C.
 ghost use mathlib.Core.Path.{_≡_};
 ghost use lib.ListN.{replicate};
-ghost use Rattle.calls.specs.Correcting.{Correction};
-ghost use Rattle.dachsmond.specs.Handing.{Hands, told};
-ghost use Rattle.dachsmond.specs.Matching.{queueOf, Pushes, toldPush};
-use crate::Pushed;
-use crate::Queue;
-use crate::Told;
-use crate::matching::tell_match;
-use crate::texts::tell;
+ghost use Rattle.update_calls.specs.Correcting.{Correction};
+ghost use Rattle.telling.specs.Handing.{Hands, told};
+ghost use Rattle.telling.specs.Matching.{queueOf, Pushes, toldPush};
 use alf::RowNo;
-use calls::correcting::correct;
-use calls::pushing::Pushing;
-use calls::pushing::push;
+use telling::Pushed;
+use telling::Queue;
+use telling::Told;
+use telling::matching::queue_of;
+use telling::matching::tell_push;
+use telling::outcomes::tell;
+use update_calls::correcting::correct;
+use update_calls::pushing::push;
 
 // The new states become a row of the trace, and the answers that can depend on it are written anew.
 #[no_mangle]
@@ -38,37 +38,6 @@ pub extern "C" fn dachsmond_empty_queue() -> Queue
 {
     let states = [0u8; 512];
     Queue { kept: 0, states }
-}
-
-pub fn queue_of(q: Queue) -> updates::queues::Queue
-    ensures { λ r. ⌜ r ≡ queueOf q ⌝ }
-{
-    let states = q.states;
-    updates::queues::Queue {
-        kept: RowNo(q.kept),
-        states,
-    }
-}
-
-pub fn tell_push(p: Pushing) -> Pushed
-    ensures { λ r. ⌜ r ≡ toldPush p ⌝ }
-{
-    let told = p.told;
-    let next = p.queue;
-    let m = tell_match(told);
-    let kept = next.kept;
-    let states = next.states;
-    let queue = Queue {
-        kept: kept.0,
-        states,
-    };
-    Pushed {
-        number: m.number,
-        place: m.place,
-        answer: m.answer,
-        tries: m.tries,
-        queue,
-    }
 }
 
 // One row more: its answer, the number tried, and the queue then.

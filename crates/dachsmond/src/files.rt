@@ -1,33 +1,13 @@
 // Trace files for C: reading and writing.
-ghost use mathlib.Core.Path.{_≡_};
-ghost use Rattle.traces.specs.Reading.{Reads};
-ghost use Rattle.traces.specs.Writing.{Writes};
-ghost use Rattle.dachsmond.specs.Handing.{Hands, told, toldTrace};
-use crate::Told;
-use crate::Trace;
-use crate::texts::tell;
-use traces::Reading;
-use traces::read::read_trace;
-use traces::write::write_trace;
-
-fn tell_trace(o: Reading) -> Trace
-    ensures { λ r. ⌜ r ≡ toldTrace o ⌝ }
-{
-    match o {
-        Reading::Read { names, rows } => Trace {
-            number: 0,
-            place: 0,
-            names,
-            rows,
-        },
-        Reading::Refused(r) => Trace {
-            number: r.number,
-            place: r.place,
-            names: 0,
-            rows: 0,
-        },
-    }
-}
+ghost use Rattle.trace_reader.specs.Reading.{Reads};
+ghost use Rattle.trace_writer.specs.Writing.{Writes};
+ghost use Rattle.telling.specs.Handing.{Hands, told, toldTrace};
+use telling::Told;
+use telling::Trace;
+use telling::outcomes::tell;
+use telling::rows::tell_trace;
+use trace_reader::read::read_trace;
+use trace_writer::write::write_trace;
 
 // Reads a trace file into three lent lists: names in slots, times, states row by row.
 #[no_mangle]

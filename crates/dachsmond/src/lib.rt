@@ -1,91 +1,10 @@
 // The library for C: the public calls under plain names, `include/dachsmond.h` declares them. A call hands on to the
-// crate that has it and tells what came of it in numbers, since an enum cannot cross to C. Lent memory is a pointer
-// and a length. Number 0 is done; another is document 01's number of the refusal.
+// crate that has it and tells what came of it in numbers (`telling`). Lent memory is a pointer and a length.
 pub mod changing;
 pub mod files;
 pub mod listed;
-pub mod lists;
+pub mod listings;
 pub mod matching;
 pub mod rows;
 pub mod texts;
 pub mod written;
-
-// What came of a call: refused with a number at a place, or done, with a count of what it made.
-#[repr(C)]
-pub struct Told {
-    pub number: u8,
-    pub place: usize,
-    pub count: usize,
-}
-
-// What came of reading an expression: refused, or the first `len` entries of `tree`, with zeros behind them.
-#[repr(C)]
-pub struct Expression {
-    pub number: u8,
-    pub place: usize,
-    pub len: usize,
-    pub tree: [u8; 256],
-}
-
-// What came of reading a trace: refused, or how many names and rows.
-#[repr(C)]
-pub struct Trace {
-    pub number: u8,
-    pub place: usize,
-    pub names: usize,
-    pub rows: usize,
-}
-
-// The changes of a row: refused, or the set of changed variables and how many they are.
-#[repr(C)]
-pub struct Changed {
-    pub number: u8,
-    pub place: usize,
-    pub mask: u32,
-    pub many: u32,
-}
-
-// The answer at a row: refused, or document 01's number of it, 0 no, 1 yes, 2 unknown, 3 no event.
-#[repr(C)]
-pub struct Answered {
-    pub number: u8,
-    pub place: usize,
-    pub answer: u8,
-}
-
-// The same, and the number of alternatives tried.
-#[repr(C)]
-pub struct Matched {
-    pub number: u8,
-    pub place: usize,
-    pub answer: u8,
-    pub tries: u32,
-}
-
-// The totals: refused, or how many rows answer yes, no and unknown.
-#[repr(C)]
-pub struct Counted {
-    pub number: u8,
-    pub place: usize,
-    pub yes: u32,
-    pub no: u32,
-    pub unknown: u32,
-}
-
-// A queue: how many rows it keeps, and their states, oldest first, with zeros behind them.
-#[repr(C)]
-pub struct Queue {
-    pub kept: u32,
-    pub states: [u8; 512],
-}
-
-// What came of a push: refused, or the answer of the row pushed and the number tried; and the queue then, which is the
-// one handed in where the push is refused.
-#[repr(C)]
-pub struct Pushed {
-    pub number: u8,
-    pub place: usize,
-    pub answer: u8,
-    pub tries: u32,
-    pub queue: Queue,
-}

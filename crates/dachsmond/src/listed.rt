@@ -1,27 +1,26 @@
 // Matching by alternatives that are handed in as lists, for C: whether they are accepted, a row, all rows, the totals,
 // the queue.
-ghost use mathlib.Core.Path.{_≡_};
-ghost use Rattle.limits.specs.Accepted.{Decides};
+ghost use Rattle.basics.specs.Deciding.{Decides};
 ghost use Rattle.listed_calls.specs.Lists.{AcceptedAlternatives};
 ghost use Rattle.listed_calls.specs.Listed.{ListedMatch, ListedAll, ListedTotals};
-ghost use Rattle.dachsmond.specs.Handing.{Hands, told};
-ghost use Rattle.dachsmond.specs.Matching.{toldMatch, toldCounts, queueOf, toldPush};
-ghost use Rattle.dachsmond.specs.Listed.{ListedPushes};
-use crate::Counted;
-use crate::Matched;
-use crate::Pushed;
-use crate::Queue;
-use crate::Told;
-use crate::changing::queue_of;
-use crate::changing::tell_push;
-use crate::matching::tell_counts;
-use crate::matching::tell_match;
-use crate::texts::tell;
+ghost use Rattle.telling.specs.Handing.{Hands, told};
+ghost use Rattle.telling.specs.Matching.{toldMatch, toldCounts, queueOf, toldPush};
+ghost use Rattle.telling.specs.Listed.{ListedPushes};
 use listed_calls::accepting::fits;
 use listed_calls::listed::match_all;
 use listed_calls::listed::match_row;
 use listed_calls::listed::push;
 use listed_calls::listed::totals;
+use telling::Counted;
+use telling::Matched;
+use telling::Pushed;
+use telling::Queue;
+use telling::Told;
+use telling::matching::queue_of;
+use telling::matching::tell_counts;
+use telling::matching::tell_match;
+use telling::matching::tell_push;
+use telling::outcomes::tell;
 
 // Whether alternatives are accepted that are handed in.
 #[no_mangle]

@@ -1,66 +1,20 @@
 // Matching by the alternatives of an expression, for C: a row, all rows, the totals, and the alternatives themselves.
-ghost use mathlib.Core.Path.{_≡_};
-ghost use Rattle.calls.specs.Matching.{RowMatch, AllMatched, RowTotals};
-ghost use Rattle.rewriting.specs.Calls.{Rewrites, Contradicts};
-ghost use Rattle.dachsmond.specs.Handing.{Hands, told};
-ghost use Rattle.dachsmond.specs.Matching.{toldMatch, toldCounts};
-use crate::Counted;
-use crate::Matched;
-use crate::Told;
-use crate::texts::tell;
-use calls::matching::Counting;
-use calls::matching::Matching;
-use calls::matching::match_all;
-use calls::matching::match_row;
-use calls::matching::totals;
-use matcher::tables::number_of;
-use rewriting::contradictions;
+ghost use Rattle.matching_calls.specs.Matching.{RowMatch, AllMatched, RowTotals};
+ghost use Rattle.rewriting.specs.Calls.{Rewrites};
+ghost use Rattle.contradictions.specs.Calls.{Contradicts};
+ghost use Rattle.telling.specs.Handing.{Hands, told};
+ghost use Rattle.telling.specs.Matching.{toldMatch, toldCounts};
+use contradictions::reports::contradictions;
+use matching_calls::matching::match_all;
+use matching_calls::matching::match_row;
+use matching_calls::matching::totals;
 use rewriting::rewrite;
-
-pub fn tell_match(o: Matching) -> Matched
-    ensures { λ r. ⌜ r ≡ toldMatch o ⌝ }
-{
-    match o {
-        Matching::Found(m) => {
-            let a = m.answer;
-            let tries = m.tries;
-            let answer = number_of(a);
-            Matched {
-                number: 0,
-                place: 0,
-                answer,
-                tries,
-            }
-        }
-        Matching::Refused(r) => Matched {
-            number: r.number,
-            place: r.place,
-            answer: 0,
-            tries: 0,
-        },
-    }
-}
-
-pub fn tell_counts(o: Counting) -> Counted
-    ensures { λ r. ⌜ r ≡ toldCounts o ⌝ }
-{
-    match o {
-        Counting::Counted(t) => Counted {
-            number: 0,
-            place: 0,
-            yes: t.yes,
-            no: t.no,
-            unknown: t.unknown,
-        },
-        Counting::Refused(r) => Counted {
-            number: r.number,
-            place: r.place,
-            yes: 0,
-            no: 0,
-            unknown: 0,
-        },
-    }
-}
+use telling::Counted;
+use telling::Matched;
+use telling::Told;
+use telling::matching::tell_counts;
+use telling::matching::tell_match;
+use telling::outcomes::tell;
 
 // The answer of a vector expression at a row, and the number of its alternatives tried.
 #[no_mangle]

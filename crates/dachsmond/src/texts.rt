@@ -6,51 +6,15 @@ ghost use Rattle.alf.specs.Refusals.{Comes};
 ghost use Rattle.names.specs.Check.{namesOrder};
 ghost use Rattle.reader.specs.Reading.{Reading};
 ghost use Rattle.writer.specs.Writing.{Writes};
-ghost use Rattle.dachsmond.specs.Handing.{Hands, told, toldExpression, sortOf};
-use crate::Expression;
-use crate::Told;
-use alf::Outcome;
-use alf::Sort;
+ghost use Rattle.telling.specs.Handing.{Hands, told, toldExpression, sortOf};
 use names::check_names;
-use reader::Read;
 use reader::read_expression;
+use telling::Expression;
+use telling::Told;
+use telling::outcomes::tell;
+use telling::texts::sort_of;
+use telling::texts::tell_expression;
 use writer::write_expression;
-
-// An outcome in numbers.
-pub fn tell(o: Outcome) -> Told
-    ensures { λ r. ⌜ r ≡ told o ⌝ }
-{
-    match o {
-        Outcome::Done(count) => Told {
-            number: 0,
-            place: 0,
-            count,
-        },
-        Outcome::Refused(r) => Told {
-            number: r.number,
-            place: r.place,
-            count: 0,
-        },
-    }
-}
-
-fn tell_expression(r: Read) -> Expression
-    ensures { λ t. ⌜ t ≡ toldExpression r ⌝ }
-{
-    let tree = r.tree;
-    Expression {
-        number: r.refusal.number,
-        place: r.refusal.place,
-        len: r.len,
-        tree,
-    }
-}
-
-fn sort_of(vector: bool) -> Sort
-    ensures { λ r. ⌜ r ≡ sortOf vector ⌝ }
-{
-    if vector { Sort::Vector } else { Sort::Boolean }
-}
 
 // How many names a list of names holds.
 #[no_mangle]

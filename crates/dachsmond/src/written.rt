@@ -1,37 +1,16 @@
 // An expression at the rows of a trace, as it is written, for C.
-ghost use mathlib.Core.Path.{_≡_};
-ghost use Rattle.calls.specs.Written.{RowState, RowValue, AllValues, RowAnswer};
-ghost use Rattle.calls.specs.Windows.{WindowAnswer};
-ghost use Rattle.dachsmond.specs.Handing.{Hands, told, toldAnswer};
-use crate::Answered;
-use crate::Told;
-use crate::texts::tell;
-use calls::windows::window_answer;
-use calls::written::row_answer;
-use calls::written::row_state;
-use calls::written::row_value;
-use calls::written::values;
-use matcher::tables::number_of;
-
-fn tell_answer(o: calls::written::Told) -> Answered
-    ensures { λ r. ⌜ r ≡ toldAnswer o ⌝ }
-{
-    match o {
-        calls::written::Told::Answered(a) => {
-            let answer = number_of(a);
-            Answered {
-                number: 0,
-                place: 0,
-                answer,
-            }
-        }
-        calls::written::Told::Refused(r) => Answered {
-            number: r.number,
-            place: r.place,
-            answer: 0,
-        },
-    }
-}
+ghost use Rattle.row_calls.specs.Written.{RowState, RowValue, AllValues, RowAnswer};
+ghost use Rattle.row_calls.specs.Windows.{WindowAnswer};
+ghost use Rattle.telling.specs.Handing.{Hands, told, toldAnswer};
+use row_calls::windows::window_answer;
+use row_calls::written::row_answer;
+use row_calls::written::row_state;
+use row_calls::written::row_value;
+use row_calls::written::values;
+use telling::Answered;
+use telling::Told;
+use telling::outcomes::tell;
+use telling::rows::tell_answer;
 
 // The state of a boolean expression at a row, as the count told.
 #[no_mangle]

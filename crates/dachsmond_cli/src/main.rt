@@ -2,16 +2,16 @@
 // expect. What a command prints of an answer is made by a call of `jobs`; here are arguments, files and complaints.
 mod texts;
 
-use console::complaints::unfit;
-use console::complaints::unknown;
-use console::files::load;
+use complaints::unfit;
+use complaints::unknown;
 use console::output::say;
-use console::words::front;
-use console::words::line_of;
 use correct_command::correct;
+use loading::traces::load;
 use show_command::show;
-use table_command::table::first_look;
-use table_command::table::table;
+use table_command::first_look;
+use table_command::table;
+use text_parts::lines::line_of;
+use text_parts::parts::front;
 
 // The commands by their number in `named`; `rewrite` is 3.
 const TABLE: usize = 0;
@@ -83,7 +83,7 @@ fn start(c: usize, names: &[u8], times: &[u32], states: &mut [u8]) {
         TABLE => table(names, times.len(), states),
         SHOW => show(names, times, states),
         CORRECT => correct(names, times, states),
-        _ => texts::answer(c, names, times, states),
+        _ => crate::texts::answer(c, names, times, states),
     }
 }
 

@@ -1,16 +1,16 @@
 // What is asked of one text: `list`, `values`, `rewrite`. Each text that is printed is made by a call of `jobs`.
 use crate::LIST;
 use crate::VALUES;
-use alf::Outcome;
-use alf::Refusal;
-use console::complaints::refused;
-use console::complaints::refused_text;
-use console::files::take_argument;
+use basics::Outcome;
+use basics::Refusal;
+use complaints::refused;
+use complaints::refused_text;
 use console::output::complain;
 use console::output::note;
 use console::output::note_number;
 use console::output::say_front;
 use jobs::alternatives::alternatives_text;
+use loading::files::take_argument;
 use row_listings::listings::list_text;
 use row_listings::listings::values_text;
 

@@ -2,8 +2,7 @@
 --   names-good, lists-fit, codes-good     18, 12 and 15 are given nowhere
 --   tree-accepted, tree-is, tree-whole    10 is not given, and the tree stands for the pattern
 --   question-of                           each trace and each accepted tree make one, so that something is said
--- Assumes nothing.
-use Prim.Native.Nat.{ℕ, _+_, _*_, _<_, _≤_}
+use Prim.Native.Nat.{ℕ, _≤_}
 use native.Mathlib.Omega.{arith}
 use mathlib.Core.Path.{_≡_, refl, ap}
 use mathlib.Core.List.{List}
@@ -13,16 +12,16 @@ use Rattle.alf.specs.Expressions.{vector}
 use Rattle.alf.specs.Bytes.{Decodes, topVector}
 use Rattle.alf.specs.Refusals.{Passed}
 use Rattle.names.specs.Check.{namesOrder}
-use Rattle.traces.specs.Format.{Trace, fileOf, count}
+use Rattle.trace_format.specs.Format.{Trace, fileOf, count}
 use Rattle.trees.specs.Parts.{top, expressionAt}
-use Rattle.limits.specs.Accepted.{Accepted}
-use Rattle.updates.specs.Copies.{Codes}
-use Rattle.calls.specs.Orders.{Rows}
-use Rattle.calls.specs.Matching.{expression}
+use Rattle.acceptance.specs.Accepted.{Accepted}
+use Rattle.states.specs.FirstBadCode.{Codes}
+use Rattle.judging.specs.Orders.{Rows}
+use Rattle.matching_calls.specs.Matching.{expression}
 use Rattle.writer.specs.Writing.{textAt, Named}
-use Rattle.round_trip.proofs.Given.{written-gives}
-use Rattle.exactness.proofs.Sound.{gives-accepted, gives-decodes}
-use Rattle.exactness.proofs.ReadTrees.{sorted-vector}
+use Rattle.text_laws.proofs.WrittenGives.{written-gives}
+use Rattle.text_laws.proofs.GivenAccepted.{gives-accepted, gives-decodes}
+use Rattle.text_laws.proofs.ReadTrees.{sorted-vector}
 use Rattle.demands.specs.Questions.{Question, treeOf}
 
 module _ {file text : List ℕ} (q : Question file text) where

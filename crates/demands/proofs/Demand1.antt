@@ -1,14 +1,12 @@
 -- Demand 1, for each public call, under its name: any two results that its contract allows coincide, the memory lent to
 -- it too; refused, that memory is as it was. The number and the place of a refusal "exactly when" the table says is in
--- the contracts themselves: the first row of the call's order that holds. Assumes nothing.
+-- the contracts themselves: the first row of the call's order that holds.
 use Prim.Native.Nat.{ℕ, _/_}
-use mathlib.Core.Path.{_≡_, _∙_}
-use mathlib.Core.Bool.{Bool}
+use mathlib.Core.Path.{_≡_}
 use mathlib.Core.List.{List}
 use lib.ListN.{length}
 use Rattle.alf.specs.declared.Sort.{Sort}
-use Rattle.alf.specs.declared.Outcome.{Outcome}
-use Rattle.alf.specs.declared.Outcome.the-variants.{Refused}
+use Rattle.basics.specs.declared.Outcome.the-variants.{Refused}
 use Rattle.alf.specs.Refusals.{Comes}
 use Rattle.names.specs.Check.{namesOrder}
 use Rattle.names.proofs.Unique.{names-unique}
@@ -16,31 +14,35 @@ use Rattle.reader.specs.Reading.{Reading}
 use Rattle.reader.proofs.Unique.{read-unique}
 use Rattle.writer.specs.Writing as writing
 use Rattle.writer.proofs.Theorems as writing-laws
-use Rattle.traces.specs.declared.Reading.the-variants as reading
-use Rattle.traces.specs.Reading.{Reads}
-use Rattle.traces.specs.Writing as files
+use Rattle.trace_reader.specs.declared.Reading.the-variants as reading
+use Rattle.trace_reader.specs.Reading.{Reads}
+use Rattle.trace_writer.specs.Writing as files
 use Rattle.trace_laws.proofs.RoundTrips as file-laws
 use Rattle.changes.specs.Call as changes
 use Rattle.changes.proofs.Unique.{changes-unique}
-use Rattle.limits.specs.Accepted.{Decides}
+use Rattle.basics.specs.Deciding.{Decides}
 use Rattle.rewriting.specs.Calls as rewriting
+use Rattle.contradictions.specs.Calls as flagging
 use Rattle.rewriting.proofs.Theorems.{rewrites-unique}
-use Rattle.rewriting.proofs.Reporting.{contradicts-unique}
-use Rattle.updates.specs.declared.queues.Queue.{Queue}
-use Rattle.calls.specs.declared.matching.Matching.the-variants as matching
-use Rattle.calls.specs.Written.{RowState, RowValue, AllValues, RowAnswer, after}
-use Rattle.calls.specs.Windows.{WindowAnswer}
-use Rattle.calls.specs.Matching.{RowMatch, AllMatched, RowTotals}
-use Rattle.calls.specs.Correcting.{Correction}
-use Rattle.calls.specs.Pushing.{Takes, Push}
-use Rattle.calls.proofs.Unique.{state-unique, value-unique, values-unique, answer-unique, match-unique, all-unique}
-use Rattle.calls.proofs.Unique.{totals-unique, correction-unique, push-unique}
-use Rattle.calls.proofs.OnWindows.{window-unique}
+use Rattle.contradictions.proofs.Reporting.{contradicts-unique}
+use Rattle.queue.specs.declared.queues.Queue.{Queue}
+use Rattle.matching_calls.specs.declared.matching.Matching.the-variants as matching
+use Rattle.row_calls.specs.Written.{RowState, RowValue, AllValues, RowAnswer}
+use Rattle.basics.specs.Memory.{after}
+use Rattle.row_calls.specs.Windows.{WindowAnswer}
+use Rattle.matching_calls.specs.Matching.{RowMatch, AllMatched, RowTotals}
+use Rattle.update_calls.specs.Correcting.{Correction}
+use Rattle.update_calls.specs.Pushing.{Takes, Push}
+use Rattle.call_laws.proofs.Unique.{state-unique, value-unique, values-unique, answer-unique, match-unique, all-unique}
+use Rattle.call_laws.proofs.Unique.{totals-unique, correction-unique, push-unique}
+use Rattle.call_laws.proofs.Unique.{window-unique}
 use Rattle.listed_calls.specs.Lists.{AcceptedAlternatives}
 use Rattle.listed_calls.specs.Listed as listed
 use Rattle.listed_calls.proofs.Unique as listed-laws
-use Rattle.listing.specs.Calls.{Delivers, ListsText}
-use Rattle.listing.proofs.Theorems.{delivers-unique, lists-unique}
+use Rattle.listing.specs.Calls.{ListsText}
+use Rattle.figures.specs.Delivering.{Delivers}
+use Rattle.listing.proofs.Theorems.{lists-unique}
+use Rattle.figures.proofs.Delivering.{delivers-unique}
 use Rattle.demands.specs.Promises.{Promised, One}
 
 -- two, three and four lists lent
@@ -63,7 +65,7 @@ module _ (names : List ℕ) where
 
   pub write-expression : (tree : List ℕ) (sort : Sort) (out : List ℕ)
       → Promised Refused (λ r m. writing.Writes names tree sort out m r) out
-  unfolding writing.after
+  unfolding after
   write-expression tree sort out =
       record { one = λ a b m n x y. writing-laws.writes-unique x y; stays = λ r m x. x .memory }
 
@@ -82,7 +84,7 @@ read-trace file names times states =
 
 pub write-trace : (names times states : List ℕ) (n : ℕ) (out : List ℕ)
     → Promised Refused (λ r m. files.Writes names times states n out m r) out
-unfolding files.after
+unfolding after
 write-trace names times states n out =
     record {
       one = λ a b m o x y. let e = file-laws.writes-unique x y in (e .answer, e .memory);
@@ -98,7 +100,7 @@ module _ (names : ℕ) (tree : List ℕ) where
       → Promised {M = Four} Refused
       (λ r m. rewriting.Rewrites names tree steps tests edges operands (m .0) (m .1) (m .2) (m .3) r)
       (steps, tests, edges, operands)
-  unfolding rewriting.after
+  unfolding after
   rewrite steps tests edges operands =
       record {
         one = λ a b m n x y.
@@ -110,8 +112,8 @@ module _ (names : ℕ) (tree : List ℕ) where
       }
 
   pub contradictions : (flags : List ℕ)
-      → Promised Refused (λ r m. rewriting.Contradicts names tree flags m r) flags
-  unfolding rewriting.after
+      → Promised Refused (λ r m. flagging.Contradicts names tree flags m r) flags
+  unfolding after
   contradictions flags =
       record { one = λ a b m n x y. contradicts-unique names tree flags x y; stays = λ r m x. x .memory }
 
@@ -194,10 +196,10 @@ listed-push names tree steps tests edges operands queue row =
 
 -- The listing, and each line of the table.
 pub list : (times answers out : List ℕ) → Promised Refused (λ r m. ListsText times answers out m r) out
-unfolding writing.after
+unfolding after
 list times answers out =
     record { one = λ a b m n x y. lists-unique times answers out x y; stays = λ r m x. x .memory }
 
 pub line : (text out : List ℕ) → Promised Refused (λ r m. Delivers text out m r) out
-unfolding writing.after
+unfolding after
 line text out = record { one = λ a b m n x y. delivers-unique text out x y; stays = λ r m x. x .memory }

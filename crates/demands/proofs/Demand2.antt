@@ -8,33 +8,31 @@
 --   any-feed                         and for any rows over its names, and any number of them
 --   totals-right                     the totals are of these answers
 --   file-survives, text-survives     what is written is read again as it was
--- Assumes nothing.
-use Prim.Native.Nat.{ℕ, zero, suc, _+_, _*_, _<_, _≤_, max}
-use native.Mathlib.Numerals.{add-one}
+use Prim.Native.Nat.{ℕ, zero, suc, _*_, _<_, _≤_, max}
 use native.Mathlib.Nat.{suc-mul, zero-mul}
 use native.Mathlib.Omega.{arith}
 use mathlib.Core.Path.{_≡_, refl, sym, ap, _∙_, subst}
-use mathlib.Core.List.{List, []}
-use lib.ListN.{length, getD, take, drop}
+use mathlib.Core.List.{List}
+use lib.ListN.{length, take, drop}
 use lib.Seq.{take-add, take-all}
-use Rattle.alf.specs.declared.Outcome.{Outcome}
-use Rattle.alf.specs.declared.Outcome.the-variants as outcome
+use Rattle.basics.specs.declared.Outcome.{Outcome}
+use Rattle.basics.specs.declared.Outcome.the-variants as outcome
 use Rattle.alf.specs.declared.Sort.the-variants as sort
-use Rattle.alf.specs.Words.{listed}
+use Rattle.basics.specs.Words.{listed}
 use Rattle.alf.specs.Expressions.{Vector, vector}
 use Rattle.alf.specs.Values.{stateAt}
 use Rattle.alf.specs.Windows.{rowAnswer, answer, named, numberOf}
 use Rattle.alf.specs.Alternatives.{alternatives, tries, stepsOf}
 use Rattle.alf.specs.Traces.{Totals}
-use Rattle.alf.specs.Refusals.{Passed, Comes}
+use Rattle.alf.specs.Refusals.{Comes}
 use Rattle.alf.proofs.Outcomes.{refused-passed}
 use Rattle.alf.proofs.TraceNearness.{steps-pos}
-use Rattle.traces.specs.declared.Reading.the-variants.{Read}
-use Rattle.traces.specs.declared.Reading as files
-use Rattle.traces.specs.Format.{fileOf, count, codesOf}
-use Rattle.traces.specs.Reading.{Reads, over}
-use Rattle.traces.specs.Writing as trace-writing
-use Rattle.traces.proofs.Putting.{codes-all}
+use Rattle.trace_reader.specs.declared.Reading.the-variants.{Read}
+use Rattle.trace_reader.specs.declared.Reading as files
+use Rattle.trace_format.specs.Format.{count, codesOf}
+use Rattle.trace_reader.specs.Reading.{Reads}
+use Rattle.trace_writer.specs.Writing as trace-writing
+use Rattle.trace_writer.proofs.Putting.{codes-all}
 use Rattle.trace_laws.proofs.Theorems.{OneReading}
 use Rattle.trace_laws.proofs.RoundTrips.{OneWriting, writes-bytes}
 use Rattle.trace_laws.proofs.RoundTrips as trace-laws
@@ -43,27 +41,28 @@ use Rattle.reader.specs.Reads.{made}
 use Rattle.reader.specs.Reading.{Reading}
 use Rattle.reader.proofs.Unique.{read-complete, read-unique}
 use Rattle.writer.specs.Writing.{Writes}
-use Rattle.round_trip.proofs.Theorems.{written-read}
+use Rattle.text_laws.proofs.RoundTrips.{written-read}
 use Rattle.matcher.specs.declared.tables.Total.{Total}
-use Rattle.updates.specs.declared.queues.Queue.{Queue}
-use Rattle.updates.specs.Copies.{Codes}
-use Rattle.updates.specs.Corrections.{longestOf}
-use Rattle.updates.specs.Queues.{fed, Feed}
-use Rattle.updates.proofs.Codes.{codes-take, codes-drop}
-use Rattle.updates.proofs.QueueTheorems.{queue-answers, queue-windows}
-use Rattle.calls.specs.declared.written.Told.{Told}
-use Rattle.calls.specs.declared.written.Told.the-variants as told
-use Rattle.calls.specs.declared.matching.Matching.{Matching}
-use Rattle.calls.specs.declared.matching.Matching.the-variants.{Found}
-use Rattle.calls.specs.declared.matching.Counting.{Counting}
-use Rattle.calls.specs.declared.matching.Counting.the-variants as counting
-use Rattle.calls.specs.Orders.{Rows}
-use Rattle.calls.specs.Written.{Tells, RowAnswer, after}
-use Rattle.calls.specs.Windows.{WindowAnswer}
-use Rattle.calls.specs.Matching.{Finds, RowMatch, AllMatched, Counts, RowTotals, expression}
-use Rattle.calls.specs.Pushing.{Takes, Push}
-use Rattle.calls.proofs.Routes.{answered, matched, three-routes, found, row-passed, codes-passed}
-use Rattle.calls.proofs.Routes.{told-by, never-refused}
+use Rattle.queue.specs.declared.queues.Queue.{Queue}
+use Rattle.states.specs.FirstBadCode.{Codes}
+use Rattle.alternatives.specs.InMemory.{longestOf}
+use Rattle.queue.specs.Queues.{fed, Feed}
+use Rattle.states.proofs.CodeLists.{codes-take, codes-drop}
+use Rattle.queue.proofs.QueueTheorems.{queue-answers, queue-windows}
+use Rattle.row_calls.specs.declared.written.Told.{Told}
+use Rattle.row_calls.specs.declared.written.Told.the-variants as told
+use Rattle.matching_calls.specs.declared.matching.Matching.{Matching}
+use Rattle.matching_calls.specs.declared.matching.Matching.the-variants.{Found}
+use Rattle.matching_calls.specs.declared.matching.Counting.{Counting}
+use Rattle.matching_calls.specs.declared.matching.Counting.the-variants as counting
+use Rattle.judging.specs.Orders.{Rows}
+use Rattle.row_calls.specs.Written.{Tells, RowAnswer}
+use Rattle.basics.specs.Memory.{after, front}
+use Rattle.row_calls.specs.Windows.{WindowAnswer}
+use Rattle.matching_calls.specs.Matching.{Finds, RowMatch, AllMatched, Counts, RowTotals, expression}
+use Rattle.update_calls.specs.Pushing.{Takes, Push}
+use Rattle.call_laws.proofs.Routes.{answered, matched, three-routes, found, row-passed, codes-passed}
+use Rattle.call_laws.proofs.Routes.{told-by, never-refused}
 use Rattle.demands.specs.Questions.{Question, answerOn, triesOn, answerAt, triesAt, treeOf}
 use Rattle.demands.proofs.Asked.{names-good, lists-fit, codes-good, tree-accepted, tree-is, tree-whole}
 
@@ -88,8 +87,8 @@ module _ {file text : List ℕ} (q : Question file text) where
   pub file-read : (n₀ t₀ s₀ : List ℕ) {n₁ t₁ s₁ : List ℕ} (r : files.Reading)
       → length (q .names) ≤ length n₀
       → q .rows ≤ length t₀ → q .rows * k ≤ length s₀ → Reads file n₀ t₀ s₀ n₁ t₁ s₁ r
-      → OneReading r n₁ t₁ s₁ (Read k (q .rows)) (over (q .names) n₀) (over (q .times) t₀)
-      (over (q .states) s₀)
+      → OneReading r n₁ t₁ s₁ (Read k (q .rows)) (front (q .names) n₀) (front (q .times) t₀)
+      (front (q .states) s₀)
   file-read n₀ t₀ s₀ r a b c w = trace-laws.read-write (q .trace) n₀ t₀ s₀ r a b c (rw (q .read) at w)
 
   pub text-read : {r : texts.Read} → Reading (q .names) text sort.Vector r → r ≡ made (vector (q .pattern))
@@ -233,5 +232,5 @@ module _ {file text : List ℕ} (q : Question file text) where
 
   pub file-survives : {out out′ : List ℕ} (r : Outcome) → length file ≤ length out
       → trace-writing.Writes (q .names) (q .times) (q .states) (q .rows) out out′ r
-      → OneWriting r out′ (outcome.Done (length file)) (over file out)
+      → OneWriting r out′ (outcome.Done (length file)) (front file out)
   file-survives r l w = rw (q .read) (writes-bytes (q .trace) r (rw (q .read) at l) w)

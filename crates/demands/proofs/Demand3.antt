@@ -5,15 +5,14 @@
 --   rewritten-right      what is rewritten is right on the corrected trace, whatever stood there
 --   others-stay          the others are as they were
 --   right-again          so a list that was right is right on the corrected trace
--- Assumes nothing.
 use Prim.Native.Nat.{ℕ, _<_, _≤_}
 use native.Mathlib.Omega.{arith}
 use mathlib.Core.Path.{_≡_, sym, ap, _∙_}
 use mathlib.Core.Logic.{_⊎_}
 use mathlib.Core.List.{List}
 use lib.ListN.{length, getD}
-use Rattle.alf.specs.declared.Outcome.{Outcome}
-use Rattle.alf.specs.declared.Outcome.the-variants.{Done, Refused}
+use Rattle.basics.specs.declared.Outcome.{Outcome}
+use Rattle.basics.specs.declared.Outcome.the-variants.{Done, Refused}
 use Rattle.alf.specs.Expressions.{Vector}
 use Rattle.alf.specs.Values.{stateAt}
 use Rattle.alf.specs.Windows.{rowAnswer, numberOf}
@@ -21,13 +20,13 @@ use Rattle.alf.specs.Alternatives.{stepsOf}
 use Rattle.alf.specs.Traces.{corrected, lastRewritten}
 use Rattle.alf.specs.Refusals.{Passed, Comes}
 use Rattle.alf.proofs.Outcomes.{refused-passed}
-use Rattle.traces.specs.Format.{count}
-use Rattle.updates.specs.Copies.{Codes}
-use Rattle.calls.specs.Written.{after}
-use Rattle.calls.specs.Matching.{expression}
-use Rattle.calls.specs.Correcting.{correctionOrder, Correction}
-use Rattle.calls.proofs.Routes.{codes-never}
-use Rattle.calls.proofs.Theorems.{correction-reaches, correction-stays, correction-keeps-right}
+use Rattle.trace_format.specs.Format.{count}
+use Rattle.states.specs.FirstBadCode.{Codes}
+use Rattle.basics.specs.Memory.{after}
+use Rattle.matching_calls.specs.Matching.{expression}
+use Rattle.update_calls.specs.Correcting.{correctionOrder, Correction}
+use Rattle.call_laws.proofs.Routes.{codes-never}
+use Rattle.call_laws.proofs.Theorems.{correction-reaches, correction-stays, correction-keeps-right}
 use Rattle.demands.specs.Questions.{Question, answerOn, answerAt, K, treeOf}
 use Rattle.demands.proofs.Asked.{lists-fit, codes-good, tree-accepted, tree-is}
 

@@ -17,7 +17,7 @@ use Rattle.alf.specs.Bytes.{bytesOf}
 use Rattle.alf.specs.Values.{stateAt}
 use Rattle.alf.specs.Windows.{rowAnswer}
 use Rattle.alf.specs.Alternatives.{alternatives, tries, stepsOf}
-use Rattle.traces.specs.Format.{Trace, fileOf, count}
+use Rattle.trace_format.specs.Format.{Trace, fileOf, count}
 use Rattle.reader.specs.Reading.{Gives}
 
 pub record Question (file text : List ℕ) : Type 0 where

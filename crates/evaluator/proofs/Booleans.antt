@@ -3,7 +3,6 @@
 --   right-ends, left-ends, first-ends    its operands, from the last one back
 --   name-known, operator-known           a name is in the list, an operator of two is one of the ten
 --   name-state, literal-state, negation-state, binary-state, choice-state, value-state
--- Assumes nothing.
 use Prim.Native.Nat.{ℕ, _+_, _-_, _*_, _<_, _≤_}
 use native.Mathlib.Omega.{arith}
 use mathlib.Core.Path.{_≡_, refl}
@@ -16,11 +15,11 @@ use Rattle.alf.specs.States.{notOf}
 use Rattle.alf.specs.Expressions.{literal}
 use Rattle.alf.specs.Values.{operate, chosen, settled, state, value}
 use Rattle.alf.specs.Bytes.{binaryAt, isBoolean, under, stackAt}
-use Rattle.alf.proofs.Bools.{below?}
+use Rattle.basics.proofs.Bools.{below?}
 use Rattle.alf.proofs.Made.{Made}
 use Rattle.alf.proofs.Parts.{made-last}
-use Rattle.alf.proofs.Tops.{NameTop, NegationTop, BinaryTop, ChoiceTop}
-use Rattle.alf.proofs.Tops.{name-top, literal-top, negation-top, binary-top, choice-top}
+use Rattle.alf.proofs.StackTops.{NameTop, NegationTop, BinaryTop, ChoiceTop}
+use Rattle.alf.proofs.StackTops.{name-top, literal-top, negation-top, binary-top, choice-top}
 use Rattle.trees.specs.Parts.{EndsBoolean, booleanAt, Start}
 use Rattle.trees.proofs.Starts.{of-boolean, ends-pos}
 use Rattle.trees.proofs.Vectors.{boolean-under}

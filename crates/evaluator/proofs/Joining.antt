@@ -3,15 +3,14 @@
 --   split, split-all                P -> Q: the entry for each row in between, and all of them
 --   shared, shared-all              P & Q: the entry for each start of the shorter, and all of them
 --   min-of, max-of, greatest-none   the lesser and the greater of two answers; the greatest over nothing
--- Assumes nothing.
 use Prim.Native.Nat.{ℕ, _+_, _-_, _≤_, min, max}
 use native.Mathlib.Omega.{arith}
 use mathlib.Core.Path.{_≡_, refl}
-use Rattle.alf.specs.Words.{greatest}
+use Rattle.basics.specs.Words.{greatest}
 use Rattle.alf.specs.Windows.{Window, followedBy, together, joined}
 use Rattle.alf.specs.Bytes.{joinAt}
 use Rattle.evaluator.specs.Spans.{JoinByte}
-use Rattle.evaluator.proofs.Lists.{all-passed}
+use Rattle.basics.proofs.Listed.{all-passed}
 
 pub min-of : {x y u v r : ℕ} → r ≡ min x y → x ≡ u → y ≡ v → r ≡ min u v
 min-of h e d = rw (← e, ← d) h

@@ -1,7 +1,6 @@
 -- The laws that the functions over a tree are proved by.
 pub mod Operating
 pub mod Booleans
-pub mod Lists
 pub mod Spans
 pub mod Joining
 pub mod Vectors

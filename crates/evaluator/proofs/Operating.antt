@@ -2,7 +2,6 @@
 --   operated-by     an operator by its byte; past, only: the last of ten bytes
 --   settled-name, settled-other   the value behind a name's byte, and behind any other
 --   chosen-unknown, chosen-first, chosen-second   the three ways of a choice
--- Assumes nothing.
 use Prim.Native.Nat.{ℕ, _+_, _-_, _<_, _≤_}
 use native.Mathlib.Omega.{arith}
 use mathlib.Core.Path.{_≡_, refl}

@@ -1,7 +1,6 @@
 -- A row's answer by its number, and an answer's name by its rank.
 --   named-yes             what is neither no nor unknown is yes
 --   row-first, row-later  row 0 has no event; at a later row it is the name of the greatest answer
--- Assumes nothing.
 use Prim.Native.Nat.{ℕ, zero, suc}
 use mathlib.Core.Path.{_≡_, refl}
 use Rattle.alf.specs.declared.Answer.{Answer}

@@ -2,18 +2,17 @@
 --   earlier-row, row-inside, span-of        rows up to a row, and inside a window
 --   least-step, greatest-step               one entry of a window more
 --   no-event                                a window that ends where it starts, or before, answers no
--- Assumes nothing.
 use Prim.Native.Nat.{ℕ, _+_, _<_, _≤_, min, max}
 use native.Mathlib.Omega.{arith}
 use native.Mathlib.Numerals.{add-one}
 use native.Mathlib.Nat.{mul-le-mul-right}
 use mathlib.Core.Path.{_≡_, refl, _∙_}
 use mathlib.Core.List.{List, [], _∷_}
-use Rattle.alf.specs.Words.{greatest, least, greatestOf}
+use Rattle.basics.specs.Words.{greatest, least, greatestOf}
 use Rattle.alf.specs.Expressions.{Boolean, Vector}
 use Rattle.alf.specs.Windows.{answer}
 use Rattle.alf.specs.Alternatives.{Alternative, alternatives}
-use Rattle.alf.proofs.Lists.{none, more}
+use Rattle.basics.proofs.AllEntries.{none, more}
 use Rattle.alf.proofs.Lifting.{Steps, most, win-off}
 use Rattle.alf.proofs.WindowsAreAlternatives.{window-alternatives, every-has-steps}
 use Rattle.evaluator.specs.Rows.{Within}

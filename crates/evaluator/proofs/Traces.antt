@@ -2,7 +2,6 @@
 --   trace-row         a row below n stands in the states
 --   trace-filling     all n rows do, and a list of n entries has room for a value of each
 --   is-state-unique   two results that a contract allows coincide
--- Assumes nothing.
 use Prim.Native.Nat.{ℕ, suc, _*_, _<_, _≤_}
 use native.Mathlib.Omega.{arith}
 use native.Mathlib.Nat.{mul-le-mul-right, suc-mul}

@@ -2,7 +2,6 @@
 -- a window comes from theirs.
 --   edge-ends, inner-ends, join-byte, join-both, condition-ends, before-ends   its operands
 --   edge-answer, join-answer, condition-answer, before-answer                  its answer
--- Assumes nothing.
 use Prim.Native.Nat.{ℕ, _-_, _<_, _≤_, min}
 use native.Mathlib.Omega.{arith}
 use mathlib.Core.Path.{_≡_}
@@ -12,11 +11,11 @@ use mathlib.Core.List.{List}
 use lib.ListN.{length}
 use Rattle.alf.specs.Windows.{Window, held, joined, answer}
 use Rattle.alf.specs.Bytes.{joinAt, edgeAt, isBoolean, isVector, stackAt}
-use Rattle.alf.proofs.Bools.{below?, equal?}
+use Rattle.basics.proofs.Bools.{below?, equal?}
 use Rattle.alf.proofs.Made.{Made}
 use Rattle.alf.proofs.Parts.{made-last}
-use Rattle.alf.proofs.Tops.{EdgeTop, JoinTop, ConditionTop, ConditionBeforeTop}
-use Rattle.alf.proofs.Tops.{edge-top, join-top, condition-top, condition-before-top, vector-class}
+use Rattle.alf.proofs.StackTops.{EdgeTop, JoinTop, ConditionTop, ConditionBeforeTop}
+use Rattle.alf.proofs.StackTops.{edge-top, join-top, condition-top, condition-before-top, vector-class}
 use Rattle.trees.specs.Parts.{Ends, EndsBoolean, EndsVector, Start}
 use Rattle.trees.proofs.Starts.{of-boolean, of-vector, ends-pos}
 use Rattle.trees.proofs.Vectors.{boolean-under, vector-under}

@@ -1,10 +1,13 @@
 -- A trace's rows, as the functions over a tree ask for them, and what a part of a tree comes to there.
+--   Within, Filling             a row that is there; n rows, and a list with room for as many values
+--   IsState, Operands           a state's code; an operator's operands
+--   settledBy, stateOf, valueOf     the state and the value of the expression that ends at a place
 use Prim.Native.Nat.{ℕ, _+_, _*_, _<_, _≤_}
 use mathlib.Core.Path.{_≡_}
-use mathlib.Core.List.{List, _++_}
+use mathlib.Core.List.{List}
 use lib.Dec.{ltb}
-use lib.ListN.{length, getD, drop}
-use Rattle.alf.specs.Words.{if_then_else_, listed}
+use lib.ListN.{length, getD}
+use Rattle.basics.specs.Words.{if_then_else_}
 use Rattle.alf.specs.States.{reduce}
 use Rattle.alf.specs.Values.{stateAt, valueAt}
 use Rattle.trees.specs.Parts.{booleanAt}
@@ -44,7 +47,3 @@ valueOf tree names states end = valueAt names states (booleanAt tree names end)
 pub record Filling (states : List ℕ) (names n : ℕ) (out : List ℕ) : Type 0 where
   pub rows : (i : ℕ) → i < n → Within states names i
   pub room : n ≤ length out
-
--- a list whose first n entries are f 0, f 1, ..; what is past them stays
-abbrev pub filled : ℕ → (ℕ → ℕ) → List ℕ → List ℕ
-filled n f out = listed 0 n f ++ drop n out

@@ -1,8 +1,10 @@
 -- Windows of a trace with an event in them, and what a part of a tree answers there.
+--   Span, Both, Conditioned, JoinByte     what is asked of a window, of two operands, of a condition, of an operator
+--   edgeOver, answerOn, bestAt            an edge on a window, an expression on a window and at a row
 use Prim.Native.Nat.{ℕ, _+_, _<_, _≤_}
 use mathlib.Core.List.{List}
 use lib.Dec.{eqb}
-use Rattle.alf.specs.Words.{if_then_else_}
+use Rattle.basics.specs.Words.{if_then_else_}
 use Rattle.alf.specs.Expressions.{Edge}
 use Rattle.alf.specs.Values.{stateAt}
 use Rattle.alf.specs.Windows.{Window, NO, edgeOn, answer, best}

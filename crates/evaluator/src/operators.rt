@@ -3,17 +3,17 @@ ghost use Prim.Native.Nat.{_-_, _<_};
 ghost use Rattle.alf.specs.Values.{operate, chosen};
 ghost use Rattle.alf.specs.Bytes.{binaryAt};
 ghost use Rattle.evaluator.specs.Rows.{IsState, Operands, settledBy};
-use alf::states::above;
-use alf::states::and_of;
-use alf::states::at_least;
-use alf::states::at_most;
-use alf::states::below;
-use alf::states::differs;
-use alf::states::equals;
-use alf::states::or_of;
-use alf::states::reduced;
-use alf::states::xnor_of;
-use alf::states::xor_of;
+use states::states::above;
+use states::states::and_of;
+use states::states::at_least;
+use states::states::at_most;
+use states::states::below;
+use states::states::differs;
+use states::states::equals;
+use states::states::or_of;
+use states::states::reduced;
+use states::states::xnor_of;
+use states::states::xor_of;
 
 // Operator `op` of `& | ^ ~^ == != > < >= <=`, bytes 40 to 49.
 pub fn operated(op: u8, x: u8, y: u8) -> u8

@@ -7,7 +7,7 @@ ghost use Rattle.evaluator.specs.Rows.{Within};
 ghost use Rattle.evaluator.specs.Spans.{bestAt};
 use crate::windows::answer;
 use alf::Answer;
-use alf::edges::greater;
+use states::edges::greater;
 
 // The greatest answer of the expression that ends at `end`, over the windows that end at `row`: 0 no, 1 unknown, 2 yes.
 // Windows without an event answer no.

@@ -2,11 +2,13 @@
 // before its operator.
 ghost use mathlib.Core.Path.{_≡_};
 ghost use Rattle.trees.specs.Parts.{EndsBoolean};
-ghost use Rattle.evaluator.specs.Rows.{Within, IsState, stateOf, valueOf, Filling, filled};
+ghost use Rattle.evaluator.specs.Rows.{Within, IsState, stateOf, valueOf, Filling};
+ghost use Rattle.basics.specs.Words.{listed};
+ghost use Rattle.basics.specs.Memory.{front};
 use crate::operators::choose;
 use crate::operators::operated;
 use crate::operators::settle;
-use alf::states::not_of;
+use states::states::not_of;
 use trees::parts::start_of;
 
 // The state of the expression that ends at `end`: for a name the recorded state, else its value.
@@ -56,7 +58,7 @@ pub fn values(tree: &[u8], end: usize, states: &[u8], names: usize, n: usize, ou
     requires { ⌜ EndsBoolean (now tree) names end ⌝ }
     requires { ⌜ Filling (now states) names n (now out) ⌝ }
     ensures { λ _. ⌜ now (out .exit)
-        ≡ filled n (valueOf (now (tree .entry)) names (now (states .entry)) end) (now (out .entry)) ⌝ }
+        ≡ front (listed 0 n (valueOf (now (tree .entry)) names (now (states .entry)) end)) (now (out .entry)) ⌝ }
 {
     let mut i = 0;
     while i < n {

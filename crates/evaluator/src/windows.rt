@@ -8,10 +8,10 @@ ghost use Rattle.trees.specs.Parts.{EndsBoolean, EndsVector};
 ghost use Rattle.evaluator.specs.Rows.{Within, stateOf};
 ghost use Rattle.evaluator.specs.Spans.{Span, Both, Conditioned, JoinByte, edgeOver, answerOn};
 use crate::values::state;
-use alf::edges::certainty_of;
-use alf::edges::edge_on;
-use alf::edges::greater;
-use alf::edges::lesser;
+use states::edges::certainty_of;
+use states::edges::edge_on;
+use states::edges::greater;
+use states::edges::lesser;
 use trees::parts::start_of;
 
 // Edge `k` of the boolean expression that ends at `end`: no unless b = a + 1.

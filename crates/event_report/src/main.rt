@@ -9,5 +9,5 @@ use libc::STDIN_FILENO;
 fn main() {
     let mut input = io::large_buffer();
     let n = io::read_full(STDIN_FILENO, &mut input);
-    shown::show_lines(&input[..n]);
+    crate::shown::show_lines(&input[..n]);
 }

@@ -4,13 +4,10 @@ ghost use Prim.Native.Nat.{_≤_};
 use alf::Sort;
 use reader::Read;
 use reader::read_expression;
+use run_words::lists::zeros;
 use run_words::words::number_from;
 use run_words::words::number_in;
-use run_words::words::part;
-
-pub fn zeros() -> [u8; 64] {
-    [0u8; 64]
-}
+use text_parts::parts::part;
 
 fn code_of(letter: u8) -> u8 {
     match letter {

@@ -7,19 +7,21 @@ use crate::reports::rows_of;
 use crate::reports::size_of;
 use crate::reports::states_of;
 use crate::reports::time_of;
-use crate::reports::zeros;
-use alf::Outcome;
-use calls::matching::match_all;
-use calls::written::Told;
-use calls::written::row_answer;
+use basics::Outcome;
 use matcher::tables::number_of;
+use matching_calls::matching::match_all;
+use row_calls::written::Told;
+use row_calls::written::row_answer;
 use run_printing::printing::broken;
 use run_printing::printing::character;
 use run_printing::printing::number;
 use run_printing::printing::refusal;
 use run_printing::printing::write;
-use run_words::words::find;
-use run_words::words::part;
+use run_words::lists::zeros;
+use text_parts::lines::behind_line;
+use text_parts::lines::line_at;
+use text_parts::parts::front;
+use text_parts::parts::part;
 
 // The time of a row that answers yes, or with a `?` one that answers unknown; whether it or one before is one of these.
 fn say_row(some: bool, time: usize, answer: u8) -> bool {
@@ -118,14 +120,8 @@ fn show_tree(report: &[u8], tree: &[u8]) {
     character(b'\n');
 }
 
-fn show_first(report: &[u8], tree: &[u8], len: usize) {
-    if len <= tree.len() {
-        show_tree(report, &tree[0..len]);
-    }
-}
-
 fn show_read(report: &[u8], tree: &[u8; 256], len: usize) {
-    show_first(report, tree, len);
+    show_tree(report, front(tree, len));
 }
 
 fn show_text(report: &[u8], text: &[u8]) {
@@ -166,8 +162,7 @@ fn show_line(input: &[u8], line: &[u8]) {
 pub fn show_lines(input: &[u8]) {
     let mut at: usize = 0;
     while at < input.len() {
-        let end = find(input, at, b'\n');
-        show_line(input, &input[at..end]);
-        at = end + 1;
+        show_line(input, line_at(input, at));
+        at = behind_line(input, at);
     }
 }

@@ -1,5 +1,5 @@
 -- A machine that reads tokens from the left and keeps the open brackets and question marks: it tells whether a token
--- can go on, from what stands before it alone. Main names: stuck-within, stuck-after, stuck-end. Assumes nothing.
+-- can go on, from what stands before it alone. Main names: stuck-within, stuck-after, stuck-end.
 use Prim.Native.Nat.{ℕ, suc, _≤_, _<_}
 use native.Mathlib.Omega.{arith}
 use mathlib.Core.Path.{_≡_, refl, sym, ap, _∙_}

@@ -1,12 +1,12 @@
 -- A tree's text opens brackets as deep as `depthOf` says (written-depth), and no text of the tree less deep
--- (written-shallowest). Assumes nothing.
+-- (written-shallowest).
 use Prim.Native.Nat.{ℕ, suc, pred, _+_, _≤_, max}
 use native.Mathlib.Omega.{arith}
 use mathlib.Core.Path.{_≡_, refl, ap}
 use mathlib.Core.Bool.{Bool, true, false}
 use mathlib.Core.List.{List, [], _∷_, _++_, append-assoc, append-nil}
 use lib.Dec.{leb}
-use Rattle.alf.specs.Words.{if_then_else_}
+use Rattle.basics.specs.Words.{if_then_else_}
 use Rattle.grammar.specs.declared.Token.{Token}
 use Rattle.grammar.specs.Tokens.{Kind, binary, kindOf}
 use Rattle.grammar.specs.Grammar.{Tree, leaf, one, two, three, Expression}

@@ -1,6 +1,6 @@
 -- Texts of document 01 and of its neighbourhood, worked out by hand from its levels: the text of each tree is the one
 -- that stands beside it, as one computed statement (texts-hold); and the document's own example is read as it says
--- (document-example). In the texts 0 is a name, 75 and 83 are the edges 01 and 10. Assumes nothing.
+-- (document-example). In the texts 0 is a name, 75 and 83 are the edges 01 and 10.
 use Prim.Native.Nat.{ℕ}
 use mathlib.Core.Path.{_≡_, refl}
 use mathlib.Core.List.{List, [], _∷_, map}

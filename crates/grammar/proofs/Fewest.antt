@@ -1,5 +1,5 @@
 -- A tree's text has the fewest brackets of all its texts (written-fewest), so leaving out a pair gives another tree or
--- none; and its counted tokens are its nodes (counted-nodes). Assumes nothing.
+-- none; and its counted tokens are its nodes (counted-nodes).
 use Prim.Native.Nat.{ℕ, suc, _+_, _≤_}
 use native.Mathlib.Omega.{arith}
 use mathlib.Core.Path.{_≡_, refl, ap, _∙_}
@@ -7,7 +7,7 @@ use mathlib.Core.Bool.{Bool, true, false}
 use mathlib.Core.List.{List, [], _∷_, _++_}
 use lib.Dec.{leb}
 use lib.ListN.{length, length-append}
-use Rattle.alf.specs.Words.{if_then_else_}
+use Rattle.basics.specs.Words.{if_then_else_}
 use Rattle.grammar.specs.declared.Token.{Token}
 use Rattle.grammar.specs.Tokens.{kindOf, weight, counted}
 use Rattle.grammar.specs.Grammar.{Tree, leaf, one, two, three, nodes}

@@ -1,13 +1,12 @@
 -- A pair of brackets more, where level l is asked for and level m is weaker: laws of `deepened`, for how many pairs
 -- there are and for how deep they open. Main names: deepened-open, deepened-more, deepened-plain, deepened-less.
--- Assumes nothing.
 use Prim.Native.Nat.{ℕ, suc, _≤_}
 use native.Mathlib.Omega.{arith}
 use mathlib.Core.Path.{_≡_, refl}
 use mathlib.Core.Bool.{Bool, true, false}
 use lib.Dec.{leb}
 use borrow.Author.Tests.{le-leb, leb-true}
-use Rattle.alf.specs.Words.{if_then_else_}
+use Rattle.basics.specs.Words.{if_then_else_}
 use Rattle.grammar.specs.Written.{deepened}
 
 pub deepened-open : (l m n : ℕ) → deepened l m n ≤ suc n

@@ -1,5 +1,5 @@
 -- What the functions of the levels do, on views: a law for each way through them. Main names: reads-operand,
--- reads-prefix, reads-bracket, stops-here; up-level, joins, level-done; chooses, no-choice. Assumes nothing.
+-- reads-prefix, reads-bracket, stops-here; up-level, joins, level-done; chooses, no-choice.
 use Prim.Native.Nat.{ℕ, suc, _<_}
 use native.Mathlib.Omega.{arith}
 use mathlib.Core.Path.{_≡_, refl, ap}
@@ -7,7 +7,7 @@ use mathlib.Core.Bool.{Bool, true, false}
 use mathlib.Core.List.{List, [], _∷_, _++_, append-assoc}
 use lib.Dec.{eqb}
 use borrow.Author.Tests.{eqb-true, eqb-false}
-use Rattle.alf.specs.Words.{if_then_else_}
+use Rattle.basics.specs.Words.{if_then_else_}
 use Rattle.grammar.specs.declared.Token.{Token}
 use Rattle.grammar.specs.Tokens.{operand, prefix, question, colon, opening, binary, kindOf, ahead}
 use Rattle.grammar.specs.Grammar.{Tree, nodes, Parses, alone, applied, bracketed, up, joined, chosen}

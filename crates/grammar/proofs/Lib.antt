@@ -1,6 +1,6 @@
 -- The laws. To cite: Unique and Total (a text has one tree or one place of refusal, and never both), Outcome (what
--- `parse` answers, both ways), RowFive (refusal 5 by places), Written, Fewest and Depth (a tree's text), Codes and
--- Nodes (what tells a tree), Examples. The rest leads there.
+-- `parse` answers, both ways), RowFive (refusal 5 by places), Written, Fewest and Depth (a tree's text), SameCodes
+-- and Nodes (what tells a tree), Examples. The rest leads there.
 pub mod Table
 pub mod Unique
 pub mod Total
@@ -10,17 +10,12 @@ pub mod Written
 pub mod Fewest
 pub mod Depth
 pub mod Examples
-pub mod Codes
+pub mod SameCodes
 pub mod Nodes
 pub mod Fitting
 pub mod Shunting
 pub mod Counting
-pub mod Goes
+pub mod Continuing
 pub mod Refusals
 pub mod Ranks
 pub mod Levels
-pub mod Lists
-pub mod Steps
-pub mod Runs
-pub mod Padding
-pub mod Finish

@@ -1,5 +1,5 @@
 -- A tree's nodes tell the tree: nodes-unique. They are read back from the left, operands before their operator, with a
--- stack. Assumes nothing.
+-- stack.
 use mathlib.Core.Path.{_≡_, sym, ap, _∙_}
 use mathlib.Core.List.{List, [], _∷_, _++_, append-assoc, append-nil}
 use Rattle.grammar.specs.declared.Token.{Token}

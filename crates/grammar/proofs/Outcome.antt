@@ -1,6 +1,6 @@
 -- What `parse` answers follows from the tokens alone. Main names: answer-unique (any two answers coincide),
 -- parse-sound and parse-complete (a tree is answered exactly where there is one), refuse-sound and refuse-complete (a
--- refusal exactly where the document says). Assumes nothing.
+-- refusal exactly where the document says).
 use Prim.Native.Nat.{ℕ}
 use native.Mathlib.Omega.{arith}
 use mathlib.Core.Path.{_≡_, sym, ap, _∙_}

@@ -1,5 +1,5 @@
 -- A kind and its rank, the number that the code goes by, are one to one on the table's kinds. Main names: rank-kind
--- (the kind of a rank), rank-binary, rank-above, not-starting, head-kind. Assumes nothing.
+-- (the kind of a rank), rank-binary, rank-above, not-starting.
 use Prim.Native.Nat.{ℕ, _<_}
 use native.Mathlib.Omega.{arith}
 use mathlib.Core.Path.{_≡_, refl, sym, ap, _∙_}
@@ -7,12 +7,12 @@ use mathlib.Core.Bool.{false}
 use mathlib.Core.List.{List, [], _∷_}
 use lib.Dec.{eqb, lit<}
 use borrow.Author.Tests.{ne-eqb}
-use Rattle.alf.specs.Words.{if_then_else_}
+use Rattle.basics.specs.Words.{if_then_else_}
 use Rattle.grammar.specs.declared.Token.{Token}
 use Rattle.grammar.specs.Tokens.{Kind, operand, prefix, question, colon, opening, closing, other, binary}
-use Rattle.grammar.specs.Tokens.{table, kindIn, kind, kindOf, ahead}
+use Rattle.grammar.specs.Tokens.{ahead}
 use Rattle.grammar.specs.Stops.{rank, starts}
-use Rattle.grammar.specs.Views.{View, going, stopped, head, aheadV}
+use Rattle.grammar.specs.Views.{View, going, stopped, aheadV}
 use Rattle.grammar.proofs.Table.{binary-level}
 
 -- the kind that has a rank
@@ -101,9 +101,3 @@ not-starting opening a b c = absurd (c refl)
 not-starting closing a b c = refl
 not-starting other a b c = refl
 not-starting (binary l) a b c = refl
-
--- the next token's kind; none is other
-pub head-kind : (ts : List Token) → kindOf (head ts) ≡ ahead ts
-unfolding kind kindIn table
-head-kind [] = refl
-head-kind (t ∷ ts) = refl

@@ -1,5 +1,5 @@
 -- Reading stops where the document refuses: at the first token with which no expression goes on, or at the end.
--- Main names: stops-refused, trailing-refused, ends, ends-halted. Assumes nothing.
+-- Main names: stops-refused, trailing-refused, ends, ends-halted.
 use Prim.Native.Nat.{_<_}
 use native.Mathlib.Omega.{arith}
 use mathlib.Core.Path.{_≡_, ap}
@@ -11,7 +11,7 @@ use Rattle.grammar.specs.Grammar.{Tree, Parses, Begins, Refused, at-toke
 use Rattle.grammar.specs.Stops.{rank, Stops}
 use Rattle.grammar.specs.Views.{View, going, stopped, halt, Does, read, stop, Ends, whole, refused}
 use Rattle.grammar.proofs.Counting.{stuck-within, stuck-after, stuck-end}
-use Rattle.grammar.proofs.Goes.{Cut, cut, Via, via}
+use Rattle.grammar.proofs.Continuing.{Cut, cut, Via, via}
 
 via-begins : {ts rest : List Token} (v : Via 6 ts rest) → Begins (v .pre)
 via-begins v = record { more = v .more ++ []; tree = v .tree; whole = v .goes [] }

@@ -1,5 +1,5 @@
 -- Row 5 of the table of refusals, by places: where each token begins before the next, `parse` refuses at p exactly
--- where the row is given at p. Main names: row-sound, row-complete, row-never. Assumes nothing.
+-- where the row is given at p. Main names: row-sound, row-complete, row-never.
 use Prim.Native.Nat.{ℕ, _<_}
 use native.Mathlib.Omega.{arith}
 use mathlib.Core.Path.{_≡_, refl, ap, _∙_}

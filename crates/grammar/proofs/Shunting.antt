@@ -1,12 +1,12 @@
 -- A machine that reads tokens from the left and keeps what is begun on a stack. It is a function, so the tree that an
--- expression leads it to is the only one. Main name: one-tree. Assumes nothing.
+-- expression leads it to is the only one. Main name: one-tree.
 use Prim.Native.Nat.{ℕ, suc, _≤_, _<_}
 use native.Mathlib.Omega.{arith}
 use mathlib.Core.Path.{_≡_, refl, sym, ap, _∙_}
 use mathlib.Core.List.{List, [], _∷_}
 use lib.Dec.{leb, lit<, lit≤}
 use borrow.Author.Tests.{le-leb, lt-leb}
-use Rattle.alf.specs.Words.{if_then_else_}
+use Rattle.basics.specs.Words.{if_then_else_}
 use Rattle.grammar.specs.declared.Token.{Token}
 use Rattle.grammar.specs.Tokens.{Kind, operand, prefix, question, colon, opening, closing, other, binary}
 use Rattle.grammar.specs.Tokens.{kindOf, ahead}

@@ -1,14 +1,13 @@
 -- Laws of the operator table. Main names: kind-all (what passes a test for each span passes it for each code),
--- binary-level (a binary operator's level is 2 to 5). Assumes nothing.
+-- binary-level (a binary operator's level is 2 to 5).
 use Prim.Native.Nat.{ℕ, _<_}
-use native.Mathlib.Omega.{arith}
 use mathlib.Core.Path.{_≡_, refl, ap, sym, _∙_}
 use mathlib.Core.Bool.{Bool, true, false, _&&_}
 use mathlib.Core.List.{List, [], _∷_}
 use lib.Dec.{leb, ltb}
 use borrow.Author.Tests.{ltb-true}
-use Rattle.alf.specs.Words.{if_then_else_, all}
-use Rattle.alf.proofs.Bools.{and-left, and-right}
+use Rattle.basics.specs.Words.{if_then_else_, all}
+use Rattle.basics.proofs.Bools.{and-left, and-right}
 use Rattle.grammar.specs.Tokens.{Kind, operand, prefix, question, colon, opening, closing, other, binary, Span}
 use Rattle.grammar.specs.Tokens.{table, kindIn, kind}
 

@@ -1,5 +1,5 @@
 -- The grammar is unambiguous: a text has one tree (parses-unique), or one place of refusal (refused-unique), and never
--- both (never-both). Assumes nothing.
+-- both (never-both).
 use mathlib.Core.Path.{_≡_, refl, sym, _∙_}
 use mathlib.Core.List.{List, [], _∷_, _++_, append-assoc, append-nil}
 use Rattle.grammar.specs.declared.Token.{Token}

@@ -1,5 +1,5 @@
 -- A tree's text parses back to the tree, and texts give no other trees. Main names: written-parses, written-expression,
--- expression-formed. Assumes nothing.
+-- expression-formed.
 use Prim.Native.Nat.{ℕ, zero, suc, pred, _≤_}
 use native.Mathlib.Omega.{arith}
 use mathlib.Core.Path.{_≡_, refl, ap, subst}
@@ -7,7 +7,7 @@ use mathlib.Core.Bool.{Bool, true, false}
 use mathlib.Core.List.{List, [], _∷_, _++_, append-assoc, append-nil}
 use lib.Dec.{leb, lit≤}
 use borrow.Author.Tests.{leb-true, leb-false}
-use Rattle.alf.specs.Words.{if_then_else_}
+use Rattle.basics.specs.Words.{if_then_else_}
 use Rattle.grammar.specs.declared.Token.{Token}
 use Rattle.grammar.specs.Tokens.{Kind, question, colon, opening, closing, binary}
 use Rattle.grammar.specs.Tokens.{table, kindIn, kind, kindOf}

@@ -1,12 +1,18 @@
 -- The contract of `parse`: what it is handed, and its answer, the nodes of the text's one tree or the place of
 -- refusal 5. That any two answers coincide is shown in proofs/Outcome.antt.
-use Prim.Native.Nat.{ℕ, _-_, _≤_, _<_}
+--   handed, Handed                   the tokens of two lists, and what `parse` asks of them
+--   placeAt                          the byte of a token by its number
+--   padded, codesOf, placesOf        lists of 256 entries; the codes and the places of tokens
+--   accepted, refusedAt, Answer      the answer
+--   Stuck, Rising                    refusal 5 by places; tokens that begin one before the other
+use Prim.Native.Nat.{ℕ, _≤_, _<_}
 use mathlib.Core.Path.{_≡_}
 use mathlib.Core.Bool.{true, false}
 use mathlib.Core.List.{List, [], _∷_, _++_, map}
 use lib.Dec.{ltb}
 use lib.ListN.{length, getD, take, replicate}
-use Rattle.alf.specs.Words.{if_then_else_}
+use Rattle.basics.specs.Words.{if_then_else_}
+use Rattle.basics.specs.Memory.{front}
 use Rattle.grammar.specs.declared.Token.{Token}
 use Rattle.grammar.specs.declared.Parsed.{Parsed}
 use Rattle.grammar.specs.Tokens.{counted, tokens}
@@ -26,8 +32,8 @@ unfoldable pub placeAt : List ℕ → ℕ → ℕ → ℕ
 placeAt places i bytes = if ltb i (length places) then getD places i 0 else bytes
 
 -- 256 entries: some, and zeros behind them
-unfoldable pub padded : List ℕ → List ℕ
-padded xs = xs ++ replicate (256 - length xs) 0
+abbrev pub padded : List ℕ → List ℕ
+padded xs = front xs (replicate 256 0)
 
 abbrev pub codesOf : List Token → List ℕ
 codesOf ns = map (λ (t : Token). t .code) ns

@@ -1,6 +1,9 @@
 -- Document 01, "Text": the grammar as a relation, and refusal 5 in the document's words. The grammar knows no sorts.
--- Main names: Tree, Parses, Expression, Begins, Refused. That no text has two trees, or two places of refusal, is shown
--- in proofs/Unique.antt.
+-- That no text has two trees, or two places of refusal, is shown in proofs/Unique.antt.
+--   Tree, nodes             an expression as its tokens; these, operands before their operator
+--   Parses, Expression      tokens begin with an expression of a level; tokens are an expression
+--   Begins, Refused         some expression begins with tokens; where tokens are refused
+--   placeOf                 the byte where some tokens begin
 use Prim.Native.Nat.{ℕ, suc}
 use mathlib.Core.Path.{_≡_}
 use mathlib.Core.List.{List, [], _∷_, _++_}

@@ -1,10 +1,15 @@
 -- Document 01, "Text": what a token is, by its code, and the operators' levels from strongest to weakest.
 -- A token is read already: its code says which it is, its place is the byte at which it begins.
+--   Kind                        an operand, an operator of a level, a bracket ..
+--   Span, span, table           the table of codes and kinds
+--   kindIn, kind, kindOf, ahead the kind of a code by a table, of a code, of a token, of what comes next
+--   weight, counted             which tokens are counted, and how many
+--   tokens                      the tokens that two lists hold
 use Prim.Native.Nat.{ℕ, _+_}
 use mathlib.Core.Bool.{_&&_}
 use mathlib.Core.List.{List, [], _∷_}
 use lib.Dec.{leb}
-use Rattle.alf.specs.Words.{if_then_else_}
+use Rattle.basics.specs.Words.{if_then_else_}
 use Rattle.grammar.specs.declared.Token.{Token}
 
 -- an operand by itself; an operator before its operand; an operator between two, of a level; `?`, `:`, `(`, `)`

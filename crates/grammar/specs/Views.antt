@@ -1,9 +1,13 @@
--- For the functions inside: a parser's state as lists, which is what is left and what was written, or where it stopped.
+-- For the parser: its state as lists, which is what is left and what was written, or where it stopped.
+--   View                              such a state
+--   aheadV, nothing, head, headV, tail    what comes next, and what follows it
+--   past, push, halt, eaten           a single step each
+--   Does, Ends                        what reading an expression of a level, and a whole text, comes to
 use Prim.Native.Nat.{ℕ, _<_}
 use mathlib.Core.Path.{_≡_}
 use mathlib.Core.List.{List, [], _∷_, _++_}
 use lib.Dec.{eqb}
-use Rattle.alf.specs.Words.{if_then_else_}
+use Rattle.basics.specs.Words.{if_then_else_}
 use Rattle.grammar.specs.declared.Token.{Token}
 use Rattle.grammar.specs.Tokens.{Kind, other, ahead}
 use Rattle.grammar.specs.Grammar.{Tree, nodes, Parses, Refused, Expression}

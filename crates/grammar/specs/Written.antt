@@ -1,11 +1,17 @@
 -- Document 01, "Writing out": a tree's tokens with only needed brackets, and which trees there are. That they parse
 -- back to the tree is shown in proofs/Written.antt; that no text of it has fewer brackets, or opens them less deep, in
 -- proofs/Fewest.antt and proofs/Depth.antt.
+--   made, levelOf                 a token that the writer puts in; an operator's level
+--   fitted, written               brackets where they are needed; a tree's tokens
+--   Formed                        a tree whose operators have as many operands as they take
+--   opens, brackets               how many brackets open
+--   opened, depth                 how deep they open
+--   deepened, depthOf             the same from the tree alone
 use Prim.Native.Nat.{ℕ, suc, pred, _+_, max}
 use mathlib.Core.Path.{_≡_}
 use mathlib.Core.List.{List, [], _∷_, _++_}
 use lib.Dec.{leb}
-use Rattle.alf.specs.Words.{if_then_else_}
+use Rattle.basics.specs.Words.{if_then_else_}
 use Rattle.grammar.specs.declared.Token.{Token}
 use Rattle.grammar.specs.Tokens.{Kind, operand, prefix, question, colon, opening, closing}
 use Rattle.grammar.specs.Tokens.{other, binary, kindOf}

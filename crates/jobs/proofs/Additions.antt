@@ -12,13 +12,13 @@ use mathlib.Core.Bool.{Bool, true, false, not, _&&_}
 use mathlib.Core.Logic.{_⊎_, inl, inr}
 use lib.Dec.{ltb, leb}
 use borrow.Author.Tests.{ltb-true, lt-ltb, le-ltb, le-leb, lt-leb, not-true, not-false}
-use Rattle.alf.specs.declared.Refusal.{Refusal}
-use Rattle.alf.specs.Words.{if_then_else_}
-use Rattle.alf.proofs.Bools.{below?, and-left, and-right}
+use Rattle.basics.specs.declared.Refusal.{Refusal}
+use Rattle.basics.specs.Words.{if_then_else_}
+use Rattle.basics.proofs.Bools.{below?, and-left, and-right}
 use Rattle.matcher.specs.declared.tables.Total.{Total}
-use Rattle.calls.specs.declared.matching.Counting.{Counting}
-use Rattle.calls.specs.declared.matching.Counting.the-variants.{Counted, Refused}
-use Rattle.listing.specs.declared.table.Sums.{Sums}
+use Rattle.matching_calls.specs.declared.matching.Counting.{Counting}
+use Rattle.matching_calls.specs.declared.matching.Counting.the-variants.{Counted, Refused}
+use Rattle.table_lines.specs.declared.lines.Sums.{Sums}
 use Rattle.jobs.specs.declared.sums.Adding.{Adding}
 use Rattle.jobs.specs.declared.sums.Adding.the-variants.{Added, Full}
 use Rattle.jobs.specs.Sums.{word, grown, fit, addedTo}

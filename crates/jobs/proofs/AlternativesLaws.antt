@@ -8,8 +8,9 @@ use mathlib.Core.Bool.{true}
 use mathlib.Core.Logic.{inl, inr}
 use mathlib.Core.List.{List}
 use lib.ListN.{length, take}
-use Rattle.alf.specs.declared.Outcome.{Outcome}
-use Rattle.alf.specs.declared.Outcome.the-variants.{Done, Refused}
+use Rattle.basics.specs.Refusing.{refusal}
+use Rattle.basics.specs.declared.Outcome.{Outcome}
+use Rattle.basics.specs.declared.Outcome.the-variants.{Done, Refused}
 use Rattle.alf.specs.declared.Sort.the-variants as sort
 use Rattle.alf.specs.Expressions.{Vector, Expression, boolean, vector}
 use Rattle.alf.specs.Bytes.{Stack, Decodes, topVector}
@@ -17,16 +18,16 @@ use Rattle.alf.specs.Alternatives.{alternatives}
 use Rattle.alf.specs.Refusals.{RefusedWith, Passed, Comes}
 use Rattle.alf.proofs.Outcomes.{refused-passed}
 use Rattle.names.specs.Check.{namesOrder}
-use Rattle.names.proofs.Orders.{passed-left}
-use Rattle.limits.specs.Accepted.{Accepted}
+use Rattle.alf.proofs.Orders.{passed-left}
+use Rattle.acceptance.specs.Accepted.{Accepted}
 use Rattle.reader.specs.declared.Read.{Read}
 use Rattle.reader.specs.Reading.{Reading}
 use Rattle.reader.proofs.Unique.{gives-unique}
 use Rattle.writer.specs.Writing.{countOf}
-use Rattle.exactness.proofs.ReadTrees.{Found, read-refused, read-sole, found-accepted, found-vector}
-use Rattle.exactness.proofs.ReadTrees.{vector-given, vector-decodes}
-use Rattle.listing.specs.Calls.{lineOrder}
-use Rattle.listing.proofs.Theorems.{delivers-unique}
+use Rattle.text_laws.proofs.ReadTrees.{Found, read-refused, read-sole, found-accepted, found-vector}
+use Rattle.text_laws.proofs.ReadTrees.{vector-given, vector-decodes}
+use Rattle.figures.specs.Delivering.{lineOrder}
+use Rattle.figures.proofs.Delivering.{delivers-unique}
 use Rattle.alternative_lines.specs.declared.Lines.{Lines}
 use Rattle.alternative_texts.specs.Texts.{untold}
 use Rattle.alternative_lines.specs.Listing.{listing}
@@ -96,7 +97,7 @@ pub text-unique : {names text out a b : List ℕ} {r s : Lines} → RewritesText
 unfolding patternOf
 text-unique {names} {text} (refused n p x) (refused m q y) =
     let e = read-sole names text sort.Vector n m p q x y in
-    (λ i. record { written = Refused (record { number = e .0 i; place = e .1 i }); untold = 0 }, refl)
+    (λ i. record { written = Refused (refusal (e .0 i) (e .1 i)); untold = 0 }, refl)
 text-unique (refused n p x) (rewritten h g d) = absurd (refused-passed _ n p h x)
 text-unique (rewritten h g d) (refused n p x) = absurd (refused-passed _ n p h x)
 text-unique {names} {out = out} (rewritten {p = p} h g d) (rewritten {p = q} k f c) =

@@ -14,11 +14,11 @@ use lib.ListN.{length, getD, drop, drop-of-length-le}
 use lib.Dec.{leb}
 use lib.Seq.{drop-cons}
 use borrow.Author.Tests.{le-leb, lt-leb}
-use Rattle.alf.specs.Words.{if_then_else_, all}
+use Rattle.basics.specs.Words.{if_then_else_, all}
 use Rattle.alf.specs.Names.{isDecimal}
-use Rattle.alf.proofs.Bools.{below?, and-left, and-right}
-use Rattle.listing.specs.Numbers.{digits, width, decimal}
-use Rattle.listing.proofs.Digits.{reading, decimal-read, decimal-length, width-some}
+use Rattle.basics.proofs.Bools.{below?, and-left, and-right}
+use Rattle.figures.specs.Numbers.{digits, width, decimal}
+use Rattle.figures.proofs.Digits.{reading, decimal-read, decimal-length, width-some}
 use Rattle.jobs.specs.RowNumbers.{rowNumber, goneOn}
 
 unfoldable pub going : ℕ → List ℕ → ℕ

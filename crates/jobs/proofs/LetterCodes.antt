@@ -7,9 +7,9 @@ use mathlib.Core.Path.{_≡_, refl, sym, _∙_}
 use mathlib.Core.List.{List, [], _∷_, map}
 use lib.ListN.{length, getD, take, set, length-map}
 use lib.Seq.{take-all}
-use Rattle.writer.specs.Inner.{Put}
-use Rattle.writer.proofs.Steps.{copy-more}
-use Rattle.writer.proofs.Spelling.{put-as}
+use Rattle.basics.specs.Memory.{Put}
+use Rattle.basics.proofs.PartByPart.{copy-more}
+use Rattle.basics.proofs.PartByPart.{put-as}
 use Rattle.jobs.specs.Letters.{stateOf}
 
 pub map-at : (f : ℕ → ℕ) (xs : List ℕ) (i : ℕ) → i < length xs → getD (map f xs) i 0 ≡ f (getD xs i 0)

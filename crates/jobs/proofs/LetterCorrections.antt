@@ -12,20 +12,22 @@ use mathlib.Core.Bool.{true}
 use mathlib.Core.Logic.{inl, inr}
 use mathlib.Core.List.{List, map}
 use lib.ListN.{length, take, length-map}
-use Rattle.alf.specs.declared.Refusal.{Refusal}
-use Rattle.alf.specs.declared.Outcome.{Outcome}
-use Rattle.alf.specs.declared.Outcome.the-variants as outcome
+use Rattle.basics.specs.Refusing.{refusal}
+use Rattle.basics.specs.declared.Refusal.{Refusal}
+use Rattle.basics.specs.declared.Outcome.{Outcome}
+use Rattle.basics.specs.declared.Outcome.the-variants as outcome
 use Rattle.alf.specs.Refusals.{Order, RefusedWith, Passed, Comes}
 use Rattle.alf.specs.Traces.{corrected}
 use Rattle.alf.proofs.Outcomes.{at-fixed, first-fixed}
-use Rattle.updates.specs.Copies.{placed}
-use Rattle.writer.specs.Writing.{Holds}
-use Rattle.calls.specs.declared.checks.Verdict.{Verdict}
-use Rattle.calls.specs.declared.checks.Verdict.the-variants.{Good, Refused}
-use Rattle.calls.specs.Orders.{order, codesCorrection, JudgesCorrection}
-use Rattle.calls.specs.Written.{after}
-use Rattle.calls.proofs.Verdicts.{judged-good, judged-not}
-use Rattle.calls.proofs.Unique.{outcome-unique, after-unique}
+use Rattle.basics.specs.Memory.{placed, Put, Holds}
+use Rattle.basics.proofs.Stores.{put-placed}
+use Rattle.judging.specs.declared.checks.Verdict.{Verdict}
+use Rattle.judging.specs.declared.checks.Verdict.the-variants.{Good, Refused}
+use Rattle.judging.specs.Orders.{order, codesCorrection, JudgesCorrection}
+use Rattle.basics.specs.Memory.{after}
+use Rattle.judging.proofs.Verdicts.{judged-good, judged-not}
+use Rattle.call_laws.proofs.Unique.{outcome-unique}
+use Rattle.basics.proofs.Memory.{after-unique}
 use Rattle.jobs.specs.Letters.{stateOf}
 use Rattle.jobs.specs.Correcting.{LettersFit, lettersOrder, CorrectsLetters, Stores}
 
@@ -50,16 +52,19 @@ module _ {k n : ℕ} {states : List ℕ} {row : ℕ} {new : List ℕ} {v : Verdi
       let there = judged-good (j .is) e .1 .2 .2 in
       omega (arith, mul-le-mul-right k there, suc-mul row k, f .rows .all)
 
-  pub stored-told : {states′ : List ℕ} → v ≡ Good → states′ ≡ placed states (row * k) new
+  pub stored-told : {states′ : List ℕ} {at : ℕ} → v ≡ Good → Put states (row * k) new states′ at
       → Stores k n states row new states′ (outcome.Done 1)
   unfolding Comes Passed after placed corrected
   stored-told e s =
-      record { comes = (judged-good (j .is) e .0 .1 .1, refl); memory = s ∙ rw (f .full) refl }
+      record {
+        comes = (judged-good (j .is) e .0 .1 .1, refl);
+        memory = put-placed s (omega (arith, row-fits e, f .full)) ∙ rw (f .full) refl;
+      }
 
 -- letters
 module _ {k n : ℕ} {states : List ℕ} {row : ℕ} {letters : List ℕ} where
   pub letters-18 : {r : Outcome} → (LettersFit k n (length states) (length letters) → ⊥)
-      → r ≡ outcome.Refused (record { number = 18; place = 0 }) → CorrectsLetters k n states row letters states r
+      → r ≡ outcome.Refused (refusal 18 0) → CorrectsLetters k n states row letters states r
   unfolding Comes RefusedWith after
   letters-18 h e = rw e (record { comes = inl (refl, record { given = h; there = refl }); memory = refl })
 

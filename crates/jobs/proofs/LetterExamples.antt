@@ -2,11 +2,11 @@
 use Prim.Native.Nat.{ℕ}
 use mathlib.Core.Path.{_≡_, refl}
 use mathlib.Core.List.{List, [], _∷_, map}
-use Rattle.alf.specs.Words.{all}
+use Rattle.basics.specs.Words.{all}
 use Rattle.alf.specs.States.{among}
 use Rattle.alf.specs.Names.{isDecimal}
-use Rattle.listing.specs.Text.{bytes}
-use Rattle.listing.proofs.Digits.{reading}
+use Rattle.figures.specs.Text.{bytes}
+use Rattle.figures.proofs.Digits.{reading}
 use Rattle.jobs.specs.Letters.{stateOf}
 use Rattle.jobs.specs.RowNumbers.{rowNumber}
 

@@ -10,17 +10,17 @@ use mathlib.Core.Bool.{Bool, true, false}
 use mathlib.Core.List.{List, [], _∷_}
 use lib.ListN.{length}
 use borrow.Author.Tests.{lt-ltb}
-use Rattle.alf.specs.declared.Refusal.{Refusal}
-use Rattle.alf.specs.Words.{if_then_else_, sumOf}
+use Rattle.basics.specs.declared.Refusal.{Refusal}
+use Rattle.basics.specs.Words.{if_then_else_, sumOf}
 use Rattle.alf.specs.Values.{stateAt}
-use Rattle.alf.proofs.Lists.{All, none, more, all-weaken}
+use Rattle.basics.proofs.AllEntries.{All, none, more, all-weaken}
 use Rattle.alf.proofs.Totals.{totals-sum}
 use Rattle.matcher.specs.declared.tables.Total.{Total}
-use Rattle.reader.specs.Lookup.{countOf}
-use Rattle.calls.specs.declared.matching.Counting.{Counting}
-use Rattle.calls.specs.declared.matching.Counting.the-variants.{Counted, Refused}
-use Rattle.calls.specs.Matching.{Counts}
-use Rattle.listing.specs.declared.table.Sums.{Sums}
+use Rattle.sorting.specs.Lookup.{countOf}
+use Rattle.matching_calls.specs.declared.matching.Counting.{Counting}
+use Rattle.matching_calls.specs.declared.matching.Counting.the-variants.{Counted, Refused}
+use Rattle.matching_calls.specs.Matching.{Counts}
+use Rattle.table_lines.specs.declared.lines.Sums.{Sums}
 use Rattle.jobs.specs.declared.sums.Adding.the-variants.{Added, Full}
 use Rattle.jobs.specs.Counting.{CountsText}
 use Rattle.jobs.specs.Sums.{word, noSums, grown, fit, addedTo, addedAll, Modest, CountedOn}

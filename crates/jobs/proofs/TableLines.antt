@@ -5,14 +5,14 @@
 use Prim.Native.Nat.{ℕ}
 use mathlib.Core.Path.{_≡_}
 use mathlib.Core.List.{List}
-use Rattle.alf.specs.declared.Outcome.{Outcome}
-use Rattle.alf.specs.declared.Refusal.{Refusal}
+use Rattle.basics.specs.declared.Outcome.{Outcome}
+use Rattle.basics.specs.declared.Refusal.{Refusal}
 use Rattle.matcher.specs.declared.tables.Total.{Total}
-use Rattle.calls.specs.declared.matching.Counting.{Counting}
-use Rattle.calls.specs.declared.matching.Counting.the-variants.{Counted, Refused}
-use Rattle.listing.specs.Table.{patternLine, refusedLine}
-use Rattle.listing.specs.Calls.{Delivers}
-use Rattle.listing.proofs.Theorems.{delivers-unique}
+use Rattle.matching_calls.specs.declared.matching.Counting.{Counting}
+use Rattle.matching_calls.specs.declared.matching.Counting.the-variants.{Counted, Refused}
+use Rattle.table_lines.specs.Table.{patternLine, refusedLine}
+use Rattle.figures.specs.Delivering.{Delivers}
+use Rattle.figures.proofs.Delivering.{delivers-unique}
 use Rattle.jobs.specs.declared.table.Line.{Line}
 use Rattle.jobs.specs.Counting.{CountsText}
 use Rattle.jobs.specs.Lines.{lineOf, TableLine, Tabled}

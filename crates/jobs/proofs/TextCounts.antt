@@ -8,23 +8,24 @@ use mathlib.Core.Path.{_≡_, refl, ap, sym, _∙_}
 use mathlib.Core.Bool.{true}
 use mathlib.Core.List.{List}
 use lib.ListN.{take}
+use Rattle.basics.specs.Refusing.{refusal}
 use Rattle.alf.specs.declared.Sort.the-variants as sort
 use Rattle.alf.specs.Bytes.{Decodes, topVector}
 use Rattle.alf.specs.Refusals.{RowCount, Passed}
 use Rattle.alf.proofs.Outcomes.{at-fixed, first-fixed, refused-passed}
-use Rattle.alf.proofs.Stable.{le-stable}
-use Rattle.names.proofs.Orders.{refused-first, refused-then, passed-both, passed-right}
-use Rattle.names.proofs.Orders.{Sole, sole-both, sole-fixed}
+use Rattle.basics.proofs.Stable.{le-stable}
+use Rattle.alf.proofs.Orders.{refused-first, refused-then, passed-both, passed-right}
+use Rattle.alf.proofs.Orders.{Sole, sole-both, sole-fixed}
 use Rattle.matcher.specs.declared.tables.Total.{Total}
 use Rattle.reader.specs.declared.Read.{Read}
-use Rattle.reader.specs.Lookup.{countOf}
+use Rattle.sorting.specs.Lookup.{countOf}
 use Rattle.reader.specs.Reading.{readOrder, Reading}
 use Rattle.reader.proofs.Unique.{gives-unique}
-use Rattle.calls.specs.declared.matching.Counting.{Counting}
-use Rattle.calls.specs.declared.matching.Counting.the-variants.{Counted, Refused}
-use Rattle.calls.specs.Matching.{expression, Counts, RowTotals}
-use Rattle.exactness.proofs.ReadTrees.{Found, read-refused, read-sole, found-accepted, found-vector}
-use Rattle.exactness.proofs.ReadTrees.{vector-given, vector-decodes}
+use Rattle.matching_calls.specs.declared.matching.Counting.{Counting}
+use Rattle.matching_calls.specs.declared.matching.Counting.the-variants.{Counted, Refused}
+use Rattle.matching_calls.specs.Matching.{expression, Counts, RowTotals}
+use Rattle.text_laws.proofs.ReadTrees.{Found, read-refused, read-sole, found-accepted, found-vector}
+use Rattle.text_laws.proofs.ReadTrees.{vector-given, vector-decodes}
 use Rattle.jobs.specs.Counting.{traceChecks, countOrder, TotalsText, CountsText}
 use Rattle.jobs.proofs.TextOrders.{passed-without-ten, refused-without-ten}
 
@@ -102,7 +103,7 @@ module _ (names : List ℕ) (n : ℕ) (states text : List ℕ) where
   counts-one (Refused r) (Counted u) x y = absurd (refused-passed (countOrder names n states text) _ _ (y .0) x)
   counts-one (Refused r) (Refused s) x y =
       let e = count-sole (r .number) (s .number) (r .place) (s .place) x y in
-      λ i. Refused (record { number = e .0 i; place = e .1 i })
+      λ i. Refused (refusal (e .0 i) (e .1 i))
 
 pub counts-unique : {names : List ℕ} {n : ℕ} {states text : List ℕ} {a b : Counting}
     → CountsText names n states text a → CountsText names n states text b → a ≡ b

@@ -4,7 +4,7 @@ use Prim.Native.Nat.{ℕ}
 use mathlib.Core.Logic.{inl, inr}
 use mathlib.Core.List.{_∷_}
 use Rattle.alf.specs.Refusals.{Order, check, bad-lists, RefusedWith, Passed}
-use Rattle.calls.specs.Orders.{order}
+use Rattle.judging.specs.Orders.{order}
 
 -- 18, 10 and what comes then, where what 10 asks for is good
 module _ (P Q : Type 0) (rest : Order) (good : Q) where

@@ -7,11 +7,11 @@ use Prim.Native.Nat.{ℕ}
 use mathlib.Core.Path.{_≡_}
 use mathlib.Core.List.{List, _∷_, map}
 use lib.ListN.{length}
-use Rattle.alf.specs.declared.Outcome.{Outcome}
+use Rattle.basics.specs.declared.Outcome.{Outcome}
 use Rattle.alf.specs.Refusals.{Order, check, bad-lists, Comes}
 use Rattle.alf.specs.Traces.{corrected}
-use Rattle.calls.specs.Orders.{Rows, codesCorrection}
-use Rattle.calls.specs.Written.{after}
+use Rattle.judging.specs.Orders.{Rows, codesCorrection}
+use Rattle.basics.specs.Memory.{after}
 use Rattle.jobs.specs.Letters.{stateOf}
 
 -- k names, n rows, so many states and letters

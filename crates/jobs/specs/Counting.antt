@@ -1,5 +1,6 @@
 -- The totals of a pattern's text on a trace of n rows: document 01's totals of the vector expression that the text
 -- gives, or a refusal.
+--   traceChecks    18 and 15 of the trace
 --   countOrder     18 and 12 of the names, 1 to 8 of the text; then 18 and 15 of the trace. 10 is not among them: the
 --                  tree comes from a text, so it is accepted
 --   TotalsText     the totals of the pattern that the text gives
@@ -12,11 +13,11 @@ use Rattle.alf.specs.Expressions.{Vector, vector}
 use Rattle.alf.specs.Values.{stateAt}
 use Rattle.alf.specs.Traces.{Totals}
 use Rattle.alf.specs.Refusals.{Order, check, bad-lists, bad-code}
-use Rattle.reader.specs.Lookup.{countOf}
+use Rattle.sorting.specs.Lookup.{countOf}
 use Rattle.reader.specs.Reading.{readOrder, Gives}
-use Rattle.calls.specs.declared.matching.Counting.{Counting}
-use Rattle.calls.specs.Orders.{Rows}
-use Rattle.calls.specs.Matching.{Counts}
+use Rattle.matching_calls.specs.declared.matching.Counting.{Counting}
+use Rattle.judging.specs.Orders.{Rows}
+use Rattle.matching_calls.specs.Matching.{Counts}
 
 -- 18 and 15 of a trace of n rows
 abbrev pub traceChecks : ℕ → ℕ → List ℕ → Order

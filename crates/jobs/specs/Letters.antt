@@ -1,8 +1,9 @@
--- The letters of the states, 0 1 X H L W Z U, in either case, and their codes. Main name: stateOf.
+-- The letters of the states, 0 1 X H L W Z U, in either case, and their codes.
+--   stateOf    the code of a letter's state
 use Prim.Native.Nat.{ℕ}
-use Rattle.alf.specs.Words.{if_then_else_}
+use Rattle.basics.specs.Words.{if_then_else_}
 use Rattle.alf.specs.States.{among, X, H, L, W, Z, U}
-use Rattle.listing.specs.Text.{bytes}
+use Rattle.figures.specs.Text.{bytes}
 
 -- the code of a letter's state; 8 where the byte is no state's letter
 unfoldable pub stateOf : ℕ → ℕ

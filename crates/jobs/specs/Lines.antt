@@ -1,13 +1,15 @@
 -- The line of the table for a pattern's text: with its totals, or with its refusal.
--- Main names: lineOf, TableLine. Tabled is what the function inside asks.
+--   lineOf       the line
+--   TableLine    what the call comes to
+--   Tabled       what the function inside asks
 use Prim.Native.Nat.{ℕ, _≤_}
 use mathlib.Core.Path.{_≡_}
 use mathlib.Core.List.{List}
 use Rattle.matcher.specs.declared.tables.Total.{Total}
-use Rattle.calls.specs.declared.matching.Counting.{Counting}
-use Rattle.calls.specs.declared.matching.Counting.the-variants.{Counted, Refused}
-use Rattle.listing.specs.Table.{patternLine, refusedLine}
-use Rattle.listing.specs.Calls.{Delivers}
+use Rattle.matching_calls.specs.declared.matching.Counting.{Counting}
+use Rattle.matching_calls.specs.declared.matching.Counting.the-variants.{Counted, Refused}
+use Rattle.table_lines.specs.Table.{patternLine, refusedLine}
+use Rattle.figures.specs.Delivering.{Delivers}
 use Rattle.jobs.specs.declared.table.Line.{Line}
 use Rattle.jobs.specs.Counting.{CountsText}
 

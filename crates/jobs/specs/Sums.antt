@@ -1,4 +1,5 @@
 -- The sums of a table's columns over its patterns, exact: a sum that would be 2^64 or more is told, and not made.
+--   word                                  2^64, what a sum stays below
 --   yesOf, unknownOf, noOf, patternOf     what a pattern adds; a refused one adds nothing
 --   noSums, grown, fit, addedTo           one pattern more, step by step
 --   addedAll                              some patterns, one after the other; once full, it stays full
@@ -10,11 +11,11 @@ use Prim.Native.Nat.{ℕ, _+_, _-_, _^_, _≤_}
 use mathlib.Core.Bool.{Bool, _&&_}
 use mathlib.Core.List.{List, [], _∷_}
 use lib.Dec.{ltb}
-use Rattle.alf.specs.Words.{if_then_else_, sumOf}
+use Rattle.basics.specs.Words.{if_then_else_, sumOf}
 use Rattle.matcher.specs.declared.tables.Total.{Total}
-use Rattle.calls.specs.declared.matching.Counting.{Counting}
-use Rattle.calls.specs.declared.matching.Counting.the-variants.{Counted, Refused}
-use Rattle.listing.specs.declared.table.Sums.{Sums}
+use Rattle.matching_calls.specs.declared.matching.Counting.{Counting}
+use Rattle.matching_calls.specs.declared.matching.Counting.the-variants.{Counted, Refused}
+use Rattle.table_lines.specs.declared.lines.Sums.{Sums}
 use Rattle.jobs.specs.declared.sums.Adding.{Adding}
 use Rattle.jobs.specs.declared.sums.Adding.the-variants.{Added, Full}
 use Rattle.jobs.specs.Counting.{CountsText}

@@ -3,19 +3,19 @@ ghost use mathlib.Core.Path.{_≡_};
 ghost use mathlib.Core.List.{map};
 ghost use Prim.Native.Nat.{_≤_};
 ghost use lib.ListN.{length};
-ghost use Rattle.writer.specs.Inner.{Put, Room};
-ghost use Rattle.writer.specs.Writing.{Holds};
-ghost use Rattle.limits.specs.Accepted.{Decides};
+ghost use Rattle.basics.specs.Memory.{Put, Room};
+ghost use Rattle.basics.specs.Memory.{Holds};
+ghost use Rattle.basics.specs.Deciding.{Decides};
 ghost use Rattle.jobs.specs.Letters.{stateOf};
 ghost use Rattle.jobs.specs.Correcting.{LettersFit, Stores, CorrectsLetters};
 ghost use Rattle.jobs.specs.RowNumbers.{goneOn, rowNumber};
-use alf::Outcome;
 use alf::RowNo;
-use calls::checks::Verdict;
-use calls::checks::rows_fit;
-use calls::correcting::judge_correction;
-use names::refuse;
-use updates::copies::copy;
+use basics::Outcome;
+use basics::puts::put;
+use basics::refusing::refuse;
+use judging::checks::Verdict;
+use judging::checks::rows_fit;
+use update_calls::correcting::judge_correction;
 
 // The code of a state's letter, in either case; 8 where the byte is none.
 fn code_of(b: u8) -> u8
@@ -74,7 +74,7 @@ fn store_codes(k: usize, n: usize, states: &mut [u8], row: RowNo, new: &[u8]) ->
     match v {
         Verdict::Refused(r) => Outcome::Refused(r),
         Verdict::Good => {
-            copy(states, at * k, new);
+            put(new, states, at * k);
             Outcome::Done(1)
         }
     }

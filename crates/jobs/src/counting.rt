@@ -1,8 +1,8 @@
 // The totals of a pattern's text on a trace.
 ghost use Rattle.jobs.specs.Counting.{CountsText};
 use alf::Sort;
-use calls::matching::Counting;
-use calls::matching::totals;
+use matching_calls::matching::Counting;
+use matching_calls::matching::totals;
 use reader::read_expression;
 
 // How many of the rows answer yes, no and unknown to the vector expression that a text is; or refused: 18 and 12 for

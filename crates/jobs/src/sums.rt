@@ -3,9 +3,9 @@ ghost use mathlib.Core.Path.{_≡_};
 ghost use Prim.Native.Nat.{_+_, _-_};
 ghost use lib.Dec.{ltb};
 ghost use Rattle.jobs.specs.Sums.{noSums, fit, grown, addedTo, word};
-use calls::matching::Counting;
-use listing::table::Sums;
 use matcher::tables::Total;
+use matching_calls::matching::Counting;
+use table_lines::lines::Sums;
 
 // The sums with one pattern more; or a sum would be 2^64 or more.
 pub enum Adding {

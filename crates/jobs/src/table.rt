@@ -1,11 +1,11 @@
 // The line of the table for a pattern's text.
-ghost use Rattle.listing.specs.Calls.{Delivers};
+ghost use Rattle.figures.specs.Delivering.{Delivers};
 ghost use Rattle.jobs.specs.Lines.{Tabled, lineOf, TableLine};
 use crate::counting::count_text;
-use alf::Outcome;
-use calls::matching::Counting;
-use listing::table::write_line;
-use listing::table::write_refused;
+use basics::Outcome;
+use matching_calls::matching::Counting;
+use table_lines::lines::write_line;
+use table_lines::lines::write_refused;
 
 // What is counted of a pattern, and what came of writing its line.
 pub struct Line {

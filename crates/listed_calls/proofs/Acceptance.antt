@@ -4,32 +4,32 @@
 --   accepted-shape                   so the lists have the shape that matching asks for
 --   accepted-shaped, shaped-accepted
 --   operand-long, operand-no, operand-start, operand-is    one operand, of which the last 256 bytes tell
--- Assumes nothing.
-use mathlib.Core.Path.{_≡_, refl, ap, sym, _∙_}
+use mathlib.Core.Path.{_≡_, refl, sym, _∙_}
 use mathlib.Core.Bool.{Bool, true, false, _||_}
 use mathlib.Core.List.{List}
 use Prim.Native.Nat.{ℕ, _+_, _-_, _<_, _≤_}
 use native.Mathlib.Omega.{arith}
 use lib.Dec.{ltb}
-use lib.ListN.{length, getD, take, drop}
+use lib.ListN.{length, take, drop}
 use borrow.Author.Tests.{ltb-false, le-ltb}
 use Rattle.alf.specs.declared.Sort.the-variants as sort
-use Rattle.alf.specs.Words.{greatestOf}
+use Rattle.basics.specs.Words.{greatestOf}
 use Rattle.alf.specs.Expressions.{boolean, vector}
-use Rattle.alf.specs.Bytes.{Stack, empty, broken, push, isBoolean, stackAt}
+use Rattle.alf.specs.Bytes.{Stack, empty, broken, push, isBoolean}
 use Rattle.alf.specs.Alternatives.{Alternative, overLimit}
 use Rattle.alf.specs.Alternatives as alternatives
-use Rattle.alf.proofs.Bools.{never, or-left, or-right}
+use Rattle.basics.proofs.Bools.{never, or-left, or-right}
 use Rattle.trees.specs.Parts.{EndsBoolean, Start}
 use Rattle.trees.specs.Sorts.{kindOf, Ending}
 use Rattle.trees.proofs.Starts.{start-unique}
-use Rattle.limits.specs.Accepted.{Accepted, Decides}
-use Rattle.matcher.specs.Shapes.{cut, sum, testsOf, alternativesOf, Tests, Shape}
-use Rattle.matcher.proofs.Cuts.{cut-length, tests-length}
-use Rattle.updates.specs.Corrections.{longestOf}
-use Rattle.updates.proofs.Longest.{longest-is}
-use Rattle.limits.proofs.Deciding.{same-decided}
-use Rattle.listed_calls.specs.Lists.{Each, Operand, Known, AcceptedAlternatives, Stepped, Shaped}
+use Rattle.acceptance.specs.Accepted.{Accepted}
+use Rattle.basics.specs.Deciding.{Decides}
+use Rattle.alternatives.specs.InMemory.{cut, sum, testsOf, alternativesOf, Tests, Shape}
+use Rattle.alternatives.proofs.Cuts.{cut-length, tests-length}
+use Rattle.alternatives.specs.InMemory.{longestOf}
+use Rattle.alternatives.proofs.Longest.{longest-is}
+use Rattle.basics.proofs.Deciding.{same-decided}
+use Rattle.listed_calls.specs.Lists.{Each, Operand, Known, AcceptedAlternatives, Shaped}
 use Rattle.listed_calls.proofs.Alone.{part-length, alone, part-inside}
 use Rattle.listed_calls.proofs.Sums.{tests-are, greatest-each, each-greatest}
 

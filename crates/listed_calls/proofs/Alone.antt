@@ -3,7 +3,6 @@
 --   stack-over     the bytes of a boolean expression put it on the stack
 --   part-length, part-inside
 --   alone
--- Assumes nothing.
 use Prim.Native.Nat.{ℕ, zero, suc, _+_, _-_, _<_, _≤_, min}
 use native.Mathlib.Omega.{arith}
 use mathlib.Core.Path.{_≡_, refl, ap, sym, _∙_}
@@ -16,13 +15,13 @@ use borrow.Author.Tests.{lt-ltb, le-ltb}
 use Rattle.alf.specs.declared.Sort.the-variants as sort
 use Rattle.alf.specs.Expressions.{Boolean, Expression, boolean, vector, ExpressionOver}
 use Rattle.alf.specs.Bytes.{bytesOf, leafAt, operationAt, Stack, empty, push, isBoolean, under, stackAt, Decodes}
-use Rattle.alf.proofs.Bools.{never, below?}
+use Rattle.basics.proofs.Bools.{never, below?}
 use Rattle.alf.proofs.Decoding.{bytes-decode, decode-over}
 use Rattle.alf.proofs.Encoding.{runs, runs-append, runs-stack, runs-boolean}
 use Rattle.trees.specs.Parts.{top, EndsBoolean, Start}
 use Rattle.trees.proofs.Starts.{of-boolean, ends-pos}
-use Rattle.limits.specs.Accepted.{Accepted}
-use Rattle.limits.proofs.Acceptance.{accepted-boolean}
+use Rattle.acceptance.specs.Accepted.{Accepted}
+use Rattle.acceptance.proofs.Acceptance.{accepted-boolean}
 
 -- a name's byte is below 32
 leaf-few : (names b : ℕ) → leafAt names b ≡ leafAt (min names 32) b

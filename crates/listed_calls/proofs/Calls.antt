@@ -1,42 +1,42 @@
 -- What the calls over alternatives handed in come to, case by case.
 --   match-asked, match-refused, match-told; all-..; totals-..; push-..
 --   queue-many, queue-lists, queue-kept    whether a queue may be handed in with the alternatives
--- Assumes nothing.
-use mathlib.Core.Path.{_≡_, refl, ap, sym, _∙_}
+use mathlib.Core.Path.{_≡_, refl, sym, _∙_}
 use mathlib.Core.Bool.{Bool, true, false}
 use mathlib.Core.List.{List}
-use Prim.Native.Nat.{ℕ, _<_, _≤_}
+use Prim.Native.Nat.{ℕ, _<_}
 use native.Mathlib.Omega.{arith}
-use lib.ListN.{length, getD}
-use Rattle.alf.specs.declared.Refusal.{Refusal}
-use Rattle.alf.specs.declared.Outcome.the-variants as outcome
-use Rattle.alf.specs.Words.{greatestOf}
+use lib.ListN.{length}
+use Rattle.basics.specs.declared.Refusal.{Refusal}
+use Rattle.basics.specs.declared.Outcome.the-variants as outcome
+use Rattle.basics.specs.Words.{greatestOf}
 use Rattle.alf.specs.Values.{stateAt}
 use Rattle.alf.specs.Refusals.{Comes}
-use Rattle.limits.specs.Accepted.{Decides}
+use Rattle.basics.specs.Deciding.{Decides}
 use Rattle.evaluator.proofs.Traces.{trace-row}
 use Rattle.matcher.specs.declared.answers.Matched.{Matched}
 use Rattle.matcher.specs.declared.tables.Total.{Total}
-use Rattle.matcher.specs.Shapes.{alternativesOf}
+use Rattle.alternatives.specs.InMemory.{alternativesOf}
 use Rattle.matcher.specs.Answers.{RowAsked, Matches}
 use Rattle.matcher.specs.Tables.{RowsAsked, FillAsked, Filled, Totals}
-use Rattle.updates.specs.declared.queues.Queue.{Queue}
-use Rattle.updates.specs.Copies.{Codes}
-use Rattle.updates.specs.Corrections.{longestOf}
-use Rattle.updates.specs.Queues.{PushAsked, Pushes}
-use Rattle.updates.proofs.Longest.{longest-is}
-use Rattle.calls.specs.declared.checks.Verdict.{Verdict}
-use Rattle.calls.specs.declared.checks.Verdict.the-variants.{Good, Refused}
-use Rattle.calls.specs.declared.matching.Matching.the-variants as matching
-use Rattle.calls.specs.declared.matching.Counting.the-variants as counting
-use Rattle.calls.specs.Orders.{Rows, Judged, JudgesTrace, JudgesRow}
-use Rattle.calls.specs.Written.{after}
-use Rattle.calls.specs.Matching.{Finds, Counts}
-use Rattle.calls.specs.Pushing.{RowFits, Keeps}
-use Rattle.limits.proofs.Deciding.{told, tells, same-decided}
-use Rattle.calls.proofs.Verdicts.{judged-as, judged-good, judged-not, lists-as}
-use Rattle.calls.proofs.ByAlternatives.{written-whole}
-use Rattle.calls.proofs.Matches.{rows-asked}
+use Rattle.queue.specs.declared.queues.Queue.{Queue}
+use Rattle.states.specs.FirstBadCode.{Codes}
+use Rattle.alternatives.specs.InMemory.{longestOf}
+use Rattle.queue.specs.Queues.{PushAsked, Pushes}
+use Rattle.alternatives.proofs.Longest.{longest-is}
+use Rattle.judging.specs.declared.checks.Verdict.{Verdict}
+use Rattle.judging.specs.declared.checks.Verdict.the-variants.{Good, Refused}
+use Rattle.matching_calls.specs.declared.matching.Matching.the-variants as matching
+use Rattle.matching_calls.specs.declared.matching.Counting.the-variants as counting
+use Rattle.judging.specs.Orders.{Rows, Judged, JudgesTrace, JudgesRow}
+use Rattle.basics.specs.Memory.{after}
+use Rattle.matching_calls.specs.Matching.{Finds, Counts}
+use Rattle.update_calls.specs.Pushing.{RowFits, Keeps}
+use Rattle.basics.proofs.Deciding.{told, tells, same-decided}
+use Rattle.judging.proofs.Verdicts.{judged-as, judged-good, judged-not, lists-as}
+use Rattle.basics.proofs.Stores.{front-whole}
+use Rattle.basics.proofs.Listed.{listed-length}
+use Rattle.matching_calls.proofs.Matches.{rows-asked}
 use Rattle.listed_calls.specs.Lists.{AcceptedAlternatives}
 use Rattle.listed_calls.specs.Listed as listed
 use Rattle.listed_calls.specs.Listed.{ListedMatch, ListedAll, ListedTotals, ListedPush}
@@ -134,8 +134,8 @@ module _ {names n : ℕ} {tree steps tests edges operands states : List ℕ} {go
         let (p, (((x, y), l), a, s)) = judged-good as-lists e in
         record {
           comes = (p, refl);
-          answers-memory = w .answered ∙ written-whole n _ answers x;
-          tried-memory = w .counted ∙ written-whole n _ tried y;
+          answers-memory = w .answered ∙ front-whole answers _ (listed-length 0 n _ ∙ sym x);
+          tried-memory = w .counted ∙ front-whole tried _ (listed-length 0 n _ ∙ sym y);
         }
 
 -- the queue

@@ -1,11 +1,11 @@
--- Each entry of a list: each-none, each-more, each-all. Assumes nothing.
+-- Each entry of a list: each-none, each-more, each-all.
 use mathlib.Core.Path.{_≡_}
 use mathlib.Core.Logic.{_⊎_, inl, inr}
 use mathlib.Core.List.{List}
 use Prim.Native.Nat.{ℕ, _+_, _<_, _≤_}
 use native.Mathlib.Omega.{arith}
 use lib.ListN.{length, getD}
-use Rattle.alf.proofs.Bools.{below?}
+use Rattle.basics.proofs.Bools.{below?}
 use Rattle.listed_calls.specs.Lists.{Each}
 
 -- the first i entries are so

@@ -4,9 +4,7 @@
 --   greatest-each, each-greatest    the greatest entry
 --   Lighting, lighting-..           on the way through the alternatives
 --   sum-end, few-end                at the end of a list
--- Assumes nothing.
-use mathlib.Core.Path.{_≡_, refl, ap, ap₂, sym, _∙_}
-use mathlib.Core.Bool.{Bool, true, false, _||_}
+use mathlib.Core.Path.{_≡_, refl, ap, ap₂, _∙_}
 use mathlib.Core.List.{List, [], _∷_, map}
 use Prim.Native.Nat.{ℕ, zero, suc, _+_, _<_, _≤_, max}
 use native.Mathlib.Nat.{zero-add}
@@ -14,12 +12,12 @@ use native.Mathlib.Omega.{arith}
 use lib.Dec.{eqb}
 use lib.ListN.{length, getD, take, drop, drop-of-length-le, length-drop}
 use lib.Seq.{length-take-le}
-use Rattle.alf.specs.Words.{greatestOf, sumOf}
+use Rattle.basics.specs.Words.{greatestOf, sumOf}
 use Rattle.alf.specs.Alternatives.{Test, Alternative, tests}
-use Rattle.matcher.specs.Shapes.{cut, sum}
-use Rattle.matcher.proofs.Cuts.{cut-at, sum-next, sum-nil, part, part-last}
-use Rattle.limits.specs.Accepted.{Decides}
-use Rattle.limits.proofs.Deciding.{same-decided, eqb-decides}
+use Rattle.alternatives.specs.InMemory.{cut, sum}
+use Rattle.alternatives.proofs.Cuts.{cut-at, sum-next, sum-nil, part, part-last}
+use Rattle.basics.specs.Deciding.{Decides}
+use Rattle.basics.proofs.Deciding.{same-decided, eqb-decides}
 use Rattle.listed_calls.specs.Lists.{Light}
 
 -- the sum of the lengths of some pieces

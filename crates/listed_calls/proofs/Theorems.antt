@@ -1,6 +1,5 @@
 -- What the calls over alternatives handed in promise together.
 --   listed-totals-together    yes, no and unknown together are n-1, as alf/proofs/Totals says of an expression
--- Assumes nothing.
 use mathlib.Core.Path.{_≡_, refl}
 use mathlib.Core.List.{List}
 use Prim.Native.Nat.{ℕ, zero, suc, _+_, _-_}
@@ -8,15 +7,15 @@ use native.Mathlib.Omega.{arith}
 use lib.Dec.{eqb}
 use Rattle.alf.specs.declared.Answer.{Answer}
 use Rattle.alf.specs.declared.Answer.the-variants.{No, Yes, Unknown, NoEvent}
-use Rattle.alf.specs.Words.{if_then_else_, count}
+use Rattle.basics.specs.Words.{if_then_else_, count}
 use Rattle.alf.specs.Expressions.{Boolean}
 use Rattle.alf.specs.Windows.{named, numberOf}
 use Rattle.alf.specs.Values.{stateAt}
 use Rattle.alf.specs.Alternatives.{Alternative, answerOf, bestOf}
 use Rattle.matcher.specs.declared.tables.Total.{Total}
 use Rattle.matcher.specs.Tables.{totalOf}
-use Rattle.calls.specs.declared.matching.Counting.the-variants.{Counted}
-use Rattle.calls.specs.Matching.{Counts}
+use Rattle.matching_calls.specs.declared.matching.Counting.the-variants.{Counted}
+use Rattle.matching_calls.specs.Matching.{Counts}
 use Rattle.listed_calls.specs.Listed.{ListedTotals, alternativesIn}
 
 -- how many of yes, no and unknown an answer is

@@ -1,30 +1,33 @@
 -- What the calls come to that match by alternatives handed in: document 01's answer of the alternatives, and the
 -- number tried; or refused with 18, 10, 15, 19.
--- Main names: ListedMatch, ListedAll, ListedTotals, ListedPush.
+--   alternativesIn                        the alternatives that are handed in
+--   rowOrder, ListedMatch                 a row
+--   rowsOrder, ListedAll, ListedTotals    all rows, in lent lists; the totals
+--   Handed, pushOrder, Takes, ListedPush, DecidesQueue    a push
 use Prim.Native.Nat.{ℕ, _≤_}
 use mathlib.Core.Path.{_≡_}
 use mathlib.Core.Bool.{Bool}
 use mathlib.Core.List.{List}
 use lib.ListN.{length}
-use Rattle.alf.specs.declared.Outcome.{Outcome}
-use Rattle.alf.specs.Words.{listed}
+use Rattle.basics.specs.declared.Outcome.{Outcome}
+use Rattle.basics.specs.Words.{listed}
 use Rattle.alf.specs.Values.{stateAt}
 use Rattle.alf.specs.Alternatives.{Alternative, tries}
 use Rattle.alf.specs.Refusals.{Order, RefusedWith, Passed, Comes}
-use Rattle.limits.specs.Accepted.{Decides}
-use Rattle.matcher.specs.Shapes.{alternativesOf}
+use Rattle.basics.specs.Deciding.{Decides}
+use Rattle.alternatives.specs.InMemory.{alternativesOf}
 use Rattle.matcher.specs.Answers.{Matches}
 use Rattle.matcher.specs.Tables.{numberAt, Totals}
-use Rattle.updates.specs.declared.queues.Queue.{Queue}
-use Rattle.updates.specs.Corrections.{longestOf}
-use Rattle.updates.specs.Queues.{Pushes}
-use Rattle.calls.specs.declared.matching.Matching.{Matching}
-use Rattle.calls.specs.declared.matching.Matching.the-variants.{Found, Refused}
-use Rattle.calls.specs.declared.matching.Counting.{Counting}
-use Rattle.calls.specs.Orders.{Rows, order, codes, codesRow}
-use Rattle.calls.specs.Written.{after}
-use Rattle.calls.specs.Matching.{Finds, Counts}
-use Rattle.calls.specs.Pushing.{RowFits, Keeps}
+use Rattle.queue.specs.declared.queues.Queue.{Queue}
+use Rattle.alternatives.specs.InMemory.{longestOf}
+use Rattle.queue.specs.Queues.{Pushes}
+use Rattle.matching_calls.specs.declared.matching.Matching.{Matching}
+use Rattle.matching_calls.specs.declared.matching.Matching.the-variants.{Found, Refused}
+use Rattle.matching_calls.specs.declared.matching.Counting.{Counting}
+use Rattle.judging.specs.Orders.{Rows, order, codes, codesRow}
+use Rattle.basics.specs.Memory.{after}
+use Rattle.matching_calls.specs.Matching.{Finds, Counts}
+use Rattle.update_calls.specs.Pushing.{RowFits, Keeps}
 use Rattle.listed_calls.specs.Lists.{AcceptedAlternatives}
 
 module _ (names n : ℕ) (tree steps tests edges operands states : List ℕ) where

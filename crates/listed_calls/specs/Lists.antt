@@ -1,18 +1,21 @@
 -- Document 01, 10: "alternatives over a limit of 8, none at all, one without a step, or a test with an unknown code or
--- an operand that is no such tree". The lists are those of matcher/specs/Shapes; lists that do not fit each other are
--- no alternatives.
--- Main name: AcceptedAlternatives. The rest says what the functions that decide it count.
+-- an operand that is no such tree". The lists are those of alternatives/specs/InMemory; lists that do not fit each
+-- other are no alternatives.
+--   Each                       a property of each entry of a list
+--   Operand, Known             an operand that is such a tree; a code that is known
+--   AcceptedAlternatives       alternatives that are accepted
+--   Stepped, Light, Shaped     what the functions that decide it count
 use Prim.Native.Nat.{ℕ, _-_, _<_, _≤_}
 use mathlib.Core.Path.{_≡_}
 use mathlib.Core.Bool.{false}
 use mathlib.Core.List.{List}
 use lib.ListN.{length, getD, take, drop}
 use Rattle.alf.specs.declared.Sort.the-variants.{Boolean}
-use Rattle.alf.specs.Words.{greatestOf}
+use Rattle.basics.specs.Words.{greatestOf}
 use Rattle.alf.specs.Alternatives.{overLimit}
 use Rattle.trees.specs.Parts.{EndsBoolean, Start}
-use Rattle.limits.specs.Accepted.{Accepted}
-use Rattle.matcher.specs.Shapes.{cut, sum, alternativesOf}
+use Rattle.acceptance.specs.Accepted.{Accepted}
+use Rattle.alternatives.specs.InMemory.{cut, sum, alternativesOf}
 
 -- each entry of a list is so
 abbrev pub Each : (ℕ → Type 0) → List ℕ → Type 0

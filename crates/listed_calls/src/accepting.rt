@@ -1,7 +1,5 @@
 // Whether alternatives that are handed in as lists are accepted.
-ghost use mathlib.Core.Path.{_≡_};
-ghost use lib.ListN.{length};
-ghost use Rattle.limits.specs.Accepted.{Decides};
+ghost use Rattle.basics.specs.Deciding.{Decides};
 ghost use Rattle.listed_calls.specs.Lists.{Shaped, AcceptedAlternatives};
 use crate::counting::are_light;
 use crate::counting::are_stepped;

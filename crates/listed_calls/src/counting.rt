@@ -2,8 +2,8 @@
 ghost use mathlib.Core.Path.{_≡_};
 ghost use Prim.Native.Nat.{_+_, _≤_};
 ghost use lib.ListN.{length, take, drop};
-ghost use Rattle.limits.specs.Accepted.{Decides};
-ghost use Rattle.matcher.specs.Shapes.{sum};
+ghost use Rattle.basics.specs.Deciding.{Decides};
+ghost use Rattle.alternatives.specs.InMemory.{sum};
 ghost use Rattle.listed_calls.specs.Lists.{Each, Stepped, Light};
 
 // Whether the entries of a list come to a number.

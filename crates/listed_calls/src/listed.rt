@@ -1,22 +1,21 @@
 // Matching by alternatives that are handed in as lists: a row, all rows, the totals, the queue.
-ghost use mathlib.Core.Path.{_≡_};
 ghost use Rattle.listed_calls.specs.Listed.{ListedMatch, ListedAll, ListedTotals, DecidesQueue, ListedPush};
 use crate::accepting::fits;
-use alf::Outcome;
-use calls::checks::Verdict;
-use calls::checks::judge;
-use calls::checks::judge_row;
-use calls::checks::lists_fit;
-use calls::checks::rows_fit;
-use calls::matching::Counting;
-use calls::matching::Matching;
-use calls::matching::both_are;
-use calls::pushing::Pushing;
-use calls::pushing::keeps;
-use calls::pushing::row_fits;
+use alternatives::walking::longest;
+use basics::Outcome;
+use judging::checks::Verdict;
+use judging::checks::judge;
+use judging::checks::judge_row;
+use judging::checks::lists_fit;
+use judging::checks::rows_fit;
 use matcher::answers::Matched;
-use matcher::shapes::longest;
-use updates::queues::Queue;
+use matching_calls::matching::Counting;
+use matching_calls::matching::Matching;
+use matching_calls::matching::both_are;
+use queue::queues::Queue;
+use update_calls::pushing::Pushing;
+use update_calls::pushing::keeps;
+use update_calls::pushing::row_fits;
 
 // The answer of the alternatives at a row, and the number tried.
 pub fn match_row(
@@ -169,7 +168,7 @@ pub fn push(
             Pushing { told, queue }
         }
         Verdict::Good => {
-            let p = updates::queues::push(tree, names, steps, tests, edges, operands, queue, row);
+            let p = queue::queues::push(tree, names, steps, tests, edges, operands, queue, row);
             let answer = p.answer;
             let tries = p.tries;
             let next = p.queue;

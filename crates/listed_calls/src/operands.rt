@@ -1,10 +1,10 @@
 // The tests of alternatives in lists: known edge codes, and operands that are boolean trees that a text gives.
 ghost use mathlib.Core.Path.{_≡_};
 ghost use Prim.Native.Nat.{_-_};
-ghost use Rattle.limits.specs.Accepted.{Decides};
+ghost use Rattle.basics.specs.Deciding.{Decides};
 ghost use Rattle.listed_calls.specs.Lists.{Each, Known, Operand};
+use acceptance::accepting::accepts;
 use alf::Sort;
-use limits::accepting::accepts;
 use trees::sorts::part_of;
 
 // Whether each edge code is one.

@@ -1,9 +1,8 @@
--- The laws of the texts.
-pub mod Digits
-pub mod Rounding
+-- The laws of the listings.
+pub mod ColumnWords
+pub mod RowByRow
+pub mod LastLine
+pub mod WholeListings
+pub mod ListOrder
 pub mod Examples
-pub mod Parts
-pub mod Sizes
-pub mod Starts
-pub mod Returns
 pub mod Theorems

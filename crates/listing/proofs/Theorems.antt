@@ -1,39 +1,28 @@
--- The statements that the texts stand for, besides Digits, Rounding and Examples.
---   delivers-unique    of a line: outcome and buffer afterwards follow from the input
---   lists-unique       of a listing of answers: the same
+-- The statements that the listings stand for, besides Examples.
+--   lists-unique       of a listing of answers: outcome and buffer afterwards follow from the input
 --   values-unique      of a listing of values: the same
 --   listed-totals      where the answers are those defined of a pattern, the last line's numbers are its totals
-use Prim.Native.Nat.{ℕ, _+_}
+use Prim.Native.Nat.{ℕ}
 use mathlib.Core.Path.{_≡_, sym, ap, _∙_}
-use mathlib.Core.List.{List, []}
+use mathlib.Core.List.{List}
 use lib.Dec.{eqb}
 use lib.ListN.{length, getD}
 use Rattle.alf.specs.declared.Answer.{Answer}
-use Rattle.alf.specs.declared.Outcome.{Outcome}
-use Rattle.alf.specs.Words.{if_then_else_, count, listed}
+use Rattle.basics.specs.declared.Outcome.{Outcome}
+use Rattle.basics.specs.Words.{count, listed}
 use Rattle.alf.specs.Expressions.{Boolean, Vector}
 use Rattle.alf.specs.Windows.{rowAnswer, numberOf}
 use Rattle.alf.specs.Traces.{total}
-use Rattle.alf.proofs.Counts.{count-same}
+use Rattle.basics.proofs.Counts.{count-same}
 use Rattle.alf.proofs.Outcomes.{AllFixed, at-fixed, first-fixed, comes-unique}
-use Rattle.alf.proofs.Tables.{listed-at}
-use Rattle.evaluator.proofs.Lists.{listed-length}
-use Rattle.writer.specs.Writing.{after}
+use Rattle.basics.proofs.Tables.{listed-at}
+use Rattle.basics.proofs.Listed.{listed-length}
 use Rattle.listing.specs.Listing.{howMany, listing, valuesListing}
-use Rattle.listing.specs.Calls.{lineOrder, Delivers, listOrder, ListsCodes, ListsText, ValuesText}
+use Rattle.listing.specs.Calls.{listOrder, ListsCodes, ListsText, ValuesText}
+use Rattle.basics.proofs.Memory.{after-unique}
 
 abbrev Same : Outcome → Outcome → List ℕ → List ℕ → Type 0
 Same r s x y = (r ≡ s) × (x ≡ y)
-
-pub delivers-unique :
-    (w out : List ℕ) {x y : List ℕ} {r s : Outcome} →
-    Delivers w out x r →
-    Delivers w out y s →
-    Same r s x y
-delivers-unique w out {r = r} {s = s} a b =
-    let e = comes-unique (lineOrder w (length out)) _ (at-fixed _ _, tt) (λ j k p q. p ∙ sym q) r s (a .outcome)
-    (b .outcome) in
-    (e, a .memory ∙ ap (after w out) e ∙ sym (b .memory))
 
 codes-unique :
     (most : ℕ) (text times codes out : List ℕ) {x y : List ℕ} {r s : Outcome} →
@@ -45,7 +34,7 @@ codes-unique most text times codes out {r = r} {s = s} a b =
     (at-fixed _ _, (first-fixed _, (at-fixed _ _, tt))) in
     let e = comes-unique (listOrder most text times codes (length out)) _ f (λ j k p q. p ∙ sym q) r s (a .outcome)
     (b .outcome) in
-    (e, a .memory ∙ ap (after text out) e ∙ sym (b .memory))
+    (e, after-unique _ out e (a .memory) (b .memory))
 
 pub lists-unique :
     (times answers out : List ℕ) {x y : List ℕ} {r s : Outcome} →

@@ -1,22 +1,17 @@
--- What the calls promise: the text at the front of the lent buffer, with its length, or a refusal. A listing: 18, 15
--- for an answer that is none of the four or a value that is no state, 9. A line of the table: 9.
--- Main names: Delivers, Lists, listOrder, ListsText, ValuesText.
+-- What the calls promise: the listing at the front of the lent buffer, with its length, or a refusal: 18, 15 for an
+-- answer that is none of the four or a value that is no state, 9.
+--   Lists, bad-above, listOrder    the refusals, in their order
+--   ListsCodes                     of a text that lists codes: outcome and memory
+--   ListsText, ValuesText          of a pattern's answers, of an expression's values
 use Prim.Native.Nat.{ℕ, _<_}
 use mathlib.Core.Path.{_≡_}
-use mathlib.Core.List.{List, [], _∷_}
+use mathlib.Core.List.{List, _∷_}
 use lib.ListN.{length, getD}
-use Rattle.alf.specs.declared.Outcome.{Outcome}
-use Rattle.alf.specs.Refusals.{Row, Order, check, First, bad-lists, RowCount, no-room, Comes}
-use Rattle.writer.specs.Writing.{after}
+use Rattle.basics.specs.declared.Outcome.{Outcome}
+use Rattle.basics.specs.Memory.{after, front}
+use Rattle.alf.specs.Refusals.{Row, Order, check, First, bad-lists, RowCount, Comes}
+use Rattle.figures.specs.Delivering.{lineOrder}
 use Rattle.listing.specs.Listing.{listing, valuesListing}
-
--- 9, or done
-abbrev pub lineOrder : List ℕ → ℕ → Order
-lineOrder text room = check 9 (no-room (length text) room) ∷ []
-
-pub record Delivers (text out out′ : List ℕ) (r : Outcome) : Type 0 where
-  pub outcome : Comes (lineOrder text (length out)) (λ k. k ≡ length text) r
-  pub memory : out′ ≡ after text out r
 
 -- 1 to 65,535 times, and as many codes: answers, or values
 pub record Lists (times codes : ℕ) : Type 0 where
@@ -37,7 +32,7 @@ listOrder most text times codes room =
 -- a text that lists codes, each at most `most`
 pub record ListsCodes (most : ℕ) (text times codes out out′ : List ℕ) (r : Outcome) : Type 0 where
   pub outcome : Comes (listOrder most text times codes (length out)) (λ k. k ≡ length text) r
-  pub memory : out′ ≡ after text out r
+  pub memory : out′ ≡ after (front text out) out r
 
 -- answers are document 01's four numbers, values its eight codes of states
 abbrev pub ListsText : List ℕ → List ℕ → List ℕ → List ℕ → Outcome → Type 0

@@ -1,20 +1,18 @@
--- What the inner functions ask of their callers, and what they give. Writing behind what is written is the writer's
--- Put.
-use Prim.Native.Nat.{ℕ, _+_, _*_, _^_, _<_, _≤_}
+-- What the functions inside ask and give.
+--   Sized              the length of a text
+--   CodesTo            the first code that has no word
+--   Listable           lists that pass 18 and 15
+--   Wording, Lining    a word, a line, all lines have room
+--   Tallied            how many answers are yes, no, unknown
+use Prim.Native.Nat.{ℕ, _<_, _≤_}
 use mathlib.Core.Path.{_≡_}
 use mathlib.Core.List.{List}
 use lib.ListN.{length, getD}
-use Rattle.writer.specs.Inner.{Room}
-use Rattle.listing.specs.Numbers.{width}
+use Rattle.basics.specs.Memory.{Room}
 use Rattle.listing.specs.declared.lines.Column.{Column}
-use Rattle.listing.specs.Listing.{highest, lines}
+use Rattle.listing.specs.declared.totals.Tally.{Tally}
+use Rattle.listing.specs.Listing.{highest, lines, howMany}
 use Rattle.listing.specs.Calls.{Lists}
-
--- how many digits a number below 2^64 needs
-pub record Wide (n r : ℕ) : Type 0 where
-  pub is : r ≡ width n
-  pub some : 1 ≤ r
-  pub few : r ≤ 20
 
 -- a list of which so many are at most as large as said
 pub record Sized (w : List ℕ) (most r : ℕ) : Type 0 where
@@ -42,8 +40,8 @@ pub record Lining (column : Column) (times codes out : List ℕ) (at : ℕ) : Ty
   pub listable : Listable (highest column) times codes
   pub room : Room out at (lines column times codes)
 
--- counts of 32 bits, and some event
-pub record Counted (yeses events : ℕ) : Type 0 where
-  pub few : yeses < 2 ^ 32
-  pub small : events < 2 ^ 32
-  pub some : 0 < events
+-- how many answers are yes, no, unknown
+pub record Tallied (answers : List ℕ) (r : Tally) : Type 0 where
+  pub yeses : r .yes ≡ howMany answers 1
+  pub noes : r .no ≡ howMany answers 0
+  pub unknowns : r .unknown ≡ howMany answers 2

@@ -1,9 +1,4 @@
--- The text that the laboratory gets: numbers, the share, the listing, the table, and what the calls promise.
--- Inner is for the functions inside.
-pub mod Text
-pub mod Numbers
-pub mod Share
+-- The listings of answers and of values, and what the calls promise. Inner is for the functions inside.
 pub mod Listing
-pub mod Table
 pub mod Calls
 pub mod Inner

@@ -1,17 +1,21 @@
 -- Document 01, "The program's listing": a heading, a line for each row with its time and its answer in words, and last
--- how many rows answer yes, no and unknown. Every line ends in LF, the last too. Main name: listing.
+-- how many rows answer yes, no and unknown. Every line ends in LF, the last too.
 -- The listing of an expression's values has the same lines, with the letter of a state for the answer's word, under a
--- heading of its own, and no last line. Main name: valuesListing.
+-- heading of its own, and no last line.
+--   word, letter, wordOf, highest    what a line tells behind the time
+--   line, lines, lastLine            a row's line, all rows' lines, the totals
+--   howMany                          how many answers have a number
+--   listing, valuesListing           the whole (listingOf: by the column)
 -- Case 1's listing and case 8's values are computed in proofs/Examples.antt, byte for byte.
 use Prim.Native.Nat.{ℕ}
 use mathlib.Core.List.{List, [], _∷_, _++_}
 use lib.Dec.{eqb}
 use lib.ListN.{length, getD}
-use Rattle.alf.specs.Words.{count}
+use Rattle.basics.specs.Words.{count}
 use Rattle.listing.specs.declared.lines.Column.{Column}
 use Rattle.listing.specs.declared.lines.Column.the-variants.{Answers, Values}
-use Rattle.listing.specs.Text.{bytes, joined}
-use Rattle.listing.specs.Numbers.{decimal}
+use Rattle.figures.specs.Text.{bytes, joined}
+use Rattle.figures.specs.Numbers.{decimal}
 
 -- an answer's word, by document 01's number of the answer
 unfoldable pub word : ℕ → List ℕ
@@ -59,3 +63,8 @@ listing times answers =
 
 unfoldable pub valuesListing : List ℕ → List ℕ → List ℕ
 valuesListing times values = joined (bytes "time value\n" ∷ lines Values times values ∷ [])
+
+-- the listing by what it tells of each row
+unfoldable pub listingOf : Column → List ℕ → List ℕ → List ℕ
+listingOf Answers times answers = listing times answers
+listingOf Values times values = valuesListing times values

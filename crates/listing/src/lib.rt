@@ -1,7 +1,4 @@
-// The text that the laboratory gets: the listing of a pattern's answers, and the lines of the table.
+// The listing of a pattern's answers, and that of an expression's values, each into a lent buffer.
 mod lines;
 pub mod listings;
-pub mod numbers;
-pub mod puts;
-mod shares;
-pub mod table;
+mod totals;

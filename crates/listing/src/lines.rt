@@ -1,19 +1,16 @@
 // The lines of a listing, of a pattern's answers or of an expression's values.
 ghost use mathlib.Core.Path.{_≡_};
 ghost use Prim.Native.Nat.{_≤_, _<_};
-ghost use lib.Dec.{eqb};
 ghost use lib.ListN.{length, getD};
-ghost use Rattle.alf.specs.Words.{if_then_else_};
-ghost use Rattle.writer.specs.Inner.{Put, Room};
+ghost use Rattle.basics.specs.Memory.{Put};
 ghost use Rattle.listing.specs.Listing.{word, letter, wordOf, highest, line, lines};
-ghost use Rattle.listing.specs.Listing.{howMany, lastLine};
 ghost use Rattle.listing.specs.Inner.{Sized, Listable, Wording, Lining};
-use crate::numbers::put_decimal;
-use crate::numbers::width_of;
-use crate::puts::push;
-use crate::puts::put;
 use alf::RowNo;
 use alf::Stamp;
+use basics::puts::push;
+use basics::puts::put;
+use figures::numbers::put_decimal_then;
+use figures::numbers::width_of;
 
 // What a listing tells of each row: the answer of a pattern, or the value of an expression.
 pub enum Column {
@@ -108,10 +105,9 @@ fn put_line(column: Column, time: Stamp, a: u8, out: &mut [u8], at: usize) -> us
     ensures { λ r. ⌜ Put (now (out .entry)) at (line column (time .0) a) (now (out .exit)) r ⌝ }
 {
     let t = time.0;
-    let p = put_decimal(t as u64, out, at);
-    let q = push(out, p, b' ');
-    let r = put_code(column, a, out, q);
-    push(out, r, b'\n')
+    let p = put_decimal_then(t as u64, b" ", out, at);
+    let q = put_code(column, a, out, p);
+    push(out, q, b'\n')
 }
 
 // The length of all rows' lines.
@@ -141,46 +137,4 @@ pub fn put_lines(column: Column, times: &[u32], codes: &[u8], out: &mut [u8], at
         i += 1;
     }
     p
-}
-
-// 1 where two numbers are the same.
-fn same(x: u8, y: u8) -> u64
-    ensures { λ r. ⌜ r ≡ (if eqb x y then 1 else 0) ⌝ }
-{
-    if x == y { 1 } else { 0 }
-}
-
-// How many answers have a number.
-pub fn count_of(answers: &[u8], a: u8) -> u64
-    requires { ⌜ length (now answers) ≤ 65535 ⌝ }
-    ensures { λ r. ⌜ r ≡ howMany (now (answers .entry)) a ⌝ }
-{
-    let mut k: u64 = 0;
-    let mut i: usize = 0;
-    while i < answers.len() {
-        k += same(answers[i], a);
-        i += 1;
-    }
-    k
-}
-
-// The length of the last line.
-pub fn last_size(yes: u64, no: u64, unknown: u64) -> usize
-    ensures { λ r. ⌜ Sized (lastLine yes no unknown) 78 r ⌝ }
-{
-    width_of(yes) + width_of(no) + width_of(unknown) + 18
-}
-
-// The last line: how many answers are yes, no, unknown.
-pub fn put_last(yes: u64, no: u64, unknown: u64, out: &mut [u8], at: usize) -> usize
-    requires { ⌜ Room (now out) at (lastLine yes no unknown) ⌝ }
-    ensures { λ r. ⌜ Put (now (out .entry)) at (lastLine yes no unknown) (now (out .exit)) r ⌝ }
-{
-    let p = put(b"yes ", out, at);
-    let q = put_decimal(yes, out, p);
-    let r = put(b" no ", out, q);
-    let s = put_decimal(no, out, r);
-    let t = put(b" unknown ", out, s);
-    let u = put_decimal(unknown, out, t);
-    push(out, u, b'\n')
 }

@@ -3,14 +3,13 @@
 --   matches-windows      a row's answer is the greatest over the windows that end there
 --   totals-windows       so are the totals
 --   totals-together      yes, no and unknown together are n-1
--- Assumes nothing.
 use mathlib.Core.Path.{_≡_, ap, sym, _∙_, fun-ext}
 use mathlib.Core.List.{List}
 use Prim.Native.Nat.{ℕ, _+_, _-_, _<_}
 use native.Mathlib.Omega.{arith}
 use lib.Dec.{eqb}
 use Rattle.alf.specs.declared.Answer.{Answer}
-use Rattle.alf.specs.Words.{count}
+use Rattle.basics.specs.Words.{count}
 use Rattle.alf.specs.Expressions.{Boolean, Vector}
 use Rattle.alf.specs.Windows.{rowAnswer, numberOf}
 use Rattle.alf.specs.Alternatives.{Alternative, alternatives, answerOf}

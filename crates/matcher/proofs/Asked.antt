@@ -3,7 +3,6 @@
 --   within-le          a row before a row
 --   test-asked, asking-next               a step's tests
 --   step-asked, stepping-next             an alternative's steps
--- Assumes nothing.
 use mathlib.Core.Path.{_≡_, sym}
 use mathlib.Core.List.{List}
 use Prim.Native.Nat.{ℕ, _+_, _-_, _<_, _≤_, min}
@@ -14,9 +13,9 @@ use Rattle.alf.specs.Values.{stateAt}
 use Rattle.alf.specs.Alternatives.{Test, testAt, stepAt, atRow}
 use Rattle.alf.proofs.RowsAreAlternatives.{row-off}
 use Rattle.evaluator.specs.Rows.{Within}
-use Rattle.matcher.specs.Shapes.{testOf, testsOf, stepIn, alternativeIn}
+use Rattle.alternatives.specs.InMemory.{testOf, testsOf, stepIn, alternativeIn}
 use Rattle.matcher.specs.Answers.{TestAsked, StepAsked, AlternativeAsked}
-use Rattle.matcher.proofs.Cuts.{test-at, tests-length}
+use Rattle.alternatives.proofs.Cuts.{test-at, tests-length}
 use Rattle.matcher.proofs.Matching.{Asking, asking-more, alternative-length}
 use Rattle.matcher.proofs.Matching.{Stepping, stepping-first, stepping-more, stepping-fits}
 

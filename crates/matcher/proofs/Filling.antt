@@ -1,27 +1,27 @@
 -- All rows, one after the other: what is known when those before i are matched.
---   row-asked                              row i of n rows may be asked
---   Filling, filling-first, -next          the lists of answers and numbers tried
---   Counting, counting-first, -next        the totals
--- Assumes nothing.
+--   row-within, row-asked                  row i of n rows is there, and may be asked
+--   Filling, filling-first, -next, -end    the lists of answers and numbers tried
+--   Counting, counting-first, -next, -end  the totals
 use mathlib.Core.Path.{_≡_, refl, ap, _∙_}
 use mathlib.Core.List.{List}
 use Prim.Native.Nat.{ℕ, _+_, _<_, _≤_}
-use native.Mathlib.Nat.{zero-add, suc-mul, mul-le-mul-right}
+use native.Mathlib.Nat.{suc-mul, mul-le-mul-right}
 use native.Mathlib.Omega.{arith}
 use lib.Dec.{eqb}
 use lib.ListN.{length, set}
 use Rattle.alf.specs.declared.Answer.{Answer}
 use Rattle.alf.specs.declared.Answer.the-variants.{No, Yes, Unknown}
-use Rattle.alf.specs.Words.{if_then_else_, count}
+use Rattle.basics.specs.Words.{if_then_else_, count, listed}
 use Rattle.alf.specs.Expressions.{Boolean}
 use Rattle.alf.specs.Windows.{numberOf}
 use Rattle.alf.specs.Alternatives.{Alternative}
 use Rattle.alf.specs.Alternatives as alternatives
-use Rattle.alf.proofs.Counts.{count-next, count-small}
+use Rattle.basics.proofs.Counts.{count-next, count-small}
 use Rattle.evaluator.specs.Rows.{Within}
 use Rattle.matcher.specs.Answers.{RowAsked, Matches}
-use Rattle.matcher.specs.Tables.{Rows, RowsAsked, numberAt, written, Filled, totalOf, Totals}
-use Rattle.matcher.proofs.Written.{written-none, written-more, written-length}
+use Rattle.matcher.specs.Tables.{Rows, RowsAsked, numberAt, Filled, totalOf, Totals}
+use Rattle.basics.proofs.Stores.{Writing, writing-first, writing-length}
+use Rattle.basics.proofs.Listed.{ruling-next-front, ruling-front}
 
 pub row-within : {states : List ℕ} {names n : ℕ} (i : ℕ) → Rows states names n → i < n
     → Within states names i
@@ -43,52 +43,32 @@ row-asked i a h = record { shape = a .shape; rows = row-within i (a .rows) h }
 
 module _ (st : Boolean → ℕ → ℕ) (xs : List Alternative) where
   pub record Filling (n : ℕ) (answers₀ tried₀ answers tried : List ℕ) (i : ℕ) : Type 0 where
-    pub within : i ≤ n
-    pub room : n ≤ length answers₀
-    pub space : n ≤ length tried₀
-    pub answered : answers ≡ written answers₀ 0 i (numberAt st xs)
-    pub counted : tried ≡ written tried₀ 0 i (alternatives.tries st xs)
+    pub answered : Writing answers₀ 0 (listed 0 n (numberAt st xs)) answers i
+    pub counted : Writing tried₀ 0 (listed 0 n (alternatives.tries st xs)) tried i
 
 module _ {st : Boolean → ℕ → ℕ} {xs : List Alternative} {n : ℕ} {answers₀ tried₀ : List ℕ} where
-  pub filling-first : n ≤ length answers₀ → n ≤ length tried₀
-      → Filling st xs n answers₀ tried₀ answers₀ tried₀ 0
-  filling-first a t =
-      record {
-        within = omega arith;
-        room = a;
-        space = t;
-        answered = written-none answers₀ 0 _;
-        counted = written-none tried₀ 0 _;
-      }
+  pub filling-first : Filling st xs n answers₀ tried₀ answers₀ tried₀ 0
+  filling-first = record { answered = writing-first; counted = writing-first }
 
   module _ {answers tried : List ℕ} {i : ℕ} (g : Filling st xs n answers₀ tried₀ answers tried i) where
     pub answers-length : length answers ≡ length answers₀
-    answers-length = ap length (g .answered) ∙ written-length answers₀ 0 _ i (omega (arith, g .within, g .room))
+    answers-length = writing-length (g .answered)
 
     pub tried-length : length tried ≡ length tried₀
-    tried-length = ap length (g .counted) ∙ written-length tried₀ 0 _ i (omega (arith, g .within, g .space))
+    tried-length = writing-length (g .counted)
 
     pub filling-next : {a : Answer} {v k : ℕ} → i < n → Matches st xs i a k → v ≡ numberOf a
         → Filling st xs n answers₀ tried₀ (set answers i v) (set tried i k) (i + 1)
-    filling-next {a} {v} {k} l m e =
+    filling-next l m e =
         record {
-          within = omega arith;
-          room = g .room;
-          space = g .space;
-          answered = one answers₀ answers (numberAt st xs) (g .answered) (omega (arith, g .room)) v
-              (e ∙ ap numberOf (m .is));
-          counted = one tried₀ tried (alternatives.tries st xs) (g .counted) (omega (arith, g .space)) k (m .count);
+          answered = ruling-next-front _ (g .answered) l (e ∙ ap numberOf (m .is));
+          counted = ruling-next-front _ (g .counted) l (m .count);
         }
-      where
-        one : (l₀ l : List ℕ) (f : ℕ → ℕ) → l ≡ written l₀ 0 i f → i < length l₀ → (v : ℕ)
-            → v ≡ f i
-            → set l i v ≡ written l₀ 0 (i + 1) f
-        one l₀ l f w h v e = rw (w, e) (rw zero-add at (written-more l₀ 0 f i (omega arith)))
 
-    pub filling-end : n ≤ i → Filled st xs n answers₀ tried₀ answers tried
-    filling-end h =
-        let e : i ≡ n = omega (arith, g .within) in
-        record { answered = rw e at (g .answered); counted = rw e at (g .counted) }
+    pub filling-end : n ≤ i → n ≤ length answers₀ → n ≤ length tried₀
+        → Filled st xs n answers₀ tried₀ answers tried
+    filling-end h r s =
+        record { answered = ruling-front _ (g .answered) h r; counted = ruling-front _ (g .counted) h s }
 
 -- the totals of the rows before i
 pub record Counting (st : Boolean → ℕ → ℕ) (xs : List Alternative) (n yes no unknown i : ℕ) : Type 0 where

@@ -3,7 +3,6 @@
 --   Asking, asking-first, -more, -last     some tests of a step are asked
 --   Stepping, stepping-first, ..           some steps of an alternative are asked
 --   Trying, trying-first, ..               some alternatives are tried
--- Assumes nothing.
 use mathlib.Core.Path.{_≡_, refl, ap, sym, _∙_}
 use mathlib.Core.List.{List, [], _∷_, map}
 use Prim.Native.Nat.{ℕ, zero, suc, _+_, _-_, _<_, _≤_, min, max}
@@ -13,17 +12,17 @@ use borrow.Author.Tests.{eq-eqb, ne-eqb}
 use lib.ListN.{length, getD, take, drop, length-take, length-drop}
 use Rattle.alf.specs.declared.Answer.{Answer}
 use Rattle.alf.specs.declared.Answer.the-variants.{Yes, NoEvent}
-use Rattle.alf.specs.Words.{leastOf, greatestOf}
+use Rattle.basics.specs.Words.{leastOf, greatestOf}
 use Rattle.alf.specs.Expressions.{Boolean}
 use Rattle.alf.specs.Windows.{named}
 use Rattle.alf.specs.Alternatives.{Test, Alternative, testAt, stepAt, stepsFrom, atRow, bestOf, answerOf, tried, tries}
-use Rattle.alf.proofs.Extremes.{leastOf-small}
+use Rattle.basics.proofs.Extremes.{leastOf-small}
 use Rattle.alf.proofs.Steps.{steps-small}
 use Rattle.alf.proofs.RowsAreAlternatives.{row-on}
 use Rattle.evaluator.proofs.RowAnswers.{named-yes}
-use Rattle.matcher.specs.Shapes.{cut, sum, stepIn, alternativeIn}
+use Rattle.alternatives.specs.InMemory.{cut, sum, stepIn, alternativeIn}
 use Rattle.matcher.specs.Answers.{Matches}
-use Rattle.matcher.proofs.Cuts.{part, part-first, part-next, part-last, cut-at, cut-length, sum-next}
+use Rattle.alternatives.proofs.Cuts.{part, part-first, part-next, part-last, cut-at, cut-length, sum-next}
 
 yes-named : (r : ℕ) → 2 ≤ r → Yes ≡ named r
 yes-named r h = named-yes r (λ e. omega arith) (λ e. omega arith)

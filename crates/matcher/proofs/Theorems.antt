@@ -5,6 +5,6 @@ pub use Rattle.matcher.proofs.Agreement.{matches-windows, totals-window
 -- two results that a contract allows coincide
 pub use Rattle.matcher.proofs.Unique.{matches-unique, filled-unique, totals-unique}
 -- of a list that is written anew: what is written, and what stays
-pub use Rattle.matcher.proofs.Written.{written-length, written-inside, written-before, written-after}
+pub use Rattle.basics.proofs.Listed.{ruled-inside, ruled-before, ruled-behind}
 -- refusal 15 of a list of states
-pub use Rattle.matcher.proofs.Coding.{bad-given, bad-never}
+pub use Rattle.states.proofs.BadCodes.{bad-given, bad-never}

@@ -1,6 +1,5 @@
 -- Any two results that a contract allows coincide.
 --   matches-unique, filled-unique, totals-unique
--- Assumes nothing.
 use mathlib.Core.Path.{_≡_, sym, _∙_}
 use mathlib.Core.List.{List}
 use Prim.Native.Nat.{ℕ}

@@ -3,7 +3,6 @@
 --   Walking, walking-first, -yes, -next, -end
 --   alternatives-next      alternative k apart from those behind it
 --   alternative-asked      alternative k may be asked
--- Assumes nothing.
 use mathlib.Core.Path.{_≡_, refl, _∙_}
 use mathlib.Core.List.{List, _∷_}
 use Prim.Native.Nat.{ℕ, _+_, _<_, _≤_, max}
@@ -15,9 +14,9 @@ use Rattle.alf.specs.Expressions.{Boolean}
 use Rattle.alf.specs.Values.{stateAt}
 use Rattle.alf.specs.Windows.{named}
 use Rattle.alf.specs.Alternatives.{Test, atRow}
-use Rattle.matcher.specs.Shapes.{cut, testsOf, sum, alternativeIn, alternativesIn, alternativesOf}
+use Rattle.alternatives.specs.InMemory.{cut, testsOf, sum, alternativeIn, alternativesIn, alternativesOf}
 use Rattle.matcher.specs.Answers.{AlternativeAsked, RowAsked, Matches}
-use Rattle.matcher.proofs.Cuts.{cut-none, cut-next, cut-drop, tests-length, sum-next, sum-part-drop}
+use Rattle.alternatives.proofs.Cuts.{cut-none, cut-next, cut-drop, tests-length, sum-next, sum-part-drop}
 use Rattle.matcher.proofs.Matching.{Trying, trying-first, trying-more, trying-yes, trying-end}
 
 pub record Walking (st : Boolean → ℕ → ℕ) (steps tests : List ℕ) (all : List Test) (row b s t k : ℕ)

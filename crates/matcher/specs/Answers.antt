@@ -1,5 +1,7 @@
 -- What matching asks and promises: document 01's answer and number tried (alf/specs/Alternatives), for the alternatives
--- that lists in memory stand for (Shapes).
+-- that lists in memory stand for (alternatives/specs/InMemory).
+--   TestAsked, StepAsked, AlternativeAsked, RowAsked, EventAsked     what is asked, from one test to all alternatives
+--   Matches                                                          the answer, and the number tried
 use Prim.Native.Nat.{ℕ, _+_, _<_, _≤_}
 use mathlib.Core.Path.{_≡_}
 use mathlib.Core.List.{List}
@@ -10,7 +12,7 @@ use Rattle.alf.specs.Alternatives.{Alternative, answerOf}
 use Rattle.alf.specs.Alternatives as alternatives
 use Rattle.trees.specs.Parts.{EndsBoolean}
 use Rattle.evaluator.specs.Rows.{Within}
-use Rattle.matcher.specs.Shapes.{sum, Tests, Shape}
+use Rattle.alternatives.specs.InMemory.{sum, Tests, Shape}
 
 -- the event from row a to row a + 1, asked of the operand that ends at `end`, and of the n tests from t on
 pub record TestAsked (tree : List ℕ) (names : ℕ) (states : List ℕ) (end a : ℕ) : Type 0 where

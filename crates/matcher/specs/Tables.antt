@@ -1,16 +1,20 @@
 -- What is promised of all rows: the list of answers by document 01's numbers, the list of numbers tried, the totals.
-use Prim.Native.Nat.{ℕ, _+_, _*_, _<_, _≤_}
+--   Rows, RowsAsked, FillAsked     what is asked
+--   numberAt, Filled               the lists
+--   totalOf, Totals                the totals
+use Prim.Native.Nat.{ℕ, _*_, _<_, _≤_}
 use mathlib.Core.Path.{_≡_}
-use mathlib.Core.List.{List, _++_}
+use mathlib.Core.List.{List}
 use lib.Dec.{eqb}
-use lib.ListN.{length, getD, take, drop}
+use lib.ListN.{length, getD}
 use Rattle.alf.specs.declared.Answer.{Answer}
 use Rattle.alf.specs.declared.Answer.the-variants.{No, Yes, Unknown}
-use Rattle.alf.specs.Words.{count, listed}
+use Rattle.basics.specs.Words.{count, listed}
 use Rattle.alf.specs.Expressions.{Boolean}
 use Rattle.alf.specs.Windows.{numberOf}
 use Rattle.alf.specs.Alternatives.{Alternative, answerOf, tries}
-use Rattle.matcher.specs.Shapes.{Shape}
+use Rattle.alternatives.specs.InMemory.{Shape}
+use Rattle.basics.specs.Memory.{front}
 
 -- n rows of a trace of 1 to 32 names, each state a code
 pub record Rows (states : List ℕ) (names n : ℕ) : Type 0 where
@@ -37,16 +41,12 @@ pub record FillAsked (tree : List ℕ) (names : ℕ) (states steps tests edges o
 abbrev pub numberAt : (Boolean → ℕ → ℕ) → List Alternative → ℕ → ℕ
 numberAt st xs = λ i. numberOf (answerOf st xs i)
 
--- a list whose m entries from r on are written anew, entry i as f i; the others stay
-unfoldable pub written : List ℕ → ℕ → ℕ → (ℕ → ℕ) → List ℕ
-written l r m f = take r l ++ (listed r m f ++ drop (r + m) l)
-
 -- of n rows: each one's answer and number tried; what stands behind them stays
 pub record Filled (st : Boolean → ℕ → ℕ) (xs : List Alternative) (n : ℕ)
     (answers tried answers′ tried′ : List ℕ)
     : Type 0 where
-  pub answered : answers′ ≡ written answers 0 n (numberAt st xs)
-  pub counted : tried′ ≡ written tried 0 n (tries st xs)
+  pub answered : answers′ ≡ front (listed 0 n (numberAt st xs)) answers
+  pub counted : tried′ ≡ front (listed 0 n (tries st xs)) tried
 
 -- how many of n rows have an answer
 unfoldable pub totalOf : (Boolean → ℕ → ℕ) → List Alternative → ℕ → Answer → ℕ

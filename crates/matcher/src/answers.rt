@@ -2,18 +2,17 @@
 // first yes, or all. An answer inside is 0 no, 1 unknown, 2 yes.
 ghost use mathlib.Core.Path.{_≡_};
 ghost use Prim.Native.Nat.{_+_, _-_, _<_};
-ghost use lib.ListN.{getD};
 ghost use Rattle.alf.specs.Values.{stateAt};
 ghost use Rattle.alf.specs.Alternatives.{testAt, stepAt, atRow};
-ghost use Rattle.matcher.specs.Shapes.{testOf, testsOf, alternativesOf, stepIn, alternativeIn};
+ghost use Rattle.alternatives.specs.InMemory.{testOf, testsOf, alternativesOf, stepIn, alternativeIn};
 ghost use Rattle.matcher.specs.Answers.{TestAsked, StepAsked, AlternativeAsked, RowAsked, EventAsked, Matches};
-use crate::shapes::pass;
 use alf::Answer;
-use alf::edges::edge_on;
-use alf::edges::greater;
-use alf::edges::lesser;
+use alternatives::walking::pass;
 use evaluator::rows::name_of;
 use evaluator::values::state;
+use states::edges::edge_on;
+use states::edges::greater;
+use states::edges::lesser;
 
 // What a row is told.
 pub struct Matched {

@@ -1,10 +1,10 @@
 // All rows: the list of answers, the list of numbers tried, the totals.
 ghost use mathlib.Core.Path.{_≡_};
 ghost use lib.Dec.{eqb};
-ghost use Rattle.alf.specs.Words.{if_then_else_};
+ghost use Rattle.basics.specs.Words.{if_then_else_};
 ghost use Rattle.alf.specs.Values.{stateAt};
 ghost use Rattle.alf.specs.Windows.{numberOf};
-ghost use Rattle.matcher.specs.Shapes.{alternativesOf};
+ghost use Rattle.alternatives.specs.InMemory.{alternativesOf};
 ghost use Rattle.matcher.specs.Answers.{RowAsked};
 ghost use Rattle.matcher.specs.Tables.{RowsAsked, FillAsked, numberAt, Filled, Totals};
 use crate::answers::match_row;

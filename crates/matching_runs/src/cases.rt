@@ -3,22 +3,24 @@
 use alf::Sort;
 use reader::Read;
 use reader::read_expression;
-use run_lines::lists::lend;
-use run_lines::lists::lend_out;
-use run_lines::routes::push_in;
-use run_lines::routes::queue_in;
-use run_lines::routes::row_in;
-use run_lines::routes::rows_in;
-use run_lines::routes::totals_in;
-use run_lines::routes::zeros_in;
+use run_lists::lend;
+use run_lists::lend_out;
 use run_printing::printing::broken;
 use run_printing::printing::character;
 use run_printing::printing::refusal;
 use run_printing::printing::write;
-use run_words::words::find;
+use run_routes::push_in;
+use run_routes::queue_in;
+use run_routes::row_in;
+use run_routes::rows_in;
+use run_routes::totals_in;
+use run_routes::zeros_in;
 use run_words::words::list_in;
 use run_words::words::number_in;
-use run_words::words::start_of;
+use text_parts::lines::behind_line;
+use text_parts::lines::line_at;
+use text_parts::parts::front;
+use text_parts::parts::start_of;
 
 // A vector expression: as written from word 4 on, by alternatives row by row and all rows, by the queue; the totals.
 fn show_vector(line: &[u8], tree: &[u8]) {
@@ -73,14 +75,8 @@ fn show_case(kind: u8, line: &[u8], tree: &[u8]) {
     }
 }
 
-fn show_first(kind: u8, line: &[u8], tree: &[u8], len: usize) {
-    if len <= tree.len() {
-        show_case(kind, line, &tree[0..len]);
-    }
-}
-
 fn show_read(kind: u8, line: &[u8], tree: &[u8; 256], len: usize) {
-    show_first(kind, line, tree, len);
+    show_case(kind, line, front(tree, len));
 }
 
 // A text over the names A, B, C.
@@ -140,8 +136,7 @@ fn show_line(line: &[u8]) {
 pub fn show_lines(input: &[u8]) {
     let mut at: usize = 0;
     while at < input.len() {
-        let end = find(input, at, b'\n');
-        show_line(&input[at..end]);
-        at = end + 1;
+        show_line(line_at(input, at));
+        at = behind_line(input, at);
     }
 }

@@ -9,7 +9,7 @@ fn run(input: &mut [u8]) {
     let n = io::read_full(STDIN_FILENO, input);
     decode(input);
     if n <= input.len() {
-        cases::show_lines(&input[0..n]);
+        crate::cases::show_lines(&input[0..n]);
     }
 }
 

@@ -1,7 +1,5 @@
--- Laws of ranges of bytes, of names and of slots, of orders put together, and the check's outcome.
-pub mod Ranges
+-- Laws of names and of slots, and the check's outcome.
 pub mod Names
 pub mod Slots
 pub mod Outcomes
-pub mod Orders
 pub mod Unique

@@ -2,18 +2,16 @@
 --   name-..    when bytes are a name: isName
 --   until-..   the bytes before the first zero: untilZero
 --   zeros-..   nothing but zeros
--- Assumes nothing.
 use mathlib.Core.Path.{_≡_, refl, sym, ap, _∙_}
-use mathlib.Core.Bool.{Bool, true, false, _&&_, and-false, and-true}
+use mathlib.Core.Bool.{Bool, true, false, and-false, and-true}
 use mathlib.Core.List.{List, [], _∷_, _++_, append-assoc, append-nil}
-use Prim.Native.Nat.{ℕ, zero, suc, _+_, _≤_, _<_}
+use Prim.Native.Nat.{ℕ, _+_, _≤_, _<_}
 use native.Mathlib.Omega.{arith}
 use native.Mathlib.Numerals.{add-one}
-use lib.Dec.{eqb, ltb}
 use lib.ListN.{length, getD, take, drop, drop-of-length-le, replicate, length-replicate, getD-replicate}
-use lib.Seq.{drop-cons, take-suc, take-all, ext-getD}
+use lib.Seq.{drop-cons, take-suc, ext-getD}
 use borrow.Author.Tests.{le-ltb, lt-ltb, eq-eqb, ne-eqb}
-use Rattle.alf.specs.Words.{all, if_then_else_}
+use Rattle.basics.specs.Words.{all}
 use Rattle.alf.specs.Names.{startsName, goesOnName, isName, untilZero}
 use Rattle.names.specs.Check.{Zeros}
 

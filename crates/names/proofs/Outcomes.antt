@@ -1,17 +1,18 @@
 -- The outcome of the check of a list of names: 18, 12 or done.
--- Main names: names-18, names-12, names-done. Assumes nothing.
-use mathlib.Core.Path.{_≡_, refl}
+-- Main names: names-18, names-12, names-done.
+use mathlib.Core.Path.{refl}
 use mathlib.Core.List.{List}
 use mathlib.Core.Logic.{inl, inr}
 use Prim.Native.Nat.{ℕ, _/_, _<_}
 use lib.ListN.{length}
-use Rattle.alf.specs.declared.Outcome.the-variants.{Done, Refused}
+use Rattle.basics.specs.Refusing.{refusal}
+use Rattle.basics.specs.declared.Outcome.the-variants.{Done, Refused}
 use Rattle.alf.specs.Names.{GoodSlot}
 use Rattle.alf.specs.Refusals.{Comes, RefusedWith, Passed}
 use Rattle.names.specs.Check.{Slots, namesOrder}
 
 module _ (names : List ℕ) (made : ℕ → Type 0) where
-  pub names-18 : (Slots names → ⊥) → Comes (namesOrder names) made (Refused (record { number = 18; place = 0 }))
+  pub names-18 : (Slots names → ⊥) → Comes (namesOrder names) made (Refused (refusal 18 0))
   unfolding Comes RefusedWith
   names-18 bad = inl (refl, record { given = bad; there = refl })
 
@@ -21,7 +22,7 @@ module _ (names : List ℕ) (made : ℕ → Type 0) where
         i < length names / 32 →
         ((j : ℕ) → j < i → GoodSlot names j) →
         (GoodSlot names i → ⊥) →
-        Comes (namesOrder names) made (Refused (record { number = 12; place = i }))
+        Comes (namesOrder names) made (Refused (refusal 12 i))
     unfolding Comes RefusedWith
     names-12 i l good bad =
         inr (

@@ -1,8 +1,8 @@
 -- Laws of slots: a slot as a part of the list, what its bytes tell, and when it is good.
 --   slot-part, name-part, rest-part   the parts of the list that a slot, its name and what is behind it are
 --   slot-of, filled, unfilled         a name as a slot: its bytes, then zeros
---   told-..                           what a test tells
--- Assumes nothing.
+--   same-told, part-told              what a comparison of slots tells
+--   slot-unnamed, slot-unfilled, slot-good   what the tests of a slot tell
 use mathlib.Core.Path.{_≡_, refl, sym, ap, _∙_}
 use mathlib.Core.Bool.{Bool, true, false}
 use mathlib.Core.List.{List, [], _∷_, _++_}
@@ -19,21 +19,10 @@ use lib.ListN.{
   take-append-drop,
 }
 use lib.Seq.{take-take, drop-drop, take-add, drop-at, take-at, length-take-le, take-append-add}
+use Rattle.basics.specs.Deciding.{Decides}
+use Rattle.basics.proofs.Deciding.{told, not-told, decided-by, same-decided}
 use Rattle.alf.specs.Names.{slot, untilZero, nameAt, slotOf, isName, GoodSlot}
-use Rattle.names.specs.Check.{Tells, holds, fails, NameLength, Zeros, New}
-
-module _ {A : Type 0} where
-  pub told-true : {b : Bool} → Tells A b → b ≡ true → A
-  told-true (holds a) e = a
-  told-true (fails n) e = let z : _≡_ {A = ℕ} 0 1 = cc in absurd (omega arith)
-
-  pub told-false : {b : Bool} → Tells A b → b ≡ false → A → ⊥
-  told-false (holds a) e = let z : _≡_ {A = ℕ} 0 1 = cc in absurd (omega arith)
-  told-false (fails n) e = n
-
-  pub told : (b : Bool) → (b ≡ true → A) → (A → b ≡ true) → Tells A b
-  told true y n = holds (y refl)
-  told false y n = fails (λ a. let e : false ≡ true = n a in let z : _≡_ {A = ℕ} 0 1 = cc in omega arith)
+use Rattle.names.specs.Check.{NameLength, Zeros, New}
 
 pub same-told :
     {a b : List ℕ} {n m : ℕ} (r : Bool) →
@@ -41,9 +30,9 @@ pub same-told :
     (take n a ≡ take m b → r ≡ true) →
     NameLength a n →
     NameLength b m →
-    Tells (untilZero a ≡ untilZero b) r
+    Decides r (untilZero a ≡ untilZero b)
 same-told r y z p q =
-    told r (λ e. sym (p .name) ∙ y e ∙ q .name) (λ e. z (p .name ∙ e ∙ sym (q .name)))
+    decided-by r (λ e. sym (p .name) ∙ y e ∙ q .name) (λ e. z (p .name ∙ e ∙ sym (q .name)))
 
 module _ (names : List ℕ) (k : ℕ) where
   pub slot-part : take (k * 32 + 32 - k * 32) (drop (k * 32) names) ≡ slot names k
@@ -61,13 +50,12 @@ module _ (names : List ℕ) (k : ℕ) where
       rw (e, take-take n 32 (drop (k * 32) names) h)
 
 pub part-told :
-    (names : List ℕ) (j k : ℕ) {b : Bool} →
-    Tells
+    (names : List ℕ) (j k : ℕ) (b : Bool) →
+    Decides b
     (untilZero (take (j * 32 + 32 - j * 32) (drop (j * 32) names))
-    ≡ untilZero (take (k * 32 + 32 - k * 32) (drop (k * 32) names)))
-    b →
-    Tells (nameAt names j ≡ nameAt names k) b
-part-told names j k t = rw (slot-part names j, slot-part names k) at t
+    ≡ untilZero (take (k * 32 + 32 - k * 32) (drop (k * 32) names))) →
+    Decides b (nameAt names j ≡ nameAt names k)
+part-told names j k b t = rw (slot-part names j, slot-part names k) at t
 
 drop-take : (n m : ℕ) (l : List ℕ) → n ≤ length l → drop n (take (n + m) l) ≡ take m (drop n l)
 drop-take n m l h = rw (take-add n m l) (drop-at (take n l) (take m (drop n l)) n (length-take-le n l h))
@@ -132,20 +120,20 @@ module _
           let z : _≡_ {A = ℕ} 0 1 = cc in
           omega arith
 
-      module _ {b : Bool} (t : Tells (Zeros (take (k * 32 + 32 - (k * 32 + n)) (drop (k * 32 + n) names))) b) where
-        zeros : Tells (Zeros (drop n (slot names k))) b
+      module _ (b : Bool) (t : Decides b (Zeros (take (k * 32 + 32 - (k * 32 + n)) (drop (k * 32 + n) names)))) where
+        zeros : Decides b (Zeros (drop n (slot names k)))
         zeros = rw (rest-part names k n h short) at t
 
         pub slot-unfilled : b ≡ false → GoodSlot names k → ⊥
-        slot-unfilled f g = told-false zeros f (unfilled (slot-length names k h) long (g .filled))
+        slot-unfilled f g = not-told _ zeros f (unfilled (slot-length names k h) long (g .filled))
 
-        pub slot-good : r ≡ true → b ≡ true → {w : Bool} → Tells (New names k) w
-            → Tells (GoodSlot names k) w
-        slot-good y z (holds new) =
-            holds
-            (record {
+        pub slot-good : r ≡ true → b ≡ true → (w : Bool) → Decides w (New names k)
+            → Decides w (GoodSlot names k)
+        slot-good y z w d =
+            same-decided _ _ w
+            (λ new.
+            record {
               named = sym named ∙ y;
-              filled = filled (slot-length names k h) long (told-true zeros z);
+              filled = filled (slot-length names k h) long (told _ zeros z);
               new = new;
-            })
-        slot-good y z (fails old) = fails (λ g. old (g .new))
+            }) (λ g. g .new) d

@@ -1,9 +1,9 @@
--- The outcome of the check of a list of names is unique. Main name: names-unique. Assumes nothing.
+-- The outcome of the check of a list of names is unique. Main name: names-unique.
 use mathlib.Core.Path.{_≡_, sym, _∙_}
 use mathlib.Core.List.{List}
 use Prim.Native.Nat.{ℕ, _/_}
 use lib.ListN.{length}
-use Rattle.alf.specs.declared.Outcome.{Outcome}
+use Rattle.basics.specs.declared.Outcome.{Outcome}
 use Rattle.alf.specs.Refusals.{Comes}
 use Rattle.alf.proofs.Outcomes.{AllFixed, at-fixed, first-fixed, comes-unique}
 use Rattle.names.specs.Check.{namesOrder}

@@ -1,11 +1,12 @@
 -- Document 01, refusals 18 and 12 of a list of names: what a call that is handed one checks first, in this order.
 -- What a name and a good slot are stands in alf's Names; the rows of the table stand in alf's Refusals.
--- Main name: namesOrder. The rest says what the functions below it tell.
+--   Slots, namesOrder          slots of 32 bytes, and the order of the checks
+--   NameLength, Zeros, New     what the functions below it tell of a slot
 use Prim.Native.Nat.{ℕ, _%_, _/_, _<_, _≤_}
-use mathlib.Core.Bool.{Bool, true, false}
 use mathlib.Core.Path.{_≡_}
 use mathlib.Core.List.{List, [], _∷_}
 use lib.ListN.{length, take, replicate}
+use Rattle.basics.proofs.Deciding.{holds}
 use Rattle.alf.specs.Names.{untilZero, nameAt}
 use Rattle.alf.specs.Refusals.{Order, check, bad-lists, bad-slot}
 
@@ -18,11 +19,6 @@ pub record Slots (names : List ℕ) : Type 0 where
 -- 18, then 12
 abbrev pub namesOrder : List ℕ → Order
 namesOrder names = check 18 (bad-lists (Slots names)) ∷ check 12 (bad-slot names) ∷ []
-
--- a test tells whether something is so
-pub data Tells (so : Type 0) : Bool → Type 0 where
-  holds : so → Tells so true
-  fails : (so → ⊥) → Tells so false
 
 -- n bytes stand before the first zero of a slot
 pub record NameLength (slot : List ℕ) (n : ℕ) : Type 0 where

@@ -4,16 +4,10 @@ ghost use Prim.Native.Nat.{_+_, _*_, _/_, _<_, _≤_};
 ghost use lib.ListN.{length};
 ghost use Rattle.alf.specs.Names.{startsName, goesOnName, isName, untilZero, GoodSlot};
 ghost use Rattle.alf.specs.Refusals.{Comes};
-ghost use Rattle.names.specs.Check.{Tells, NameLength, Zeros, New, namesOrder};
-use alf::Outcome;
-use alf::Refusal;
-
-// A refusal, made here alone.
-pub fn refuse(number: u8, place: usize) -> Outcome
-    ensures { λ r. ⌜ r ≡ Outcome.Refused (record { number = number; place = place }) ⌝ }
-{
-    Outcome::Refused(Refusal { number, place })
-}
+ghost use Rattle.basics.specs.Deciding.{Decides};
+ghost use Rattle.names.specs.Check.{NameLength, Zeros, New, namesOrder};
+use basics::Outcome;
+use basics::refusing::refuse;
 
 // A name's first byte: a letter or `_`.
 pub fn starts_name(b: u8) -> bool
@@ -75,7 +69,7 @@ pub fn name_len(slot: &[u8]) -> usize
 
 // Whether there is nothing but zeros.
 fn all_zero(s: &[u8]) -> bool
-    ensures { λ r. ⌜ Tells (Zeros (now (s .entry))) r ⌝ }
+    ensures { λ r. ⌜ Decides r (Zeros (now (s .entry))) ⌝ }
 {
     let mut i = 0;
     while i < s.len() {
@@ -89,7 +83,7 @@ fn all_zero(s: &[u8]) -> bool
 
 // Whether two slots hold the same name.
 fn same_name(a: &[u8], b: &[u8]) -> bool
-    ensures { λ r. ⌜ Tells (untilZero (now (a .entry)) ≡ untilZero (now (b .entry))) r ⌝ }
+    ensures { λ r. ⌜ Decides r (untilZero (now (a .entry)) ≡ untilZero (now (b .entry))) ⌝ }
 {
     let n = name_len(a);
     let m = name_len(b);
@@ -99,7 +93,7 @@ fn same_name(a: &[u8], b: &[u8]) -> bool
 // Whether no earlier slot holds the name of slot k.
 fn is_new(names: &[u8], k: usize) -> bool
     requires { ⌜ k * 32 + 32 ≤ length (now names) ⌝ }
-    ensures { λ r. ⌜ Tells (New (now (names .entry)) k) r ⌝ }
+    ensures { λ r. ⌜ Decides r (New (now (names .entry)) k) ⌝ }
 {
     let at = k * 32;
     let end = at + 32;
@@ -118,7 +112,7 @@ fn is_new(names: &[u8], k: usize) -> bool
 // Whether slot k holds a name, zeros behind it, and no earlier slot's name.
 fn good_slot(names: &[u8], k: usize) -> bool
     requires { ⌜ k * 32 + 32 ≤ length (now names) ⌝ }
-    ensures { λ r. ⌜ Tells (GoodSlot (now (names .entry)) k) r ⌝ }
+    ensures { λ r. ⌜ Decides r (GoodSlot (now (names .entry)) k) ⌝ }
 {
     let at = k * 32;
     let end = at + 32;

@@ -1,17 +1,14 @@
 -- The faults of a tree in their order, and the first of them: row 7 of the table is what `sorted` comes to.
 --   faults-agree           no fault where there is an expression, else the place of the first fault comes first
 --   row-seven, seven-never the table's row, from what `sorted` comes to
--- Assumes nothing.
-use mathlib.Core.Path.{_≡_, refl, sym, ap, _∙_}
+use mathlib.Core.Path.{_≡_, refl}
 use mathlib.Core.List.{List, [], _∷_, _++_}
-use Prim.Native.Nat.{ℕ, _<_}
+use Prim.Native.Nat.{ℕ}
 use native.Mathlib.Omega.{arith}
-use lib.ListN.{length, getD}
 use Rattle.alf.specs.declared.Sort.{Sort}
 use Rattle.alf.specs.Expressions.{Expression}
-use Rattle.alf.specs.Refusals.{First, FirstOf}
 use Rattle.grammar.specs.Grammar.{Tree, leaf, one, two, three}
-use Rattle.reader.specs.Sorts.{Sorted, is, faulty, ofOne, ofTwo, ofThree, given, asked, sorted, sortedFor}
+use Rattle.sorting.specs.Sorts.{Sorted, is, faulty, ofOne, ofTwo, ofThree, given, asked, sorted, sortedFor}
 use Rattle.reader.specs.Reading.{fault, own, faults, faultsFor, unsorted}
 
 pub data Agree : Sorted → List ℕ → Type 0 where

@@ -1,34 +1,34 @@
 -- What each way of `limit` comes to: 8, or read. Main names: limit-refused, limit-boolean, limit-asks, limit-over,
--- limit-within, over-told. Assumes nothing.
+-- limit-within, over-told.
 use mathlib.Core.Path.{_≡_, refl, sym, ap, subst, _∙_}
 use mathlib.Core.Bool.{Bool, true, false}
-use mathlib.Core.List.{List, [], _∷_, _++_}
-use Prim.Native.Nat.{ℕ, _≤_, _<_}
+use mathlib.Core.List.{List}
+use Prim.Native.Nat.{ℕ, _≤_}
 use native.Mathlib.Omega.{arith}
 use lib.ListN.{length}
-use Rattle.alf.specs.Words.{if_then_else_}
+use Rattle.basics.specs.Words.{if_then_else_}
 use Rattle.alf.specs.declared.Sort.{Sort}
 use Rattle.alf.specs.declared.Sort.the-variants as the-sort
 use Rattle.alf.specs.Expressions.{Vector, Expression, boolean, vector, ExpressionOver}
 use Rattle.alf.specs.Alternatives.{alternatives, overLimit, numberOfAlternatives, stepsOf, testsOf}
 use Rattle.alf.specs.Bytes.{bytesOf}
-use Rattle.alf.proofs.Bools.{never}
+use Rattle.basics.proofs.Bools.{never}
 use Rattle.grammar.specs.Answers.{padded}
 use Rattle.grammar.proofs.Written.{expression-formed}
 use Rattle.trees.specs.Parts.{EndsVector, vectorAt}
-use Rattle.limits.specs.declared.sizes.Measured.{Measured}
-use Rattle.limits.specs.declared.sizes.Measured.the-variants as size
-use Rattle.limits.specs.declared.sizes.Size.{Size}
-use Rattle.limits.specs.Sizes.{measured}
+use Rattle.acceptance.specs.declared.sizes.Measured.{Measured}
+use Rattle.acceptance.specs.declared.sizes.Measured.the-variants as size
+use Rattle.acceptance.specs.declared.sizes.Size.{Size}
+use Rattle.acceptance.specs.Sizes.{measured}
 use Rattle.reader.specs.declared.Read.{Read}
-use Rattle.reader.specs.Lookup.{countOf, numberAt}
-use Rattle.reader.specs.Sorts.{Sorted, is, faulty, given, asked, sorted, sortedFor}
-use Rattle.reader.specs.Passes.{isVector}
-use Rattle.reader.specs.Reads.{made, refusedWith, hasSort}
+use Rattle.sorting.specs.Lookup.{countOf, numberAt}
+use Rattle.sorting.specs.Sorts.{Sorted, is, faulty, given, asked, sorted, sortedFor}
+use Rattle.sorting.specs.Passes.{isVector}
+use Rattle.reader.specs.Reads.{made, refusedBy, refusedWith, hasSort}
 use Rattle.reader.specs.Reading.{tooLarge, Reading, Clear, Unlimited, refused, unlimited}
 use Rattle.reader.proofs.Texts.{nodes-inside}
 use Rattle.reader.proofs.Unknowns.{names-numbered}
-use Rattle.reader.proofs.Whole.{names-few}
+use Rattle.reader.proofs.TokenedTexts.{names-few}
 use Rattle.reader.proofs.Readings.{eight, read-clear}
 use Rattle.reader.proofs.Limits.{call-over, vector-ends, vector-is}
 
@@ -130,7 +130,7 @@ module _ {names text : List ℕ} {sort : Sort} {x : Expression} (k : Clear names
 pub limit-refused : {names text : List ℕ} {sort : Sort} {r : Read} → Unlimited names text sort r
     → r .refused ≡ true
     → Reading names text sort r
-unfolding made refusedWith
+unfolding made refusedBy
 limit-refused (refused n p h) e = h
 limit-refused (unlimited k) e = never e
 
@@ -142,7 +142,7 @@ pub record Left (names text : List ℕ) (sort : Sort) (r : Read) : Type 0 where
 pub left-over : {names text : List ℕ} {sort : Sort} {r : Read} → Unlimited names text sort r
     → r .refused ≡ false
     → Left names text sort r
-unfolding made refusedWith
+unfolding made refusedBy
 left-over (refused n p h) e = never (sym e)
 left-over (unlimited {x = x} k) e = record { it = x; clear = k; is-made = refl }
 

@@ -1,38 +1,34 @@
 -- Limit 8 of what is read: the expression is over the names of the list, so its bytes decode, and a vector is measured.
---   sorted-over     an expression that a tree is sorted as, over the names that its tokens have
---   clear-ends      the bytes of a vector that is read end with it
---   limit-..        what each way of `limit` comes to
--- Assumes nothing.
+--   call-over               an expression that a tree is sorted as is over the names that its tokens have
+--   vector-ends, vector-is  the bytes of a vector that is read end with it
 use mathlib.Core.Path.{_≡_, refl, sym, ap, _∙_}
 use mathlib.Core.Bool.{Bool, true, false}
 use mathlib.Core.List.{List, [], _∷_, _++_}
-use mathlib.Core.Logic.{_⊎_, inl, inr}
-use Prim.Native.Nat.{ℕ, zero, suc, _+_, _-_, _≤_, _<_}
+use Prim.Native.Nat.{ℕ, _+_, _-_, _≤_, _<_}
 use native.Mathlib.Omega.{arith}
 use lib.Dec.{eqb, ltb}
-use lib.ListN.{length, getD, take, replicate, length-append}
-use lib.Seq.{take-at, take-length}
+use lib.ListN.{length, replicate}
+use lib.Seq.{take-length}
 use borrow.Author.Tests.{eqb-true, eqb-false}
-use Rattle.alf.specs.Words.{if_then_else_}
+use Rattle.basics.specs.Words.{if_then_else_}
 use Rattle.alf.specs.declared.Sort.{Sort}
 use Rattle.alf.specs.declared.Sort.the-variants as the-sort
-use Rattle.alf.specs.Expressions.{Boolean, name, literal, negated, binary, choice, Vector, edge, join, while}
+use Rattle.alf.specs.Expressions.{Boolean, name, literal, negated, Vector, edge, join, while}
 use Rattle.alf.specs.Expressions.{with, or-else, on-right, on-left, Expression, boolean, vector}
-use Rattle.alf.specs.Expressions.{Over, EdgeKnown, VectorOver, ExpressionOver}
-use Rattle.alf.specs.Alternatives.{alternatives, overLimit}
+use Rattle.alf.specs.Expressions.{Over, VectorOver, ExpressionOver}
 use Rattle.alf.specs.Bytes as bytes
-use Rattle.alf.specs.Bytes.{bytesOf, Stack, empty, push, stackAt, topVector, Decodes, edgeAt, binaryAt, joinAt}
-use Rattle.alf.proofs.Bools.{never, below?}
-use Rattle.alf.proofs.Codes.{edge-known}
+use Rattle.alf.specs.Bytes.{bytesOf, empty, push, stackAt, topVector, Decodes, edgeAt, joinAt}
+use Rattle.alf.proofs.OperatorBytes.{edge-known}
 use Rattle.alf.proofs.Encoding.{runs, runs-stack, decode-bytes}
-use Rattle.alf.proofs.Lists.{All, none, more}
+use Rattle.basics.proofs.AllEntries.{All, none, more}
+use Rattle.basics.proofs.Stores.{front-take, front-holds}
 use Rattle.grammar.specs.declared.Token.{Token}
-use Rattle.grammar.specs.Grammar.{Tree, leaf, one, two, three, nodes}
+use Rattle.grammar.specs.Grammar.{Tree, nodes}
 use Rattle.grammar.specs.Answers.{padded}
 use Rattle.grammar.specs.Written.{Formed, leaf-is, one-is, two-is, three-is}
 use Rattle.trees.specs.Parts.{EndsVector, vectorAt}
-use Rattle.reader.specs.Sorts.{Sorted, is, faulty, atom, ofOne, ofTwo, ofThree, given, asked, sorted, sortedFor}
-use Rattle.reader.proofs.Codes.{Coded, operand-code, prefix-code, node-one}
+use Rattle.sorting.specs.Sorts.{Sorted, is, faulty, atom, ofOne, ofTwo, ofThree, given, asked, sorted, sortedFor}
+use Rattle.sorting.proofs.NodeCodes.{operand-code, prefix-code, node-one}
 
 -- what is made is over n names
 unfoldable SortedOver : ℕ → Sorted → Type 0
@@ -154,21 +150,21 @@ module _ (n : ℕ) (number : ℕ → ℕ) where
 -- the bytes of a vector, with zeros behind them, end with it
 padded-stack : (n : ℕ) (e : Expression) → n ≤ 32 → ExpressionOver n e
     → stackAt (padded (bytesOf e)) n (length (bytesOf e)) ≡ push e empty
-unfolding padded Decodes
+unfolding Decodes
 padded-stack n e few o =
-    runs-stack (padded (bytesOf e)) n (length (bytesOf e)) (rw length-append (omega arith))
+    runs-stack (padded (bytesOf e)) n (length (bytesOf e)) (front-holds (replicate 256 0) (bytesOf e))
     ∙ ap (λ (t : List ℕ). runs n t empty)
-    (take-at (bytesOf e) (replicate (256 - length (bytesOf e)) 0) (length (bytesOf e)) refl
+    (front-take (replicate 256 0) (bytesOf e) (length (bytesOf e)) refl
     ∙ sym (take-length (bytesOf e)))
     ∙ sym (runs-stack (bytesOf e) n (length (bytesOf e)) (omega arith))
     ∙ decode-bytes n few e o
 
 pub vector-ends : (n : ℕ) (v : Vector) → n ≤ 32 → ExpressionOver n (vector v)
     → EndsVector (padded (bytesOf (vector v))) n (length (bytesOf (vector v)))
-unfolding padded bytes.isVector
+unfolding bytes.isVector
 vector-ends n v few o =
     record {
-      within = rw length-append (omega arith);
+      within = front-holds (replicate 256 0) (bytesOf (vector v));
       whole = ap bytes.isVector (padded-stack n (vector v) few o);
     }
 

@@ -1,24 +1,23 @@
 -- How the call begins: the list of names is refused or good, the text's tokens are refused or read.
 --   text-refused, tokened       a text whose tokens are refused, or read
 --   names-wrong, names-done     a list of names that is refused, or good
--- Assumes nothing.
-use mathlib.Core.Path.{_≡_, refl, sym, subst, _∙_}
+use mathlib.Core.Path.{_≡_, refl, sym, subst}
 use mathlib.Core.Bool.{true, false}
 use mathlib.Core.List.{List}
 use Prim.Native.Nat.{ℕ}
 use Rattle.alf.specs.declared.Sort.{Sort}
-use Rattle.alf.specs.declared.Outcome.{Outcome}
-use Rattle.alf.specs.declared.Outcome.the-variants as call
-use Rattle.alf.specs.declared.Refusal.{Refusal}
+use Rattle.basics.specs.declared.Outcome.{Outcome}
+use Rattle.basics.specs.declared.Outcome.the-variants as call
+use Rattle.basics.specs.declared.Refusal.{Refusal}
 use Rattle.alf.specs.Refusals.{Passed, Comes}
-use Rattle.alf.proofs.Bools.{never}
+use Rattle.basics.proofs.Bools.{never}
 use Rattle.names.specs.Check.{namesOrder}
 use Rattle.tokens.specs.declared.Tokens.{Tokens}
 use Rattle.tokens.specs.Reading as reading
 use Rattle.reader.specs.declared.Read.{Read}
-use Rattle.reader.specs.Reads.{refusedWith}
+use Rattle.reader.specs.Reads.{refusedBy}
 use Rattle.reader.specs.Reading.{Reading, Unlimited, refused}
-use Rattle.reader.specs.Whole.{Tokened}
+use Rattle.reader.specs.Tokened.{Tokened}
 use Rattle.reader.proofs.Readings.{names-refused, tokens-refused}
 
 -- the tokens' reading: refused, or read
@@ -27,7 +26,7 @@ pub text-refused :
     Passed (namesOrder names) →
     reading.Reading bytes t →
     t .refused ≡ true →
-    r ≡ refusedWith (t .refusal .number) (t .refusal .place) →
+    r ≡ refusedBy (t .refusal) →
     Unlimited names bytes sort r
 unfolding reading.made reading.refusedWith
 text-refused sort g (reading.refused n p h) o e = rw e (refused n p (tokens-refused _ _ sort g n p h))
@@ -48,7 +47,7 @@ pub names-wrong :
     (names bytes : List ℕ) (made : ℕ → Type 0) (sort : Sort) {o : Outcome} {f : Refusal} {r : Read} →
     Comes (namesOrder names) made o →
     o ≡ call.Refused f →
-    r ≡ refusedWith (f .number) (f .place) →
+    r ≡ refusedBy f →
     Reading names bytes sort r
 unfolding Comes
 names-wrong names bytes made sort {f = f} h e g =

@@ -1,31 +1,30 @@
 -- What a text is read as, from what the parts of the call found.
 --   names-refused, tokens-refused, five, six, seven, eight    refused, by the first row of the order that is given
 --   read-clear                                                read
--- Assumes nothing.
-use mathlib.Core.Path.{_≡_, refl, sym, ap, _∙_}
-use mathlib.Core.List.{List, [], _∷_, _++_}
-use mathlib.Core.Logic.{_⊎_, inl, inr}
+use mathlib.Core.Path.{_≡_, refl}
+use mathlib.Core.List.{List, _++_}
+use mathlib.Core.Logic.{inl, inr}
 use Prim.Native.Nat.{ℕ}
 use lib.ListN.{length}
 use Rattle.alf.specs.declared.Sort.{Sort}
 use Rattle.alf.specs.Expressions.{Expression}
 use Rattle.alf.specs.Refusals.{RefusedWith, Passed}
 use Rattle.names.specs.Check.{namesOrder}
-use Rattle.tokens.specs.Texts.{Token, Reads, OfTokens, deep, many, order}
+use Rattle.tokens.specs.Texts.{Token, Reads, OfTokens, order}
 use Rattle.tokens.proofs.TextLaws.{reads-unique}
 use Rattle.grammar.specs.Grammar as grammar
 use Rattle.grammar.specs.Grammar.{Tree, nodes}
-use Rattle.grammar.specs.Answers.{accepted, Answer, tree}
+use Rattle.grammar.specs.Answers.{accepted, tree}
 use Rattle.grammar.proofs.RowFive.{row-never}
 use Rattle.grammar.proofs.Unique.{parses-unique}
-use Rattle.reader.specs.Lookup.{numberAt}
-use Rattle.reader.specs.Sorts.{Sorted, is, faulty}
+use Rattle.sorting.specs.Lookup.{numberAt}
+use Rattle.sorting.specs.Sorts.{is, faulty}
 use Rattle.reader.specs.Texts.{tokensOf}
 use Rattle.reader.specs.Reads.{made, refusedWith}
 use Rattle.reader.specs.Reading.{Unknown, unsorted, tooLarge, OfTree, stuck, unknown, sortedIn, faultsIn}
-use Rattle.reader.specs.Reading.{treeOrder, Gives, Reading, refused, read, Clear}
+use Rattle.reader.specs.Reading.{treeOrder, Gives, Reading, refused, read}
 use Rattle.reader.proofs.Faults.{call-agree, row-seven, seven-never}
-use Rattle.names.proofs.Orders.{refused-first, refused-then, passed-both}
+use Rattle.alf.proofs.Orders.{refused-first, refused-then, passed-both}
 
 module _ (names text : List ℕ) (sort : Sort) where
   pub names-refused : (n p : ℕ) → RefusedWith (namesOrder names) n p → Reading names text sort (refusedWith n p)

@@ -5,33 +5,32 @@
 --   first-over      a number that is over a limit somewhere is so first at some place
 --   few-counted     where refusal 4 is not given, at most 256 are counted
 --   nodes-inside    what holds of each token of a text holds of each node of its tree
--- Assumes nothing.
-use mathlib.Core.Path.{_≡_, refl, sym, ap, _∙_}
+use mathlib.Core.Path.{_≡_, refl, ap, _∙_}
 use mathlib.Core.Bool.{Bool, true, false, _||_}
-use mathlib.Core.List.{List, [], _∷_, _++_}
+use mathlib.Core.List.{List, [], _∷_}
 use mathlib.Core.Logic.{_⊎_, inl, inr}
-use Prim.Native.Nat.{ℕ, zero, suc, _+_, _≤_, _<_}
+use Prim.Native.Nat.{ℕ, suc, _+_, _≤_, _<_}
 use native.Mathlib.Omega.{arith}
-use lib.Dec.{eqb, ltb, leb}
+use lib.Dec.{eqb, ltb}
 use lib.ListN.{length, length-append}
-use borrow.Author.Tests.{ltb-true, ltb-false, lt-ltb, le-leb, eqb-true, ne-eqb}
-use Rattle.alf.specs.Words.{if_then_else_}
+use borrow.Author.Tests.{ltb-true, ltb-false, le-leb, eqb-true, ne-eqb}
+use Rattle.basics.specs.Words.{if_then_else_}
 use Rattle.alf.specs.Refusals.{First}
-use Rattle.alf.proofs.Bools.{below?}
-use Rattle.alf.proofs.Choices.{every, every-at}
-use Rattle.alf.proofs.Lists.{All, none, more, all-append, all-weaken}
+use Rattle.basics.proofs.Bools.{below?}
+use Rattle.basics.proofs.Choices.{every, every-at}
+use Rattle.basics.proofs.AllEntries.{All, none, more, all-append}
 use Rattle.tokens.specs.Texts as text
 use Rattle.tokens.specs.Texts.{Reads, done, blank, token, running, many, OfTokens}
 use Rattle.tokens.specs.Reading as reading
-use Rattle.tokens.proofs.Shapes.{token-size}
+use Rattle.token_steps.proofs.TokenStarts.{token-size}
 use Rattle.grammar.specs.declared.Token.{Token}
-use Rattle.grammar.specs.Tokens.{tokens, kind, kindIn, table, kindOf, weight, counted}
+use Rattle.grammar.specs.Tokens.{tokens, kind, kindIn, table, weight, counted}
 use Rattle.grammar.specs.Grammar.{Tree, nodes, Parses, alone, applied, bracketed, up, joined, chosen, placeOf}
 use Rattle.grammar.specs.Answers.{Rising, none, next}
-use Rattle.reader.specs.Lookup.{first}
+use Rattle.sorting.specs.Lookup.{first}
 use Rattle.reader.specs.Texts.{tokensOf}
-use Rattle.reader.proofs.Codes.{code-far}
-use Rattle.reader.proofs.Names.{first-bound, first-passes, first-before}
+use Rattle.sorting.proofs.NodeCodes.{code-far}
+use Rattle.sorting.proofs.SlotNumbers.{first-passes, first-before}
 
 -- each token begins inside the text
 pub reads-inside :
@@ -39,7 +38,7 @@ pub reads-inside :
     Reads p bs ts →
     p + length bs ≡ bytes →
     All (λ (t : Token). t .place ≤ bytes) (tokensOf ts)
-unfolding tokens reading.codesOf reading.placesOf
+unfolding tokens
 reads-inside bytes done e = none
 reads-inside bytes (blank h r) e = reads-inside bytes r (omega arith)
 reads-inside bytes (token {p = p} {c = c} {w = w} {after = after} h t r) e =
@@ -52,7 +51,7 @@ from-there :
     Reads p bs ts →
     p + length bs ≡ bytes →
     p ≤ placeOf bytes (tokensOf ts)
-unfolding tokens reading.codesOf reading.placesOf
+unfolding tokens
 from-there bytes done e = omega arith
 from-there {p} bytes (blank h r) e = let k = from-there bytes r (omega arith) in omega arith
 from-there bytes (token h t r) e = omega arith
@@ -62,7 +61,7 @@ pub reads-rises :
     Reads p bs ts →
     p + length bs ≡ bytes →
     Rising bytes (tokensOf ts)
-unfolding tokens reading.codesOf reading.placesOf
+unfolding tokens
 reads-rises bytes done e = none
 reads-rises bytes (blank h r) e = reads-rises bytes r (omega arith)
 reads-rises bytes (token {p = p} {c = c} {w = w} {after = after} {ts = ts} h t r) e =
@@ -107,7 +106,7 @@ counted-all :
     (ts : List text.Token) (n p : ℕ) →
     All (λ (t : Token). t .place ≤ p) (tokensOf ts) →
     running text.counted n ts p ≡ n + counted (tokensOf ts)
-unfolding running counted tokens reading.codesOf reading.placesOf
+unfolding running counted tokens
 counted-all [] n p a = omega arith
 counted-all (t ∷ ts) n p (more h a) =
     rw (le-leb (t .place) p h)

@@ -2,21 +2,22 @@
 --   all-at            what holds of each token holds of each entry of a list of the parser's
 --   handed-nodes      the parser's lists hold the nodes
 --   nodes-handed      what the pass asks of them
---   pass-stopped, pass-wrong, pass-read    what the pass comes to: 7 at an operator, 7 at the text's length, the tree
--- Assumes nothing.
+--   pass-tree, answer-stopped, answer-wrong, answer-read     what the pass comes to: 7 at an operator, 7 at the text's
+--                     length, the tree
 use mathlib.Core.Path.{_≡_, refl, sym, ap, _∙_}
-use mathlib.Core.Bool.{Bool, true, false, not}
+use mathlib.Core.Bool.{true, false}
 use mathlib.Core.List.{List, [], _∷_, _++_, map}
 use Prim.Native.Nat.{ℕ, zero, suc, _+_, _-_, _≤_, _<_}
 use native.Mathlib.Omega.{arith}
-use lib.ListN.{length, getD, take, replicate, length-append, length-map, length-replicate}
-use lib.Seq.{take-at, getD-take}
+use lib.ListN.{length, getD, replicate, length-map}
 use Rattle.alf.specs.declared.Sort.{Sort}
 use Rattle.alf.specs.declared.Sort.the-variants as the-sort
 use Rattle.alf.specs.Expressions.{Expression, boolean, vector}
-use Rattle.alf.specs.Bytes.{bytesOf}
-use Rattle.alf.proofs.Bools.{never}
-use Rattle.alf.proofs.Lists.{All, none, more}
+use Rattle.basics.proofs.Bools.{never}
+use Rattle.basics.specs.Memory.{front}
+use Rattle.basics.specs.Refusing.{refusal}
+use Rattle.basics.proofs.AllEntries.{All, none, more}
+use Rattle.basics.proofs.Stores.{front-take, front-length}
 use Rattle.grammar.specs.declared.Token.{Token}
 use Rattle.grammar.specs.declared.Parsed.{Parsed}
 use Rattle.grammar.specs.Tokens.{tokens}
@@ -24,15 +25,15 @@ use Rattle.grammar.specs.Grammar.{Tree, nodes}
 use Rattle.grammar.specs.Answers.{padded, handed, codesOf, placesOf, accepted}
 use Rattle.grammar.specs.Written.{Formed}
 use Rattle.reader.specs.declared.Read.{Read}
-use Rattle.reader.specs.declared.sorts.Sorting.{Sorting}
-use Rattle.reader.specs.Lookup.{countOf, numberAt}
-use Rattle.reader.specs.Sorts.{Sorted, is, faulty, given, asked, sorted, sortedFor}
-use Rattle.reader.specs.Passes.{Run, going, stopped, settled, run, isNode, isVector, sortsOf, stackBytes}
-use Rattle.reader.specs.Passes.{Shows, goes, stops, Listed, Handed, Shown, sortAt}
+use Rattle.sorting.specs.declared.sorts.Sorting.{Sorting}
+use Rattle.sorting.specs.Lookup.{numberAt}
+use Rattle.sorting.specs.Sorts.{Sorted, is, faulty, given, asked, sorted}
+use Rattle.sorting.specs.Passes.{going, stopped, settled, isNode, isVector, stackBytes}
+use Rattle.sorting.specs.Passes.{Shows, goes, stops, Handed, Shown, sortAt}
 use Rattle.reader.specs.Reads.{made, refusedWith, answered, hasSort, Grown}
-use Rattle.reader.proofs.Codes.{formed-nodes}
-use Rattle.reader.proofs.Runs.{run-tree}
-use Rattle.reader.proofs.Stacks.{top-sort, shows-depth, shows-stopped}
+use Rattle.sorting.proofs.NodeCodes.{formed-nodes}
+use Rattle.sorting.proofs.NodeRuns.{run-tree}
+use Rattle.sorting.proofs.Stacks.{top-sort, shows-depth, shows-stopped}
 
 pub all-at :
     (Q : ℕ → Type 0) (f : Token → ℕ) {ns : List Token} →
@@ -45,8 +46,7 @@ all-at Q f (more q qs) zs zero h = q
 all-at Q f (more q qs) zs (suc i) h = all-at Q f qs zs i (omega arith)
 
 padded-length : (xs : List ℕ) → length xs ≤ 256 → length (padded xs) ≡ 256
-unfolding padded
-padded-length xs h = rw (length-append, length-replicate {A = ℕ} (256 - length xs) 0) (omega arith)
+padded-length xs h = front-length (replicate 256 0) xs h
 
 -- the parser's lists hold the nodes
 tokens-of : (ns : List Token) → tokens (codesOf ns) (placesOf ns) ≡ ns
@@ -55,12 +55,11 @@ tokens-of [] = refl
 tokens-of (n ∷ ns) = ap (λ (ts : List Token). n ∷ ts) (tokens-of ns)
 
 pub handed-nodes : (ns : List Token) → handed (padded (codesOf ns)) (padded (placesOf ns)) (length ns) ≡ ns
-unfolding padded
 handed-nodes ns =
     rw (
-      take-at (codesOf ns) (replicate (256 - length (codesOf ns)) 0) (length ns)
+      front-take (replicate 256 0) (codesOf ns) (length ns)
           (length-map ns (λ (t : Token). t .code)),
-      take-at (placesOf ns) (replicate (256 - length (placesOf ns)) 0) (length ns)
+      front-take (replicate 256 0) (placesOf ns) (length ns)
           (length-map ns (λ (t : Token). t .place)),
     )
     (tokens-of ns)
@@ -68,7 +67,6 @@ handed-nodes ns =
 -- what the pass asks of them
 pub nodes-handed : {names text : List ℕ} {p : Parsed} → Grown names text p
     → Handed names text (p .codes) (p .places) (p .len)
-unfolding padded
 nodes-handed {names} {text} {p} g =
     rw (g .is-tree)
     (record {
@@ -121,7 +119,7 @@ sort-taken the-sort.Vector (vector p) bytes e = refl
 
 -- what is shown at the end is what is read
 shown-made : {s : Sorting} (x : Expression) → Shows s (going (x ∷ []))
-    → record { refused = false; refusal = record { number = 0; place = 0 }; len = s .len; tree = s .tree } ≡ made x
+    → record { refused = false; refusal = refusal 0 0; len = s .len; tree = s .tree } ≡ made x
 unfolding made stackBytes
 shown-made x (goes o d k l t) = rw (l, t)
 
@@ -158,7 +156,7 @@ module _ {s : Sorting} (sort : Sort) (bytes : ℕ) where
       Shows s (settled q []) →
       s .ok ≡ true →
       hasSort sort (getD (s .sorts) 0 false) ≡ true →
-      record { refused = false; refusal = record { number = 0; place = 0 }; len = s .len; tree = s .tree }
+      record { refused = false; refusal = refusal 0 0; len = s .len; tree = s .tree }
       ≡ answered (given q (asked sort bytes))
   unfolding settled given answered
   answer-read (is x) w o e =

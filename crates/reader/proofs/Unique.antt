@@ -4,33 +4,31 @@
 --   read-sound      what is read is what the text gives; the list of names is good and the text has at most 4,096 bytes
 --   gives-read      and a text that gives an expression, with such names and such a length, is read as it
 --   read-complete   and as nothing else
--- Assumes nothing.
 use mathlib.Core.Path.{_≡_, refl, sym, ap, _∙_}
 use mathlib.Core.Bool.{false}
-use mathlib.Core.List.{List, [], _∷_, _++_}
-use Prim.Native.Nat.{ℕ, _≤_, _<_}
+use mathlib.Core.List.{List, _++_}
+use Prim.Native.Nat.{ℕ, _≤_}
 use native.Mathlib.Omega.{arith}
 use lib.ListN.{length}
 use Rattle.alf.specs.declared.Sort.{Sort}
 use Rattle.alf.specs.Expressions.{Expression, boolean, vector}
-use Rattle.alf.specs.Refusals.{Row, Passed, First}
-use Rattle.alf.proofs.Bools.{never}
+use Rattle.alf.specs.Refusals.{Row, Passed}
+use Rattle.basics.proofs.Bools.{never}
 use Rattle.alf.proofs.Outcomes.{Fixed, AllFixed, at-fixed, first-fixed, first-of-fixed, refused-passed, refused-unique}
 use Rattle.names.specs.Check.{namesOrder}
-use Rattle.names.proofs.Orders.{fixed-both, passed-left, passed-right}
+use Rattle.alf.proofs.Orders.{fixed-both, passed-left, passed-right}
 use Rattle.tokens.specs.Texts.{Token, Reads, deep, many, order}
 use Rattle.tokens.proofs.TextLaws.{reads-unique, reads-not-stuck}
 use Rattle.tokens.proofs.ReadingLaws.{of-tokens-fixes, order-fixes}
 use Rattle.grammar.specs.Grammar.{Tree}
 use Rattle.grammar.proofs.Unique.{parses-unique}
 use Rattle.reader.specs.declared.Read.{Read}
-use Rattle.reader.specs.Sorts.{Sorted, is, faulty}
-use Rattle.reader.specs.Texts.{tokensOf}
-use Rattle.reader.specs.Reads.{made, refusedWith}
+use Rattle.sorting.specs.Sorts.{Sorted, is, faulty}
+use Rattle.reader.specs.Reads.{made, refusedBy, refusedWith}
 use Rattle.reader.specs.Reading.{tooLarge, OfTree, stuck, unknown, sortedIn, treeOrder, readOrder}
 use Rattle.reader.specs.Reading.{Gives, Reading, refused, read}
 use Rattle.reader.proofs.Readings.{read-clear}
-use Rattle.reader.proofs.Whole.{text-short}
+use Rattle.reader.proofs.TokenedTexts.{text-short}
 
 -- each row fixes its place
 same-tree : {text : List ℕ} {row row′ : Tree → Row} {p q : ℕ} (a : OfTree text row p) (b : OfTree text row′ q)
@@ -93,7 +91,7 @@ pub record Read-as (names text : List ℕ) (sort : Sort) (r : Read) : Type 0 whe
 
 pub read-sound : {names text : List ℕ} {sort : Sort} {r : Read} → Reading names text sort r → r .refused ≡ false
     → Read-as names text sort r
-unfolding made refusedWith
+unfolding made refusedBy
 read-sound (refused n p a) e = never (sym e)
 read-sound {names} {text} {sort} (read {x = x} a g) e =
     record {

@@ -2,29 +2,27 @@
 --   unknown-here    where the search ends at a token, the row is given at its byte
 --   unknown-never   where it ends at none, the row is given nowhere
 --   names-numbered  and then the number of each name is that of a slot
--- Assumes nothing.
-use mathlib.Core.Path.{_≡_, refl, sym, ap, subst, _∙_}
-use mathlib.Core.Bool.{Bool, true, false, _&&_}
-use mathlib.Core.List.{List, [], _∷_, _++_}
+use mathlib.Core.Path.{_≡_, refl, sym, subst}
+use mathlib.Core.Bool.{Bool, true, false}
+use mathlib.Core.List.{List, [], _∷_}
 use mathlib.Core.Logic.{_⊎_, inl, inr}
-use Prim.Native.Nat.{ℕ, zero, suc, _+_, _≤_, _<_}
+use Prim.Native.Nat.{ℕ, zero, suc, _≤_, _<_}
 use native.Mathlib.Omega.{arith}
 use lib.Dec.{eqb}
 use lib.ListN.{length, getD}
-use borrow.Author.Tests.{eqb-true, eqb-false, eq-eqb}
+use borrow.Author.Tests.{eqb-true, eqb-false}
 use Rattle.alf.specs.Names.{nameAt}
-use Rattle.alf.specs.Refusals.{First}
-use Rattle.alf.proofs.Bools.{never, and-left, and-right, below?}
-use Rattle.alf.proofs.Lists.{All, none, more}
+use Rattle.basics.proofs.Bools.{and-left, and-right, below?}
+use Rattle.basics.proofs.AllEntries.{All, none, more}
 use Rattle.grammar.specs.declared.Token as node
 use Rattle.grammar.specs.Tokens.{tokens}
 use Rattle.tokens.specs.Texts.{Token, tokenAt}
 use Rattle.tokens.specs.Reading.{codesOf, placesOf}
 use Rattle.tokens.proofs.Places.{Rising, rising-at}
-use Rattle.reader.specs.Lookup.{word, countOf, numberAt, isUnknown, first, unknownAt}
+use Rattle.sorting.specs.Lookup.{word, countOf, numberAt, isUnknown, unknownAt}
 use Rattle.reader.specs.Texts.{tokensOf}
 use Rattle.reader.specs.Reading.{Stands, here, there, Unknown, unknown}
-use Rattle.reader.proofs.Names.{number-found, first-passes, first-before, first-bound}
+use Rattle.sorting.proofs.SlotNumbers.{number-found, first-passes, first-before}
 
 -- a name by its index
 token-is : (t : Token) → t .code ≡ 0 → tokenAt 0 (t .place) ≡ t
@@ -35,7 +33,6 @@ at-head t ts e = subst (λ (u : Token). Stands (t .place) (u ∷ ts)) (token-is 
 
 stands-at : (ts : List Token) (i : ℕ) → i < length ts → getD (codesOf ts) i 0 ≡ 0
     → Stands (getD (placesOf ts) i 0) ts
-unfolding codesOf placesOf
 stands-at [] i h e = absurd (omega arith)
 stands-at (t ∷ ts) zero h e = at-head t ts e
 stands-at (t ∷ ts) (suc i) h e = there (stands-at ts i (omega arith) e)
@@ -47,7 +44,6 @@ record Indexed (ts : List Token) (p : ℕ) : Type 0 where
   place : getD (placesOf ts) index 0 ≡ p
 
 indexed : {p : ℕ} {ts : List Token} → Stands p ts → Indexed ts p
-unfolding codesOf placesOf
 indexed here = record { index = 0; within = omega arith; code = refl; place = refl }
 indexed (there s) =
     let r = indexed s in
@@ -58,7 +54,6 @@ indexed (there s) =
 rising-le :
     (ts : List Token) (lo i j : ℕ) → Rising lo ts → i ≤ j → j < length ts
     → getD (placesOf ts) i 0 ≤ getD (placesOf ts) j 0
-unfolding placesOf
 rising-le [] lo i j r l h = absurd (omega arith)
 rising-le (t ∷ ts) lo zero zero r l h = omega arith
 rising-le (t ∷ ts) lo zero (suc j) r l h =
@@ -125,7 +120,7 @@ pub names-numbered :
     (names bytes : List ℕ) (ts : List Token) →
     ((p : ℕ) → Unknown names bytes ts p → ⊥) →
     All (λ (t : node.Token). t .code ≡ 0 → numberAt names bytes (t .place) < countOf names) (tokensOf ts)
-unfolding tokens codesOf placesOf
+unfolding tokens
 names-numbered names bytes [] known = none
 names-numbered names bytes (t ∷ ts) known =
     more {x = record { code = t .code; place = t .place }}

@@ -1,8 +1,5 @@
--- What reading an expression means, from the tokens on: the names, the sorts, the whole call.
-pub mod Lookup
-pub mod Sorts
-pub mod Passes
+-- What reading an expression means, from the tokens on: the whole call. Names and sorts are in the crate `sorting`.
 pub mod Reads
 pub mod Texts
 pub mod Reading
-pub mod Whole
+pub mod Tokened

@@ -1,6 +1,13 @@
 -- Document 01, "Numbers for refused work", for a text: rows 5 to 8 over the text's tokens and its tree, the whole
--- order,
--- and what is read. That any two answers coincide is shown in proofs/Unique.antt.
+-- order, and what is read. That any two answers coincide is shown in proofs/Unique.antt.
+--   stuck                               5
+--   Stands, Unknown, unknown            6
+--   fault, own, faults, faultsFor, faultsIn, unsorted     7
+--   tooLarge                            8
+--   OfTree, sortedIn                    a row that speaks of the text's tree; what the tree is sorted as
+--   treeOrder, readOrder                rows 5 to 8; all rows in their order
+--   Gives, Reading                      what a text gives, and what is read
+--   Clear, Unlimited                    the same, limit 8 aside
 use Prim.Native.Nat.{ℕ, _<_}
 use mathlib.Core.Path.{_≡_}
 use mathlib.Core.List.{List, [], _∷_, _++_}
@@ -18,8 +25,8 @@ use Rattle.grammar.specs.Grammar.{Tree, leaf, one, two, three}
 use Rattle.grammar.specs.Answers.{Stuck}
 use Rattle.grammar.specs.declared.Token as node
 use Rattle.reader.specs.declared.Read.{Read}
-use Rattle.reader.specs.Lookup.{word, countOf, numberAt}
-use Rattle.reader.specs.Sorts.{Sorted, is, faulty, ofOne, ofTwo, ofThree, asked, sorted, sortedFor}
+use Rattle.sorting.specs.Lookup.{word, countOf, numberAt}
+use Rattle.sorting.specs.Sorts.{Sorted, is, faulty, ofOne, ofTwo, ofThree, asked, sorted, sortedFor}
 use Rattle.reader.specs.Texts.{tokensOf}
 use Rattle.reader.specs.Reads.{made, refusedWith}
 

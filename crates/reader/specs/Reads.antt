@@ -1,35 +1,43 @@
 -- What a call that reads gives back: the bytes of the expression, or a refusal and no bytes.
+--   made, refusedBy, refusedWith, answered     read; refused; what the pass over the nodes comes to
+--   hasSort                                    whether an expression has the sort asked for
+--   Grown, Answered                            a parser's answer, and what is read for it
 use Prim.Native.Nat.{ℕ, _≤_}
 use mathlib.Core.Path.{_≡_}
 use mathlib.Core.Bool.{Bool, true, false, not}
 use mathlib.Core.List.{List, []}
 use lib.ListN.{length}
+use Rattle.basics.specs.declared.Refusal.{Refusal}
+use Rattle.basics.specs.Refusing.{refusal}
 use Rattle.alf.specs.declared.Sort.{Sort}
 use Rattle.alf.specs.declared.Sort.the-variants as the-sort
 use Rattle.alf.specs.Expressions.{Expression}
 use Rattle.alf.specs.Bytes.{bytesOf}
-use Rattle.alf.proofs.Lists.{All}
+use Rattle.basics.proofs.AllEntries.{All}
 use Rattle.grammar.specs.declared.Token.{Token}
 use Rattle.grammar.specs.declared.Parsed.{Parsed}
 use Rattle.grammar.specs.Grammar.{Tree, nodes}
 use Rattle.grammar.specs.Answers.{padded, accepted}
 use Rattle.grammar.specs.Written.{Formed}
 use Rattle.reader.specs.declared.Read.{Read}
-use Rattle.reader.specs.Lookup.{countOf, numberAt}
-use Rattle.reader.specs.Sorts.{Sorted, is, faulty, sortedFor}
+use Rattle.sorting.specs.Lookup.{countOf, numberAt}
+use Rattle.sorting.specs.Sorts.{Sorted, is, faulty, sortedFor}
 
 unfoldable pub made : Expression → Read
 made x =
     record {
       refused = false;
-      refusal = record { number = 0; place = 0 };
+      refusal = refusal 0 0;
       len = length (bytesOf x);
       tree = padded (bytesOf x);
     }
 
-unfoldable pub refusedWith : ℕ → ℕ → Read
-refusedWith n p =
-    record { refused = true; refusal = record { number = n; place = p }; len = 0; tree = padded [] }
+-- refused: nothing read
+unfoldable pub refusedBy : Refusal → Read
+refusedBy r = record { refused = true; refusal = r; len = 0; tree = padded [] }
+
+abbrev pub refusedWith : ℕ → ℕ → Read
+refusedWith n p = refusedBy (refusal n p)
 
 -- the expression, or 7 at the place of the first fault
 unfoldable pub answered : Sorted → Read

@@ -1,4 +1,4 @@
--- The tokens of a text, as the grammar takes them.
+-- The tokens of a text, as the grammar takes them: tokensOf.
 use mathlib.Core.List.{List}
 use Rattle.tokens.specs.Texts as text
 use Rattle.tokens.specs.Reading.{codesOf, placesOf}

@@ -1,28 +1,25 @@
-// Reading an expression: from a text to a tree, or refused. `lookup` finds the names, `sorts` makes the pass over the
-// nodes of a tree.
-mod lookup;
-mod sorts;
-
-use alf::Outcome;
-use alf::Refusal;
+// Reading an expression: from a text to a tree, or refused.
+use acceptance::sizes::Measured;
+use acceptance::sizes::measure;
 use alf::Sort;
+use basics::Outcome;
+use basics::Refusal;
+use basics::refusing::refusal_of;
 use grammar::Parsed;
-use grammar::parse;
-use limits::sizes::Measured;
-use limits::sizes::measure;
-use lookup::first_unknown;
 use names::check_names;
-use sorts::sort_nodes;
+use parser::parse;
+use sorting::lookup::first_unknown;
+use sorting::sorts::sort_nodes;
 use tokens::Tokens;
 use tokens::read_tokens;
 ghost use mathlib.Core.Path.{_≡_};
 ghost use Rattle.alf.specs.Refusals.{Passed};
 ghost use Rattle.names.specs.Check.{namesOrder};
-ghost use Rattle.reader.specs.Reads.{refusedWith, hasSort, Grown, Answered};
+ghost use Rattle.reader.specs.Reads.{refusedBy, refusedWith, hasSort, Grown, Answered};
 ghost use Rattle.alf.specs.Alternatives.{alternatives, overLimit};
 ghost use Rattle.trees.specs.Parts.{EndsVector, vectorAt};
 ghost use Rattle.reader.specs.Reading.{Unlimited, Reading};
-ghost use Rattle.reader.specs.Whole.{Tokened};
+ghost use Rattle.reader.specs.Tokened.{Tokened};
 
 // What is read: the first `len` entries of `tree`, with zeros behind them. None where the text is refused.
 pub struct Read {
@@ -32,17 +29,23 @@ pub struct Read {
     pub tree: [u8; 256],
 }
 
-// Nothing read.
-fn refuse(number: u8, place: usize) -> Read
-    ensures { λ r. ⌜ r ≡ refusedWith number place ⌝ }
+// Nothing read, but a refusal.
+fn hand_on(refusal: Refusal) -> Read
+    ensures { λ r. ⌜ r ≡ refusedBy refusal ⌝ }
 {
     let tree = [0u8; 256];
     Read {
         refused: true,
-        refusal: Refusal { number, place },
+        refusal,
         len: 0,
         tree,
     }
+}
+
+fn refuse_text(number: u8, place: usize) -> Read
+    ensures { λ r. ⌜ r ≡ refusedWith number place ⌝ }
+{
+    hand_on(refusal_of(number, place))
 }
 
 // Whether an expression, a vector or not, has the sort.
@@ -64,19 +67,16 @@ fn read_nodes(names: &[u8], text: &[u8], parsed: Parsed, sort: Sort) -> Read
     let places = parsed.places;
     let s = sort_nodes(names, text, &codes, &places, parsed.len);
     if !s.ok {
-        return refuse(7, s.place);
+        return refuse_text(7, s.place);
     }
     if !has_sort(sort, s.sorts[0]) {
-        return refuse(7, text.len());
+        return refuse_text(7, text.len());
     }
     let len = s.len;
     let tree = s.tree;
     Read {
         refused: false,
-        refusal: Refusal {
-            number: 0,
-            place: 0,
-        },
+        refusal: refusal_of(0, 0),
         len,
         tree,
     }
@@ -92,11 +92,11 @@ fn read_tokened(names: &[u8], text: &[u8], t: Tokens, sort: Sort) -> Read
     let places = t.places;
     let parsed = parse(&codes, &places, count, text.len());
     if !parsed.ok {
-        return refuse(5, parsed.place);
+        return refuse_text(5, parsed.place);
     }
     let u = first_unknown(names, text, &codes, &places, count);
     if u < count {
-        return refuse(6, places[u] as usize);
+        return refuse_text(6, places[u] as usize);
     }
     read_nodes(names, text, parsed, sort)
 }
@@ -108,7 +108,7 @@ fn read_text(names: &[u8], text: &[u8], sort: Sort) -> Read
 {
     let t = read_tokens(text);
     if t.refused {
-        return refuse(t.refusal.number, t.refusal.place);
+        return hand_on(t.refusal);
     }
     read_tokened(names, text, t, sort)
 }
@@ -137,7 +137,7 @@ fn limit(names: &[u8], text: &[u8], sort: Sort, r: Read) -> Read
     }
     let tree = r.tree;
     if is_over(&tree, r.len, names.len() / 32) {
-        return refuse(8, 0);
+        return refuse_text(8, 0);
     }
     r
 }
@@ -148,7 +148,7 @@ pub fn read_expression(names: &[u8], text: &[u8], sort: Sort) -> Read
     ensures { λ r. ⌜ Reading (now (names .entry)) (now (text .entry)) sort r ⌝ }
 {
     match check_names(names) {
-        Outcome::Refused(r) => refuse(r.number, r.place),
+        Outcome::Refused(r) => hand_on(r),
         Outcome::Done(count) => limit(names, text, sort, read_text(names, text, sort)),
     }
 }

@@ -1,5 +1,5 @@
 -- What holds of each operand of an expression holds of the operand of each test of its alternatives.
--- Main names: Asks, alternatives-ask; all-joined. Assumes nothing.
+-- Main names: Asks, alternatives-ask; all-joined.
 use Prim.Native.Nat.{ℕ, zero, suc, _-_}
 use mathlib.Core.List.{List, _++_}
 use lib.ListN.{length}
@@ -7,9 +7,10 @@ use Rattle.alf.specs.Expressions.{Boolean, Edge, Vector}
 use Rattle.alf.specs.Expressions.{Join, followed-by, either-order, with-or-then, any-order, with, or-else}
 use Rattle.alf.specs.Alternatives.{Test, test, Alternative, padded, zipped, overlaid, conditioned}
 use Rattle.alf.specs.Alternatives.{rewritten, alternatives}
-use Rattle.alf.proofs.Lists.{All, none, more, all-append, all-map, all-each}
+use Rattle.basics.proofs.AllEntries.{All, none, more, all-append, all-map}
+use Rattle.alf.proofs.EachAll.{all-each}
 use Rattle.rewriting.specs.Lists.{joined}
-use Rattle.rewriting.proofs.Places.{Each, of-edge, of-join, of-while}
+use Rattle.step_tests.proofs.Places.{Each, of-edge, of-join, of-while}
 
 pub all-joined : {A : Type 0} {P : A → Type 0} {xs : List (List A)} → All (All P) xs → All P (joined xs)
 unfolding joined

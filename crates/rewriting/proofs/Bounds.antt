@@ -1,7 +1,7 @@
 -- Limit 8, for the alternatives of an accepted tree with their operands as places: at most 64, of at most 16 steps and
 -- 64 tests each; so the lists have at most 64, 1,024 and 4,096 entries.
 -- Main names: accepted-limited, Bounded, accepted-bounded; few-steps, few-tests; shape-exact, count-exact,
--- accepted-chosen. Assumes nothing.
+-- accepted-chosen.
 use Prim.Native.Nat.{ℕ, zero, suc, _+_, _*_, _<_, _≤_, min}
 use native.Mathlib.Omega.{arith}
 use native.Mathlib.Nat.{suc-mul}
@@ -11,21 +11,21 @@ use mathlib.Core.List.{List, [], _∷_, map}
 use lib.Dec.{ltb}
 use lib.ListN.{length, getD, length-append, length-map}
 use borrow.Author.Tests.{ltb-false}
-use Rattle.alf.specs.Words.{greatestOf, sumOf}
+use Rattle.basics.specs.Words.{greatestOf, sumOf}
 use Rattle.alf.specs.Expressions.{Vector, Expression, boolean, vector}
 use Rattle.alf.specs.Bytes.{topVector, Decodes}
 use Rattle.alf.specs.Alternatives.{Test, Alternative, alternatives, tests, numberOfAlternatives, stepsOf, overLimit}
 use Rattle.alf.specs.declared.Sort.{Sort}
 use Rattle.alf.specs.declared.Sort.the-variants as sort
-use Rattle.alf.proofs.Bools.{never, or-left, or-right}
+use Rattle.basics.proofs.Bools.{never, or-left, or-right}
 use Rattle.trees.specs.Parts.{vectorAt}
-use Rattle.limits.specs.Accepted.{sortOf, overSize, Accepted, Limited}
-use Rattle.limits.specs.Sizes.{alternativeAt, Chosen, Shaped}
-use Rattle.limits.proofs.Acceptance.{accepted-vector}
+use Rattle.acceptance.specs.Accepted.{sortOf, overSize, Accepted, Limited}
+use Rattle.acceptance.specs.Sizes.{alternativeAt, Chosen, Shaped}
+use Rattle.acceptance.proofs.Acceptance.{accepted-vector}
 use Rattle.rewriting.specs.Lists.{joined, alternativesAt, alternativeOf}
-use Rattle.rewriting.proofs.Operands.{testOn}
+use Rattle.step_tests.proofs.Exchanging.{testOn}
 use Rattle.rewriting.proofs.Joining.{joined-append, joined-map}
-use Rattle.rewriting.proofs.Places.{edgeBack, operandBack}
+use Rattle.step_tests.proofs.Places.{edgeBack, operandBack}
 use Rattle.rewriting.proofs.Meaning.{alternatives-back}
 
 isVectorSort : Sort → Bool

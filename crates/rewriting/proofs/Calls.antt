@@ -1,6 +1,6 @@
 -- What the calls come to, return by return.
 -- Main names: short-steps, short-tests, short-edges, short-operands, delivered, enough;
--- comes-18, comes-10, comes-on; refused-18, refused-10, passed-on. Assumes nothing.
+-- comes-18, comes-10, comes-on; refused-18, refused-10, passed-on.
 use Prim.Native.Nat.{ℕ, _<_, _≤_}
 use native.Mathlib.Omega.{arith}
 use mathlib.Core.Path.{_≡_, refl, sym, _∙_}
@@ -10,16 +10,19 @@ use mathlib.Core.List.{List}
 use lib.Dec.{leb}
 use lib.ListN.{length}
 use borrow.Author.Tests.{leb-true, leb-false}
-use Rattle.alf.specs.declared.Outcome.{Outcome}
-use Rattle.alf.specs.declared.Outcome.the-variants.{Done, Refused}
+use Rattle.basics.specs.Refusing.{refusal}
+use Rattle.basics.specs.declared.Outcome.{Outcome}
+use Rattle.basics.specs.declared.Outcome.the-variants.{Done, Refused}
 use Rattle.alf.specs.declared.Sort.the-variants.{Vector}
 use Rattle.alf.specs.Alternatives.{Alternative, numberOfAlternatives}
 use Rattle.alf.specs.Refusals.{Order, check, no-room, NameCount, Never, RefusedWith, Passed, Comes}
-use Rattle.limits.specs.Accepted.{Accepted, Decides}
+use Rattle.acceptance.specs.Accepted.{Accepted}
+use Rattle.basics.specs.Deciding.{Decides}
 use Rattle.rewriting.specs.Lists.{alternativesAt, stepList, testList, edgeList, operandList}
 use Rattle.rewriting.specs.Lists.{Long, Filled, Fillable}
-use Rattle.rewriting.specs.Calls.{treeOrder, roomOrder, after, After, Delivers, Rewrites}
-use Rattle.rewriting.proofs.Operands.{placed-number}
+use Rattle.rewriting.specs.Calls.{treeOrder, roomOrder, After, Delivers, Rewrites}
+use Rattle.basics.specs.Memory.{after}
+use Rattle.step_tests.proofs.Exchanging.{placed-number}
 use Rattle.rewriting.proofs.Holding.{step-entries, test-entries, edge-entries, operand-entries}
 
 -- 1 to 32 names
@@ -37,7 +40,7 @@ some-names n f = go (leb n 32) refl
 
 -- refused: all lists stay
 stay : {xs : List Alternative} {steps tests edges operands : List ℕ} {n p : ℕ}
-    → After xs steps tests edges operands steps tests edges operands (Refused (record { number = n; place = p }))
+    → After xs steps tests edges operands steps tests edges operands (Refused (refusal n p))
 unfolding after
 stay = record { steps-are = refl; tests-are = refl; edges-are = refl; operands-are = refl }
 
@@ -57,7 +60,7 @@ module _ {xs : List Alternative} {n m k : ℕ} (l : Long xs n m k) where
 
 module _ {xs : List Alternative} (steps tests edges operands : List ℕ) {n m k : ℕ} (l : Long xs n m k) where
   abbrev Refuses : ℕ → Outcome → Type 0
-  Refuses p r = r ≡ Refused (record { number = 9; place = p })
+  Refuses p r = r ≡ Refused (refusal 9 p)
       → Delivers xs steps tests edges operands steps tests edges operands r
 
   pub short-steps : {r : Outcome} → length steps < n → Refuses n r
@@ -139,13 +142,13 @@ enough a l b c d e =
 -- 18 and 10 before it
 module _ (names : ℕ) (tree : List ℕ) (others : Order) (made : ℕ → Type 0) where
   pub comes-18 : (NameCount names → ⊥)
-      → Comes (treeOrder names tree others) made (Refused (record { number = 18; place = 0 }))
+      → Comes (treeOrder names tree others) made (Refused (refusal 18 0))
   unfolding Comes RefusedWith treeOrder
   comes-18 f = inl (refl, record { given = f; there = refl })
 
   module _ (n : NameCount names) where
     pub comes-10 : (Accepted names Vector tree → ⊥)
-        → Comes (treeOrder names tree others) made (Refused (record { number = 10; place = 0 }))
+        → Comes (treeOrder names tree others) made (Refused (refusal 10 0))
     unfolding Comes RefusedWith treeOrder
     comes-10 f = inr ((λ p r. r .given n), inl (refl, record { given = f; there = refl }))
 
@@ -166,12 +169,12 @@ module _ (names : ℕ) (tree steps tests edges operands : List ℕ) where
   abbrev Stays : Outcome → Type 0
   Stays r = Rewrites names tree steps tests edges operands steps tests edges operands r
 
-  pub refused-18 : {r : Outcome} → (NameCount names → ⊥) → r ≡ Refused (record { number = 18; place = 0 })
+  pub refused-18 : {r : Outcome} → (NameCount names → ⊥) → r ≡ Refused (refusal 18 0)
       → Stays r
   refused-18 f e = rw e (record { outcome = comes-18 names tree _ _ f; memory = stay })
 
   pub refused-10 : {r : Outcome} → NameCount names → (Accepted names Vector tree → ⊥)
-      → r ≡ Refused (record { number = 10; place = 0 }) → Stays r
+      → r ≡ Refused (refusal 10 0) → Stays r
   refused-10 n f e = rw e (record { outcome = comes-10 names tree _ _ n f; memory = stay })
 
   pub passed-on : {steps′ tests′ edges′ operands′ : List ℕ} {r : Outcome} → NameCount names

@@ -1,39 +1,37 @@
 -- The lists of a tree, one step and one alternative after the other: what is known when those before are written.
---   sets-next                                    a list of f of each thing, stored up to one thing more
+--   mapped-there, mapped-at                      an entry of f of each thing
 --   Counting, counting-first, -next, -end        how long the lists are
 --   Walking, walking-first, -next, -end          the steps of an alternative
 --   Filling, filling-first, -next, -end          the alternatives
--- Assumes nothing.
 use Prim.Native.Nat.{ℕ, zero, suc, _+_, _-_, _<_, _≤_}
 use native.Mathlib.Omega.{arith}
-use native.Mathlib.Nat.{zero-add}
-use native.Mathlib.Numerals.{add-one}
 use mathlib.Core.Path.{_≡_, refl, ap, sym, _∙_}
 use mathlib.Core.List.{List, [], _∷_, _++_, map, map-append}
 use lib.ListN.{length, getD, take, set, length-append, length-map}
-use lib.Seq.{sets, length-sets, take-suc, take-all, length-take-le}
+use lib.Seq.{sets, length-sets, take-all}
 use Rattle.alf.specs.Alternatives.{Alternative}
-use Rattle.rewriting.specs.Codes.{numbers, ends}
-use Rattle.rewriting.specs.Steps.{Put}
+use Rattle.step_tests.specs.OperandPlaces.{numbers, ends}
+use Rattle.step_tests.specs.Steps.{Put}
 use Rattle.rewriting.specs.Lists.{joined, stepList, testList, edgeList, operandList, Long, Filled}
-use Rattle.rewriting.proofs.Joining.{joined-append, joined-next, joined-part, sets-laid}
-use Rattle.rewriting.proofs.Puts.{sets-append, put-none, put-then, put-lengths}
+use Rattle.rewriting.proofs.Joining.{joined-append, joined-next, joined-part}
+use Rattle.step_tests.proofs.Puts.{put-none, put-then, put-lengths}
+use Rattle.basics.proofs.Entries.{getD-map}
+use Rattle.basics.proofs.Stores.{sets-append, sets-front, Writing, writing-first, writing-length, writing-next}
+use Rattle.basics.proofs.Stores.{writing-next-front, writing-end, writing-front}
 
--- stores of f of each of some things: one thing more, some things more
-pub sets-next : {A : Type 0} (f : A → ℕ) (l : List ℕ) (i : ℕ) (xs : List A) (t : ℕ) (d : A) {v : ℕ}
-    → t < length xs
-    → v ≡ f (getD xs t d) → set (sets l i (map f (take t xs))) (i + t) v ≡ sets l i (map f (take (t + 1) xs))
-sets-next f l i xs t d {v} h e =
-    let n = length-map (take t xs) f ∙ length-take-le t xs (omega arith) in
-    rw (e, add-one, take-suc xs t d h, map-append f (take t xs) (getD xs t d ∷ []))
-    (ap (λ (k : ℕ). set (sets l i (map f (take t xs))) (i + k) (f (getD xs t d))) (sym n)
-    ∙ sym (sets-append l i (map f (take t xs)) (f (getD xs t d) ∷ [])))
+-- f of each of some things: an entry, and stores of some things more
+module _ {A : Type 0} (f : A → ℕ) (xs : List A) {t : ℕ} where
+  pub mapped-there : t < length xs → t < length (map f xs)
+  mapped-there h = rw length-map h
+
+  pub mapped-at : (d : A) {v : ℕ} → t < length xs → v ≡ f (getD xs t d) → v ≡ getD (map f xs) t 0
+  mapped-at d h e = e ∙ sym (getD-map f xs t d 0 h)
 
 sets-more : {A : Type 0} (f : A → ℕ) (l : List ℕ) (xs ys : List A) {s : ℕ} → s ≡ length xs
     → sets (sets l 0 (map f xs)) s (map f ys) ≡ sets l 0 (map f (xs ++ ys))
 sets-more f l xs ys e =
     let n : 0 + length (map f xs) ≡ length xs = omega (arith, length-map xs f) in
-    rw (e, map-append f xs ys, ← n) (sym (sets-append l 0 (map f xs) (map f ys)))
+    rw (e, map-append f xs ys, ← n) (sets-append l 0 (map f xs) (map f ys))
 
 -- the tests of one alternative more
 tests-next : (xs : List Alternative) (t : ℕ) → t < length xs
@@ -103,13 +101,13 @@ module _ {xs : List Alternative} {s n t : ℕ} (g : Counting xs s n t) where
 pub record Walking (x : Alternative) (tests₀ : List ℕ) (s : ℕ) (edges₀ operands₀ : List ℕ) (from : ℕ)
     (tests edges operands : List ℕ) (at j : ℕ) : Type 0 where
   pub within : j ≤ length x
-  pub counts : tests ≡ sets tests₀ s (map length (take j x))
+  pub counts : Writing tests₀ s (map length x) tests j
   pub put : Put (joined (take j x)) from edges₀ operands₀ at edges operands
 
 module _ {x : Alternative} {tests₀ : List ℕ} {s : ℕ} {edges₀ operands₀ : List ℕ} {from : ℕ} where
   pub walking-first : Walking x tests₀ s edges₀ operands₀ from tests₀ edges₀ operands₀ from 0
   unfolding joined
-  walking-first = record { within = omega arith; counts = refl; put = put-none }
+  walking-first = record { within = omega arith; counts = writing-first; put = put-none }
 
   module _ {tests edges operands : List ℕ} {at j : ℕ}
       (g : Walking x tests₀ s edges₀ operands₀ from tests edges operands at j) where
@@ -117,7 +115,7 @@ module _ {x : Alternative} {tests₀ : List ℕ} {s : ℕ} {edges₀ operands₀
         × (length operands ≡ length operands₀)
     walking-lengths =
         let p = put-lengths (g .put) in
-        (ap length (g .counts) ∙ length-sets tests₀ s (map length (take j x)), p .0, p .1)
+        (writing-length (g .counts), p .0, p .1)
 
     pub walking-room : j < length x → at + length (getD x j []) ≤ from + length (joined x)
     walking-room l = omega (arith, g .put .next-is, joined-part x j l)
@@ -129,20 +127,22 @@ module _ {x : Alternative} {tests₀ : List ℕ} {s : ℕ} {edges₀ operands₀
         let n : v ≡ length (getD x j []) = omega (arith, p .next-is) in
         record {
           within = omega arith;
-          counts = rw (g .counts) (sets-next length tests₀ s x j [] l n);
+          counts = writing-next (g .counts) (mapped-there length x l) (mapped-at length x [] l n);
           put = rw (joined-next x j l) (put-then (g .put) p);
         }
 
     pub walking-end : length x ≤ j → (tests ≡ sets tests₀ s (map length x))
         × Put (joined x) from edges₀ operands₀ at edges operands
-    walking-end l = let e = take-all j x l in (rw e at (g .counts), rw e at (g .put))
+    walking-end l =
+        let e = take-all j x l in
+        (writing-end (g .counts) (omega (arith, length-map x length)), rw e at (g .put))
 
 -- the alternatives
 pub record Filling (xs : List Alternative)
     (steps₀ tests₀ edges₀ operands₀ steps tests edges operands : List ℕ)
     (s from t : ℕ) : Type 0 where
   pub within : t ≤ length xs
-  pub steps-are : steps ≡ sets steps₀ 0 (map length (take t xs))
+  pub steps-are : Writing steps₀ 0 (map length xs) steps t
   pub tests-are : tests ≡ sets tests₀ 0 (map length (joined (take t xs)))
   pub put : Put (joined (joined (take t xs))) 0 edges₀ operands₀ from edges operands
   pub passed : s ≡ length (joined (take t xs))
@@ -151,7 +151,7 @@ module _ {xs : List Alternative} {steps₀ tests₀ edges₀ operands₀ : List 
   pub filling-first : Filling xs steps₀ tests₀ edges₀ operands₀ steps₀ tests₀ edges₀ operands₀ 0 0 0
   unfolding joined
   filling-first =
-      record { within = omega arith; steps-are = refl; tests-are = refl; put = put-none; passed = refl }
+      record { within = omega arith; steps-are = writing-first; tests-are = refl; put = put-none; passed = refl }
 
   module _ {steps tests edges operands : List ℕ} {s from t : ℕ}
       (g : Filling xs steps₀ tests₀ edges₀ operands₀ steps tests edges operands s from t) where
@@ -159,7 +159,7 @@ module _ {xs : List Alternative} {steps₀ tests₀ edges₀ operands₀ : List 
         × (length edges ≡ length edges₀) × (length operands ≡ length operands₀)
     filling-lengths =
         let p = put-lengths (g .put) in (
-          ap length (g .steps-are) ∙ length-sets steps₀ 0 (map length (take t xs)),
+          writing-length (g .steps-are),
           ap length (g .tests-are) ∙ length-sets tests₀ 0 (map length (joined (take t xs))),
           p .0,
           p .1,
@@ -181,7 +181,7 @@ module _ {xs : List Alternative} {steps₀ tests₀ edges₀ operands₀ : List 
     filling-next l e d p =
         record {
           within = omega arith;
-          steps-are = rw (g .steps-are) (rw zero-add at (sets-next length steps₀ 0 xs t [] l e));
+          steps-are = writing-next-front (g .steps-are) (mapped-there length xs l) (mapped-at length xs [] l e);
           tests-are = d ∙ rw (g .tests-are, joined-next xs t l)
               (sets-more length tests₀ (joined (take t xs)) (getD xs t []) (g .passed));
           put = rw (tests-next xs t l) (put-then (g .put) p);
@@ -200,8 +200,8 @@ module _ {xs : List Alternative} {steps₀ tests₀ edges₀ operands₀ : List 
         let e = take-all t xs l in
         let p = rw e at (g .put) in
         record {
-          steps-are = rw e at (g .steps-are) ∙ sets-laid steps₀ (map length xs) (rw length-map a);
-          tests-are = rw e at (g .tests-are) ∙ sets-laid tests₀ (map length (joined xs)) (rw length-map b);
-          edges-are = p .edges-is ∙ sets-laid edges₀ (numbers (joined (joined xs))) (rw length-map c);
-          operands-are = p .operands-is ∙ sets-laid operands₀ (ends (joined (joined xs))) (rw length-map d);
+          steps-are = writing-front (g .steps-are) (rw length-map l) (rw length-map a);
+          tests-are = rw e at (g .tests-are) ∙ sets-front tests₀ (map length (joined xs)) (rw length-map b);
+          edges-are = p .edges-is ∙ sets-front edges₀ (numbers (joined (joined xs))) (rw length-map c);
+          operands-are = p .operands-is ∙ sets-front operands₀ (ends (joined (joined xs))) (rw length-map d);
         }

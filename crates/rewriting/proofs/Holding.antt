@@ -1,22 +1,28 @@
 -- The lists of a tree by value: what their fronts are, that they have the shape and stand for the alternatives, and
--- that the whole value follows from the tree. Main names: arrays-fillable, holds, steps-within,
--- tests-within, edges-within, operands-within, holds-unique. Assumes nothing.
+-- that the whole value follows from the tree.
+--   step-entries, test-entries, edge-entries, operand-entries    how many entries each list has
+--   front-taken                     the front of a list that is laid over another
+--   arrays-fillable                 arrays have room for any tree that is accepted
+--   holds                           what is filled, as long as the counts say, holds the alternatives
+--   steps-within, tests-within, edges-within, operands-within    what is in use stands in the arrays
+--   holds-unique                    two such values of a tree are equal
 use Prim.Native.Nat.{ℕ, _≤_}
 use native.Mathlib.Omega.{arith}
 use mathlib.Core.Path.{_≡_, ap, sym, _∙_}
 use mathlib.Core.List.{List}
 use lib.ListN.{length, take, drop, replicate, length-append, length-map}
-use lib.Seq.{take-at}
+use lib.Seq.{take-at, length-take-le}
 use Rattle.alf.specs.Alternatives.{Alternative}
 use Rattle.alf.specs.declared.Sort.the-variants.{Vector}
-use Rattle.limits.specs.Accepted.{Accepted}
-use Rattle.limits.proofs.Acceptance.{accepted-vector}
+use Rattle.acceptance.specs.Accepted.{Accepted}
+use Rattle.acceptance.proofs.Acceptance.{accepted-vector}
 use Rattle.rewriting.specs.declared.lists.Alternatives.{Alternatives}
-use Rattle.rewriting.specs.Codes.{numberOf, endOf}
-use Rattle.rewriting.specs.Lists.{joined, alternativesAt, stepList, testList, edgeList, operandList, laid}
-use Rattle.rewriting.specs.Lists.{Long, Filled, Fillable, Holds}
+use Rattle.step_tests.specs.OperandPlaces.{numberOf, endOf}
+use Rattle.rewriting.specs.Lists.{joined, alternativesAt, stepList, testList, edgeList, operandList}
+use Rattle.rewriting.specs.Lists.{Long, Filled, Fillable, InUse, Holds}
 use Rattle.rewriting.proofs.Bounds.{accepted-bounded, few-steps, few-tests}
 use Rattle.rewriting.proofs.Meaning.{lists-stand, lists-shape}
+use Rattle.basics.specs.Memory.{front}
 
 -- how many entries each list has
 module _ (xs : List Alternative) where
@@ -37,14 +43,14 @@ module _ (xs : List Alternative) where
   operand-entries = length-map (joined (joined xs)) endOf
 
 -- the front of a list that is laid over another
-pub front : (w out : List ℕ) {l : List ℕ} {n : ℕ} → l ≡ laid w out → n ≡ length w → take n l ≡ w
-unfolding laid
-front w out {n = n} e k = ap (take n) e ∙ take-at w _ n (sym k)
+pub front-taken : (w out : List ℕ) {l : List ℕ} {n : ℕ} → l ≡ front w out → n ≡ length w → take n l ≡ w
+front-taken w out {n = n} e k = ap (take n) e ∙ take-at w _ n (sym k)
 
-pub front-within : (w out : List ℕ) {l : List ℕ} {n : ℕ} → l ≡ laid w out → n ≡ length w
-    → n ≤ length l
-unfolding laid
-front-within w out e k = let d = ap length e ∙ length-append w (drop (length w) out) in omega arith
+in-use : (w out : List ℕ) {l : List ℕ} {n : ℕ} → l ≡ front w out → n ≡ length w → InUse n l
+in-use w out {l} {n} e k =
+    let d = ap length e ∙ length-append w (drop (length w) out) in
+    let h : n ≤ length l = omega arith in
+    record { within = h; many = sym (length-take-le n l h) }
 
 -- arrays have room
 pub arrays-fillable : {tree : List ℕ} {names : ℕ} {steps tests edges operands : List ℕ}
@@ -68,18 +74,29 @@ module _ (tree : List ℕ) (names : ℕ) (a : Accepted names Vector tree) (v : A
   abbrev xs : List Alternative
   xs = alternativesAt tree names
 
+  count-is : v .count ≡ length (stepList xs)
+  count-is = l .alternatives-are ∙ sym (step-entries xs)
+
+  step-count-is : v .«step_count» ≡ length (testList xs)
+  step-count-is = l .steps-are ∙ sym (test-entries xs)
+
+  edge-count-is : v .«test_count» ≡ length (edgeList xs)
+  edge-count-is = l .tests-are ∙ sym (edge-entries xs)
+
+  operand-count-is : v .«test_count» ≡ length (operandList xs)
+  operand-count-is = l .tests-are ∙ sym (operand-entries xs)
+
   steps-front : take (v .count) (v .steps) ≡ stepList xs
-  steps-front = front (stepList xs) (replicate 64 0) (f .steps-are) (l .alternatives-are ∙ sym (step-entries xs))
+  steps-front = front-taken (stepList xs) (replicate 64 0) (f .steps-are) count-is
 
   tests-front : take (v .«step_count») (v .tests) ≡ testList xs
-  tests-front = front (testList xs) (replicate 1024 0) (f .tests-are) (l .steps-are ∙ sym (test-entries xs))
+  tests-front = front-taken (testList xs) (replicate 1024 0) (f .tests-are) step-count-is
 
   edges-front : take (v .«test_count») (v .edges) ≡ edgeList xs
-  edges-front = front (edgeList xs) (replicate 4096 0) (f .edges-are) (l .tests-are ∙ sym (edge-entries xs))
+  edges-front = front-taken (edgeList xs) (replicate 4096 0) (f .edges-are) edge-count-is
 
   operands-front : take (v .«test_count») (v .operands) ≡ operandList xs
-  operands-front =
-      front (operandList xs) (replicate 4096 0) (f .operands-are) (l .tests-are ∙ sym (operand-entries xs))
+  operands-front = front-taken (operandList xs) (replicate 4096 0) (f .operands-are) operand-count-is
 
   pub holds : Holds tree names v
   holds =
@@ -88,9 +105,10 @@ module _ (tree : List ℕ) (names : ℕ) (a : Accepted names Vector tree) (v : A
       record {
         long = l;
         filled = f;
-        few-alternatives = omega (arith, l .alternatives-are, b .few);
-        few-steps = omega (arith, l .steps-are, few-steps b);
-        few-tests = omega (arith, l .tests-are, few-tests b);
+        steps-used = in-use (stepList xs) (replicate 64 0) (f .steps-are) count-is;
+        tests-used = in-use (testList xs) (replicate 1024 0) (f .tests-are) step-count-is;
+        edges-used = in-use (edgeList xs) (replicate 4096 0) (f .edges-are) edge-count-is;
+        operands-used = in-use (operandList xs) (replicate 4096 0) (f .operands-are) operand-count-is;
         shape = rw (steps-front, tests-front, edges-front, operands-front) (lists-shape tree names h (b .few));
         stands = rw (steps-front, tests-front, edges-front, operands-front) (lists-stand tree names h);
       }
@@ -98,16 +116,16 @@ module _ (tree : List ℕ) (names : ℕ) (a : Accepted names Vector tree) (v : A
 -- what is in use stands in the arrays
 module _ {tree : List ℕ} {names : ℕ} {v : Alternatives} (h : Holds tree names v) where
   pub steps-within : v .count ≤ length (v .steps)
-  steps-within = front-within _ _ (h .filled .steps-are) (h .long .alternatives-are ∙ sym (step-entries _))
+  steps-within = h .steps-used .within
 
   pub tests-within : v .«step_count» ≤ length (v .tests)
-  tests-within = front-within _ _ (h .filled .tests-are) (h .long .steps-are ∙ sym (test-entries _))
+  tests-within = h .tests-used .within
 
   pub edges-within : v .«test_count» ≤ length (v .edges)
-  edges-within = front-within _ _ (h .filled .edges-are) (h .long .tests-are ∙ sym (edge-entries _))
+  edges-within = h .edges-used .within
 
   pub operands-within : v .«test_count» ≤ length (v .operands)
-  operands-within = front-within _ _ (h .filled .operands-are) (h .long .tests-are ∙ sym (operand-entries _))
+  operands-within = h .operands-used .within
 
 pub holds-unique : (tree : List ℕ) (names : ℕ) (v w : Alternatives) → Holds tree names v → Holds tree names w
     → v ≡ w

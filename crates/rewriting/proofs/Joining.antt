@@ -3,18 +3,17 @@
 --   cut-joined                                cut again into pieces of their lengths they are the lists
 --   lengths-map, lengths-sum                  exchanged entries change no length; the lengths together
 --   joined-next, joined-part                  of one more; the parts are no longer than the whole
---   sets-laid                                 stored from the front on
--- Assumes nothing.
+--   sets-front                                 stored from the front on
 use Prim.Native.Nat.{ℕ, zero, suc, _+_, _<_, _≤_}
 use native.Mathlib.Omega.{arith}
 use native.Mathlib.Numerals.{add-one}
 use mathlib.Core.Path.{_≡_, refl, ap, sym, _∙_}
 use mathlib.Core.List.{List, [], _∷_, _++_, map, map-append, append-nil, append-assoc}
-use lib.ListN.{length, getD, take, drop, length-append, length-map}
-use lib.Seq.{sets, sets-eq, take-suc, take-all, take-append-seam, drop-append-seam}
-use Rattle.alf.specs.Words.{sumOf}
-use Rattle.matcher.specs.Shapes.{cut, sum}
-use Rattle.rewriting.specs.Lists.{joined, laid}
+use lib.ListN.{length, getD, take, length-append, length-map}
+use lib.Seq.{take-suc, take-all, take-append-seam, drop-append-seam}
+use Rattle.basics.specs.Words.{sumOf}
+use Rattle.alternatives.specs.InMemory.{cut, sum}
+use Rattle.rewriting.specs.Lists.{joined}
 
 module _ {A : Type 0} where
   pub joined-append : (xs ys : List (List A)) → joined (xs ++ ys) ≡ joined xs ++ joined ys
@@ -63,9 +62,3 @@ module _ {A B : Type 0} (f : A → B) where
   pub lengths-map : (xs : List (List A)) → map length (map (map f) xs) ≡ map length xs
   lengths-map [] = refl
   lengths-map (x ∷ xs) = rw (length-map x f, lengths-map xs) refl
-
-pub sets-laid : (l w : List ℕ) → length w ≤ length l → sets l 0 w ≡ laid w l
-unfolding laid
-sets-laid l w h =
-    let e : _≡_ {A = ℕ} (0 + length w) (length w) = omega arith in
-    sets-eq w l 0 (omega arith) ∙ ap (λ (n : ℕ). w ++ drop n l) e

@@ -1,12 +1,5 @@
 -- The laws that the alternatives are written by, the statements that the lists meet, and the laws of the report.
-pub mod Splits
-pub mod Operands
-pub mod Placing
-pub mod Puts
-pub mod Reaching
-pub mod StepCases
 pub mod Joining
-pub mod Places
 pub mod Asking
 pub mod Meaning
 pub mod Bounds
@@ -15,8 +8,3 @@ pub mod Turns
 pub mod Holding
 pub mod Calls
 pub mod Theorems
-pub mod Allowing
-pub mod Quantifiers
-pub mod RowsOf
-pub mod Flagging
-pub mod Reporting

@@ -1,5 +1,5 @@
 -- The lists of a tree stand for the alternatives of its expression, in order, and have the shape that matching asks
--- for. Main names: alternatives-back, lists-stand, lists-shape. Assumes nothing.
+-- for. Main names: alternatives-back, lists-stand, lists-shape.
 use Prim.Native.Nat.{ℕ, zero, suc, _≤_, _<_}
 use native.Mathlib.Omega.{arith}
 use mathlib.Core.Path.{_≡_, refl, ap, ap₂, sym, _∙_}
@@ -8,14 +8,14 @@ use lib.ListN.{length, getD, length-map}
 use Rattle.alf.specs.Expressions.{the, pair}
 use Rattle.alf.specs.Bytes.{edgeNumber, edgeAt, halfNumber, halfAt}
 use Rattle.alf.specs.Alternatives.{Test, test, Step, Alternative, alternatives}
-use Rattle.alf.proofs.Lists.{All, none, more}
+use Rattle.basics.proofs.AllEntries.{All, none, more}
 use Rattle.trees.specs.Parts.{EndsBoolean, EndsVector, vectorAt}
-use Rattle.matcher.specs.Shapes.{cut, testsOf, alternativesOf, Shape}
-use Rattle.rewriting.specs.Codes.{numberOf, endOf, numbers, ends}
+use Rattle.alternatives.specs.InMemory.{cut, testsOf, alternativesOf, Shape}
+use Rattle.step_tests.specs.OperandPlaces.{numberOf, endOf, numbers, ends}
 use Rattle.rewriting.specs.Lists.{joined, alternativesAt, stepList, testList, edgeList, operandList}
-use Rattle.rewriting.proofs.Operands.{testOn, alternativeOn, alternatives-on}
+use Rattle.step_tests.proofs.Exchanging.{testOn, alternativeOn, alternatives-on}
 use Rattle.rewriting.proofs.Joining.{joined-map, cut-joined, lengths-map, lengths-sum}
-use Rattle.rewriting.proofs.Places.{edgeBack, operandBack, Known, stands}
+use Rattle.step_tests.proofs.Places.{edgeBack, operandBack, Known, stands}
 use Rattle.rewriting.proofs.Asking.{Asks, asks, alternatives-ask, all-joined}
 
 -- tests that are exchanged one by one are cut as those that they stand for

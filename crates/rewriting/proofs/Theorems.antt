@@ -2,27 +2,27 @@
 --   rewrites-unique                     outcome and lists afterwards follow from the input
 --   rewritten-stand                     the lists stand for the expression's alternatives, in order, nothing else
 --   steps-own, tests-own, edges-own     steps, tests and edges in the lists are those of the expression's alternatives
--- Assumes nothing.
 use Prim.Native.Nat.{ℕ}
 use mathlib.Core.Path.{_≡_, refl, ap, sym, _∙_}
 use mathlib.Core.List.{List, [], _∷_, map}
 use lib.ListN.{length}
-use Rattle.alf.specs.declared.Outcome.{Outcome}
+use Rattle.basics.specs.declared.Outcome.{Outcome}
 use Rattle.alf.specs.declared.Sort.the-variants.{Vector}
 use Rattle.alf.specs.Expressions.{literal}
 use Rattle.alf.specs.Alternatives.{Test, test, Step, Alternative, alternatives}
 use Rattle.alf.specs.Refusals.{Order}
 use Rattle.alf.proofs.Outcomes.{AllFixed, at-fixed, comes-unique}
 use Rattle.trees.specs.Parts.{vectorAt}
-use Rattle.limits.specs.Accepted.{Accepted}
-use Rattle.limits.proofs.Acceptance.{accepted-vector}
-use Rattle.matcher.specs.Shapes.{alternativesOf}
-use Rattle.rewriting.specs.Codes.{numberOf, numbers}
+use Rattle.acceptance.specs.Accepted.{Accepted}
+use Rattle.acceptance.proofs.Acceptance.{accepted-vector}
+use Rattle.alternatives.specs.InMemory.{alternativesOf}
+use Rattle.step_tests.specs.OperandPlaces.{numberOf, numbers}
 use Rattle.rewriting.specs.Lists.{joined, alternativesAt, stepList, testList, edgeList, operandList}
-use Rattle.rewriting.specs.Calls.{treeOrder, roomOrder, after, Rewrites}
-use Rattle.rewriting.proofs.Operands.{testOn, placed-same}
+use Rattle.rewriting.specs.Calls.{treeOrder, roomOrder, Rewrites}
+use Rattle.step_tests.proofs.Exchanging.{testOn, placed-same}
 use Rattle.rewriting.proofs.Joining.{joined-map, lengths-map}
 use Rattle.rewriting.proofs.Meaning.{lists-stand}
+use Rattle.basics.proofs.Memory.{after-unique}
 
 module _ (names : ℕ) (tree steps tests edges operands : List ℕ) where
   abbrev order : Order
@@ -46,10 +46,10 @@ module _ (names : ℕ) (tree steps tests edges operands : List ℕ) where
       let m = a .memory in
       let n = b .memory in (
         e,
-        m .steps-are ∙ ap (after _ steps) e ∙ sym (n .steps-are),
-        m .tests-are ∙ ap (after _ tests) e ∙ sym (n .tests-are),
-        m .edges-are ∙ ap (after _ edges) e ∙ sym (n .edges-are),
-        m .operands-are ∙ ap (after _ operands) e ∙ sym (n .operands-are),
+        after-unique _ steps e (m .steps-are) (n .steps-are),
+        after-unique _ tests e (m .tests-are) (n .tests-are),
+        after-unique _ edges e (m .edges-are) (n .edges-are),
+        after-unique _ operands e (m .operands-are) (n .operands-are),
       )
 
 module _ (tree : List ℕ) (names : ℕ) where

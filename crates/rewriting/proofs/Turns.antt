@@ -1,15 +1,15 @@
 -- What each turn of the loops over steps and alternatives asks, and what it comes to.
 -- Main names: step-placing, step-rises, step-small, step-next, steps-added; alternative-adding, alternative-next,
--- alternatives-filled. Assumes nothing.
+-- alternatives-filled.
 use Prim.Native.Nat.{ℕ, _+_, _-_, _<_, _≤_}
 use native.Mathlib.Omega.{arith}
 use mathlib.Core.Path.{_≡_, refl}
 use mathlib.Core.List.{List}
 use lib.ListN.{length, set}
 use Rattle.alf.specs.declared.Sort.the-variants.{Vector}
-use Rattle.limits.specs.Accepted.{Accepted}
-use Rattle.limits.specs.Sizes.{alternativeAt, Shaped}
-use Rattle.rewriting.specs.Steps.{stepAt, Placing, Put}
+use Rattle.acceptance.specs.Accepted.{Accepted}
+use Rattle.acceptance.specs.Sizes.{alternativeAt, Shaped}
+use Rattle.step_tests.specs.Steps.{stepAt, Placing, Put}
 use Rattle.rewriting.specs.Lists.{alternativesAt, alternativeOf, Adding, Added, Fillable, Filled}
 use Rattle.rewriting.proofs.Bounds.{accepted-bounded, few-steps, few-tests, shape-exact}
 use Rattle.rewriting.proofs.Bounds.{accepted-chosen, accepted-short}

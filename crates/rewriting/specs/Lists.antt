@@ -1,21 +1,26 @@
--- The alternatives of a tree as four lists; matcher/specs/Shapes says what the lists stand for.
+-- The alternatives of a tree as four lists; alternatives/specs/InMemory says what the lists stand for.
+--   joined, alternativesAt   lists one after the other; the alternatives of a tree, operands as places
 --   stepList       for each alternative its number of steps
 --   testList       for each step, all alternatives' steps one after the other, its number of tests
 --   edgeList       for each test, all steps' tests one after the other, the number of its edge
 --   operandList    for each test the place where its operand ends
+--   Long, Filled, Fillable         how long the lists are, the lists at the front of four others, their room
+--   alternativeOf, Adding, Added   the steps of one alternative behind others
+--   InUse, Holds                   the lists of a tree by value
 use Prim.Native.Nat.{ℕ, _+_, _<_, _≤_}
 use mathlib.Core.Path.{_≡_}
 use mathlib.Core.List.{List, [], _∷_, _++_, map}
-use lib.ListN.{length, getD, take, drop, replicate}
+use lib.ListN.{length, getD, take, replicate}
 use lib.Seq.{sets}
 use Rattle.alf.specs.Alternatives.{Alternative, alternatives}
 use Rattle.alf.specs.declared.Sort.the-variants.{Vector}
 use Rattle.trees.specs.Parts.{vectorAt}
-use Rattle.limits.specs.Accepted.{Accepted}
-use Rattle.matcher.specs.Shapes.{alternativesOf, Shape}
+use Rattle.acceptance.specs.Accepted.{Accepted}
+use Rattle.alternatives.specs.InMemory.{alternativesOf, Shape}
 use Rattle.rewriting.specs.declared.lists.Alternatives.{Alternatives}
-use Rattle.rewriting.specs.Codes.{placed, numbers, ends}
-use Rattle.rewriting.specs.Steps.{Put}
+use Rattle.step_tests.specs.OperandPlaces.{placed, numbers, ends}
+use Rattle.step_tests.specs.Steps.{Put}
+use Rattle.basics.specs.Memory.{front}
 
 -- some lists, one after the other
 unfoldable pub joined : {A : Type 0} → List (List A) → List A
@@ -38,10 +43,6 @@ edgeList xs = numbers (joined (joined xs))
 unfoldable pub operandList : List Alternative → List ℕ
 operandList xs = ends (joined (joined xs))
 
--- a list at the front of another; what stands behind it stays
-unfoldable pub laid : List ℕ → List ℕ → List ℕ
-laid w out = w ++ drop (length w) out
-
 -- how long the lists are: alternatives, steps, tests
 pub record Long (xs : List Alternative) (count steps tests : ℕ) : Type 0 where
   pub alternatives-are : count ≡ length xs
@@ -51,10 +52,10 @@ pub record Long (xs : List Alternative) (count steps tests : ℕ) : Type 0 where
 -- the lists at the front of four others
 pub record Filled (xs : List Alternative) (steps tests edges operands steps′ tests′ edges′ operands′ : List ℕ)
     : Type 0 where
-  pub steps-are : steps′ ≡ laid (stepList xs) steps
-  pub tests-are : tests′ ≡ laid (testList xs) tests
-  pub edges-are : edges′ ≡ laid (edgeList xs) edges
-  pub operands-are : operands′ ≡ laid (operandList xs) operands
+  pub steps-are : steps′ ≡ front (stepList xs) steps
+  pub tests-are : tests′ ≡ front (testList xs) tests
+  pub edges-are : edges′ ≡ front (edgeList xs) edges
+  pub operands-are : operands′ ≡ front (operandList xs) operands
 
 -- they have room
 pub record Fillable (tree : List ℕ) (names : ℕ) (steps tests edges operands : List ℕ) : Type 0 where
@@ -83,15 +84,21 @@ pub record Added (tree : List ℕ) (names t : ℕ) (tests : List ℕ) (s : ℕ) 
   pub counts : tests′ ≡ sets tests s (map length (alternativeOf tree names t))
   pub put : Put (joined (alternativeOf tree names t)) from edges operands next edges′ operands′
 
+-- the first n entries of a list are in use: they are there, and they are n
+pub record InUse (n : ℕ) (l : List ℕ) : Type 0 where
+  pub within : n ≤ length l
+  pub many : n ≡ length (take n l)
+
 -- The lists of a tree by value. Their fronts, as long as the counts say, have the shape that matching asks for, and
 -- stand for the expression's alternatives; zeros stand behind.
 pub record Holds (tree : List ℕ) (names : ℕ) (a : Alternatives) : Type 0 where
   pub long : Long (alternativesAt tree names) (a .count) (a .«step_count») (a .«test_count»)
   pub filled : Filled (alternativesAt tree names) (replicate 64 0) (replicate 1024 0) (replicate 4096 0)
       (replicate 4096 0) (a .steps) (a .tests) (a .edges) (a .operands)
-  pub few-alternatives : a .count ≤ 64
-  pub few-steps : a .«step_count» ≤ 1024
-  pub few-tests : a .«test_count» ≤ 4096
+  pub steps-used : InUse (a .count) (a .steps)
+  pub tests-used : InUse (a .«step_count») (a .tests)
+  pub edges-used : InUse (a .«test_count») (a .edges)
+  pub operands-used : InUse (a .«test_count») (a .operands)
   pub shape : Shape tree names (take (a .count) (a .steps)) (take (a .«step_count») (a .tests))
       (take (a .«test_count») (a .edges)) (take (a .«test_count») (a .operands))
   pub stands : alternativesOf tree names (take (a .count) (a .steps)) (take (a .«step_count») (a .tests))

@@ -1,34 +1,22 @@
-// The alternatives of a tree, written into lent lists, and the report of those that are contradictory.
+// The alternatives of a tree, written into lent lists.
 pub mod lists;
-pub mod possible;
-pub mod splitting;
-pub mod steps;
 
 ghost use mathlib.Core.Path.{_≡_};
 ghost use Rattle.alf.specs.declared.Sort.the-variants.{Vector};
 ghost use Rattle.alf.specs.Refusals.{NameCount};
-ghost use Rattle.limits.specs.Accepted.{Accepted, Decides};
+ghost use Rattle.acceptance.specs.Accepted.{Accepted};
+ghost use Rattle.basics.specs.Deciding.{Decides};
 ghost use Rattle.rewriting.specs.Lists.{alternativesAt};
-ghost use Rattle.rewriting.specs.Possible.{Flagged};
-ghost use Rattle.rewriting.specs.Calls.{Delivers, Rewrites, ownAt, Flaggable, Reports, Contradicts};
-use alf::Outcome;
-use alf::Refusal;
+ghost use Rattle.rewriting.specs.Calls.{Delivers, Rewrites};
+use crate::lists::fill;
+use crate::lists::lengths_of;
+use acceptance::accepting::accepts;
 use alf::Sort;
-use limits::accepting::accepts;
-use lists::Alternatives;
-use lists::alternatives_of;
-use lists::fill;
-use lists::lengths_of;
-use possible::flag_all;
-
-fn refuse(number: u8, place: usize) -> Outcome
-    ensures { λ r. ⌜ r ≡ Outcome.Refused (record { number = number; place = place }) ⌝ }
-{
-    Outcome::Refused(Refusal { number, place })
-}
+use basics::Outcome;
+use basics::refusing::refuse;
 
 // Whether there are 1 to 32 names.
-fn names_fit(names: usize) -> bool
+pub fn names_fit(names: usize) -> bool
     ensures { λ r. ⌜ Decides r (NameCount names) ⌝ }
 {
     if names == 0 {
@@ -90,55 +78,4 @@ pub fn rewrite(
         return refuse(10, 0);
     }
     deliver(names, tree, steps, tests, edges, operands)
-}
-
-// The flags of the alternatives that are in use.
-fn flag_lists(names: usize, tree: &[u8], a: Alternatives, flags: &mut [u8])
-    requires { ⌜ Flaggable names (now tree) a (now flags) ⌝ }
-    ensures { λ r. ⌜ Flagged names (ownAt (now (tree .entry)) names) (now (flags .entry)) (now (flags .exit)) ⌝ }
-{
-    let n = a.count;
-    let m = a.step_count;
-    let k = a.test_count;
-    let steps = a.steps;
-    let tests = a.tests;
-    let edges = a.edges;
-    let operands = a.operands;
-    flag_all(
-        tree,
-        names,
-        &steps[..n],
-        &tests[..m],
-        &edges[..k],
-        &operands[..k],
-        flags,
-    );
-}
-
-// The report for an accepted tree: 9, or a flag for each alternative.
-fn report(names: usize, tree: &[u8], flags: &mut [u8]) -> Outcome
-    requires { ⌜ Accepted names Vector (now tree) × NameCount names ⌝ }
-    ensures { λ r. ⌜ Reports names (now (tree .entry)) (now (flags .entry)) (now (flags .exit)) r ⌝ }
-{
-    let a = alternatives_of(tree, names);
-    let n = a.count;
-    if flags.len() < n {
-        return refuse(9, n);
-    }
-    flag_lists(names, tree, a, flags);
-    Outcome::Done(n)
-}
-
-// A flag for each alternative of a tree, 1 where it is contradictory, else 0; how many. Refused with 18, 10 or 9, in
-// this order.
-pub fn contradictions(names: usize, tree: &[u8], flags: &mut [u8]) -> Outcome
-    ensures { λ r. ⌜ Contradicts names (now (tree .entry)) (now (flags .entry)) (now (flags .exit)) r ⌝ }
-{
-    if !names_fit(names) {
-        return refuse(18, 0);
-    }
-    if !accepts(tree, names, Sort::Vector) {
-        return refuse(10, 0);
-    }
-    report(names, tree, flags)
 }

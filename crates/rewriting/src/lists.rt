@@ -1,9 +1,9 @@
 // All alternatives of a tree, written into four lists: steps of each alternative, tests of each step, and for each test
 // its edge's number and its operand's end.
-use crate::steps::put_step;
-use limits::sizes;
+use acceptance::sizes;
+use step_tests::steps::put_step;
 ghost use Rattle.alf.specs.declared.Sort.the-variants.{Vector};
-ghost use Rattle.limits.specs.Accepted.{Accepted};
+ghost use Rattle.acceptance.specs.Accepted.{Accepted};
 ghost use Rattle.rewriting.specs.Lists.{alternativesAt, Adding, Added, Fillable, Filled, Long, Holds};
 
 // How many entries the lists have: alternatives, steps of all of them, tests of all those.

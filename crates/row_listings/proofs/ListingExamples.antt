@@ -2,14 +2,14 @@
 -- that of case 8's values (`A ? C : 'bZ`).
 use mathlib.Core.Path.{_≡_, refl}
 use Rattle.alf.specs.TableT as T
-use Rattle.alf.specs.Words.{greatest, count, listed}
+use Rattle.basics.specs.Words.{greatest, count, listed}
 use Rattle.alf.specs.States.{Z, reduce}
 use Rattle.alf.specs.Expressions.{literal, choice, edge}
 use Rattle.alf.specs.Values.{chosen, settled, state, value}
 use Rattle.alf.specs.Windows.{asked, digitAsked, letterAsked, edgeOn, certainty, answer, best, named, rowAnswer}
 use Rattle.alf.specs.Windows.{numberOf}
-use Rattle.listing.specs.Text.{bytes, joined}
-use Rattle.listing.specs.Numbers.{digits, widthUpTo, width, decimal}
+use Rattle.figures.specs.Text.{bytes, joined}
+use Rattle.figures.specs.Numbers.{digits, widthUpTo, width, decimal}
 use Rattle.listing.specs.Listing.{word, letter, wordOf, line, lines, howMany, lastLine, listing, valuesListing}
 use Rattle.row_listings.specs.Listings.{patternListing, valueListing}
 

@@ -6,26 +6,27 @@ use Prim.Native.Nat.{ℕ, _/_}
 use mathlib.Core.Path.{_≡_, refl, ap, sym, _∙_}
 use mathlib.Core.List.{List, [], _∷_, _++_}
 use lib.ListN.{length, drop}
+use Rattle.basics.specs.Refusing.{refusal}
 use Rattle.alf.specs.declared.Answer.the-variants.{No, Yes, Unknown}
 use Rattle.alf.specs.declared.Sort.{Sort}
 use Rattle.alf.specs.declared.Sort.the-variants as the-sort
-use Rattle.alf.specs.declared.Refusal.{Refusal}
-use Rattle.alf.specs.declared.Outcome.{Outcome}
-use Rattle.alf.specs.declared.Outcome.the-variants.{Done, Refused}
-use Rattle.alf.specs.Words.{listed}
+use Rattle.basics.specs.declared.Refusal.{Refusal}
+use Rattle.basics.specs.declared.Outcome.{Outcome}
+use Rattle.basics.specs.declared.Outcome.the-variants.{Done, Refused}
+use Rattle.basics.specs.Words.{listed}
 use Rattle.alf.specs.Expressions.{Vector, Expression, boolean, vector}
 use Rattle.alf.specs.Values.{stateAt}
 use Rattle.alf.specs.Windows.{rowAnswer, numberOf}
 use Rattle.alf.specs.Traces.{total}
 use Rattle.alf.specs.Refusals.{check, no-room}
 use Rattle.alf.proofs.Outcomes.{Fixed, at-fixed, first-fixed, refused-passed}
-use Rattle.names.proofs.Orders.{Sole, sole-both, sole-fixed}
+use Rattle.alf.proofs.Orders.{Sole, sole-both, sole-fixed}
 use Rattle.reader.specs.Reading.{readOrder, Gives}
 use Rattle.reader.proofs.Unique.{gives-unique}
-use Rattle.exactness.proofs.ReadTrees.{read-sole}
-use Rattle.writer.specs.Writing.{after}
+use Rattle.text_laws.proofs.ReadTrees.{read-sole}
+use Rattle.basics.specs.Memory.{after}
 use Rattle.listing.specs.declared.lines.Column.the-variants.{Answers}
-use Rattle.listing.specs.Text.{bytes, joined}
+use Rattle.figures.specs.Text.{bytes, joined}
 use Rattle.listing.specs.Listing.{lines, lastLine, listing}
 use Rattle.listing.proofs.Theorems.{listed-totals}
 use Rattle.row_listings.specs.Listings.{patternListing, OfGiven, rowsOrder, listOrder}
@@ -62,7 +63,7 @@ module _ {A : Type 0} (into : A → Expression) (one : (a b : A) → into a ≡ 
   lists-unique (refuses a h) (lists b q j l i) = absurd (refused-passed _ _ _ q a)
   lists-unique {out} (refuses a h) (refuses b i) =
       let e = order-sole (length out) _ _ _ _ a b in
-      ((λ t. Refused (record { number = e .0 t; place = e .1 t })), h ∙ sym i)
+      ((λ t. Refused (refusal (e .0 t) (e .1 t))), h ∙ sym i)
 
 module _ {names times states text out x y : List ℕ} {r s : Outcome} where
   pub list-text-unique : ListsPattern names times states text out x r → ListsPattern names times states text out y s

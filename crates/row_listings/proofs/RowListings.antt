@@ -10,35 +10,36 @@ use mathlib.Core.Path.{_≡_, refl, ap, sym, _∙_}
 use mathlib.Core.Logic.{_⊎_, inl, inr}
 use mathlib.Core.List.{List, [], _∷_}
 use lib.ListN.{length, getD, List·getD-eq-default}
+use Rattle.basics.specs.Refusing.{refusal}
 use Rattle.alf.specs.declared.Answer.{Answer}
 use Rattle.alf.specs.declared.Answer.the-variants.{No, Yes, Unknown, NoEvent}
 use Rattle.alf.specs.declared.Sort.{Sort}
 use Rattle.alf.specs.declared.Sort.the-variants as the-sort
-use Rattle.alf.specs.declared.Refusal.{Refusal}
-use Rattle.alf.specs.declared.Outcome.{Outcome}
-use Rattle.alf.specs.declared.Outcome.the-variants.{Done, Refused}
-use Rattle.alf.specs.Words.{listed}
+use Rattle.basics.specs.declared.Refusal.{Refusal}
+use Rattle.basics.specs.declared.Outcome.{Outcome}
+use Rattle.basics.specs.declared.Outcome.the-variants.{Done, Refused}
+use Rattle.basics.specs.Words.{listed}
 use Rattle.alf.specs.Expressions.{boolean, vector, Over, ExpressionOver}
 use Rattle.alf.specs.Bytes.{topBoolean, topVector, Decodes}
 use Rattle.alf.specs.Values.{rowOf, valueAt}
 use Rattle.alf.specs.Windows.{numberOf}
 use Rattle.alf.specs.Refusals.{check, bad-lists, bad-code, no-room, RefusedWith, Passed, Comes}
-use Rattle.alf.proofs.Bools.{below?}
+use Rattle.basics.proofs.Bools.{below?}
 use Rattle.alf.proofs.Decoding.{decode-over}
-use Rattle.alf.proofs.Tables.{listed-at}
-use Rattle.evaluator.proofs.Lists.{listed-length}
-use Rattle.names.proofs.Orders.{none-first}
+use Rattle.basics.proofs.Tables.{listed-at}
+use Rattle.basics.proofs.Listed.{listed-length}
+use Rattle.alf.proofs.Orders.{none-first}
 use Rattle.trees.specs.Parts.{booleanAt, vectorAt}
-use Rattle.limits.specs.Accepted.{Accepted}
-use Rattle.limits.proofs.Acceptance.{decoded}
-use Rattle.exactness.proofs.ReadTrees.{sorted-vector, sorted-boolean}
-use Rattle.updates.specs.Copies.{Codes}
-use Rattle.calls.specs.Orders as calls
-use Rattle.calls.specs.Orders.{Rows}
-use Rattle.calls.specs.Matching.{AllMatched, answersOn}
-use Rattle.calls.specs.Written as written
-use Rattle.calls.specs.Written.{AllValues}
-use Rattle.writer.specs.Writing.{after}
+use Rattle.acceptance.specs.Accepted.{Accepted}
+use Rattle.acceptance.proofs.Acceptance.{decoded}
+use Rattle.text_laws.proofs.ReadTrees.{sorted-vector, sorted-boolean}
+use Rattle.states.specs.FirstBadCode.{Codes}
+use Rattle.judging.specs.Orders as calls
+use Rattle.judging.specs.Orders.{Rows}
+use Rattle.matching_calls.specs.Matching.{AllMatched, answersOn}
+use Rattle.row_calls.specs.Written as written
+use Rattle.row_calls.specs.Written.{AllValues}
+use Rattle.basics.specs.Memory.{after}
 use Rattle.listing.specs.Listing.{listing, valuesListing}
 use Rattle.listing.specs.Calls.{listOrder, ListsCodes, ListsText, ValuesText}
 use Rattle.row_listings.specs.Listings.{patternListing, valueListing, rowsOrder, RowsText, listingOf, treeListing}
@@ -180,7 +181,7 @@ module _ {k : ℕ} {tree times states answers tried answers′ tried′ : List �
   pub answers-listed : {m : ℕ} {out out′ : List ℕ} {r : Outcome} → o ≡ Done m
       → ListsText times answers′ out out′ r
       → RowsText k times states (treeListing k times states tree) out out′ r
-  unfolding written.after patternListing
+  unfolding after patternListing
   answers-listed e d =
       let f : ℕ → ℕ = answersOn k tree states in
       let a : answers′ ≡ listed 0 (length times) (answersOn k tree states) = rw e at (h .answers-memory) in
@@ -202,7 +203,7 @@ module _ {k : ℕ} {tree times states codes codes′ : List ℕ} {o : Outcome}
   pub states-listed : {m : ℕ} {out out′ : List ℕ} {r : Outcome} → o ≡ Done m
       → ValuesText times codes′ out out′ r
       → RowsText k times states (treeListing k times states tree) out out′ r
-  unfolding written.after valueListing
+  unfolding after valueListing
   states-listed e d =
       let b = booleanAt tree k (length tree) in
       let f : ℕ → ℕ = valueAt k states (booleanAt tree k (length tree)) in
@@ -219,7 +220,7 @@ module _ {k : ℕ} {tree times states codes codes′ : List ℕ} {o : Outcome}
 -- more rows than there can be
 pub too-many : (lent : List ℕ) {k : ℕ} {times states text out : List ℕ} {r : Outcome} → length lent ≡ 65535
     → length lent < length times
-    → r ≡ Refused (record { number = 18; place = 0 }) → RowsText k times states text out out r
+    → r ≡ Refused (refusal 18 0) → RowsText k times states text out out r
 unfolding Comes RefusedWith after
 too-many lent e l h =
     rw h

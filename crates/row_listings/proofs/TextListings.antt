@@ -3,6 +3,7 @@
 --   found-listing                any other: the listing of what is read is that of the expression given
 --   text-lists                   with the listing of the rows, the contract, for either sort
 --   pattern-lists, values-lists  for a pattern, for a boolean expression
+--   sort-refused, sort-lists     for either, by the sort
 --   vector-one, boolean-one      either is one expression
 use Prim.Native.Nat.{ℕ, _/_}
 use mathlib.Core.Path.{_≡_, refl, ap, _∙_}
@@ -12,20 +13,20 @@ use mathlib.Core.List.{List, [], _∷_}
 use lib.ListN.{length, take}
 use Rattle.alf.specs.declared.Sort.{Sort}
 use Rattle.alf.specs.declared.Sort.the-variants as the-sort
-use Rattle.alf.specs.declared.Outcome.{Outcome}
-use Rattle.alf.specs.declared.Outcome.the-variants.{Done, Refused}
+use Rattle.basics.specs.declared.Outcome.{Outcome}
+use Rattle.basics.specs.declared.Outcome.the-variants.{Done, Refused}
 use Rattle.alf.specs.Expressions.{Boolean, Vector, Expression, boolean, vector}
 use Rattle.alf.specs.Refusals.{check, no-room, RefusedWith, Passed, Comes}
-use Rattle.names.proofs.Orders.{refused-first, refused-then, passed-both}
-use Rattle.limits.proofs.Acceptance.{decoded}
+use Rattle.alf.proofs.Orders.{refused-first, refused-then, passed-both}
+use Rattle.acceptance.proofs.Acceptance.{decoded}
 use Rattle.reader.specs.declared.Read.{Read}
 use Rattle.reader.specs.Reading.{readOrder, Gives, Reading}
 use Rattle.reader.proofs.Unique.{gives-unique}
-use Rattle.exactness.proofs.ReadTrees.{Found, read-refused, found-decodes, found-vector, vector-given, found-boolean}
-use Rattle.writer.specs.Writing.{after}
+use Rattle.text_laws.proofs.ReadTrees.{Found, read-refused, found-decodes, found-vector, vector-given, found-boolean}
+use Rattle.basics.specs.Memory.{after, front}
 use Rattle.row_listings.specs.Listings.{patternListing, valueListing, OfGiven, rowsOrder}
 use Rattle.row_listings.specs.Listings.{Lists, lists, refuses, ListsPattern, ListsValues, RowsText, listingOf}
-use Rattle.row_listings.specs.Listings.{treeListing}
+use Rattle.row_listings.specs.Listings.{treeListing, ListsAs}
 use Rattle.row_listings.proofs.RowListings.{text-as}
 
 found-listing : {names text : List ℕ} {sort : Sort} {r : Read} (f : Found names text sort r)
@@ -69,7 +70,7 @@ module _ {A : Type 0} (into : A → Expression) (one : (a b : A) → into a ≡ 
     comes-listed : (out out′ : List ℕ) → Passed (readOrder names text sort) → (r : Outcome)
         → Comes (rowsOrder (length names / 32) times states
         (check 9 (no-room (length (shown x)) (length out)) ∷ [])) (λ m. m ≡ length (shown x)) r
-        → out′ ≡ after (shown x) out r
+        → out′ ≡ after (front (shown x) out) out r
         → Lists into sort shown names times states text out out′ r
     unfolding Comes after
     comes-listed out out′ p (Done m) h e =
@@ -120,3 +121,22 @@ module _ {names times states text out out′ : List ℕ} {rd : Read} {r : Outcom
       text-lists boolean boolean-one the-sort.Boolean (valueListing (length names / 32) times states) names times
       states text (b .c) (rw (b .is-boolean) at (f .gives)) (f .passed)
       (text-as (found-listing f times states ∙ ap (listingOf (length names / 32) times states) (b .is-boolean)) h)
+
+-- by the sort
+pub sort-refused : (sort : Sort) {names text : List ℕ} (times states out : List ℕ) {rd : Read}
+    → Reading names text sort rd
+    → rd .refused ≡ true
+    → ListsAs sort names times states text out out (Refused (rd .refusal))
+unfolding ListsAs
+sort-refused the-sort.Vector times states out h e = pattern-refused h e
+sort-refused the-sort.Boolean times states out h e = values-refused h e
+
+pub sort-lists : (sort : Sort) {names text : List ℕ} {out out′ : List ℕ} (times states : List ℕ) {rd : Read}
+    {r : Outcome}
+    → Found names text sort rd
+    → RowsText (length names / 32) times states
+    (treeListing (length names / 32) times states (take (rd .len) (rd .tree))) out out′ r
+    → ListsAs sort names times states text out out′ r
+unfolding ListsAs
+sort-lists the-sort.Vector times states f h = pattern-lists f h
+sort-lists the-sort.Boolean times states f h = values-lists f h

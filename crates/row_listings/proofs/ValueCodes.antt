@@ -5,14 +5,14 @@ use mathlib.Core.Path.{_≡_, refl}
 use mathlib.Core.Bool.{Bool, true, false}
 use lib.Dec.{eqb}
 use borrow.Author.Tests.{ltb-true}
-use Rattle.alf.specs.Words.{if_then_else_}
+use Rattle.basics.specs.Words.{if_then_else_}
 use Rattle.alf.specs.States.{reduce, rank, ranked, notOf, andOf, orOf, xorOf, xnorOf, relations, atLeast, atMost}
 use Rattle.alf.specs.States.{table, among, matches, inCells, inLines}
 use Rattle.alf.specs.Expressions.{Boolean, name, literal, negated, binary, choice, Over}
 use Rattle.alf.specs.Expressions.{Binary, and, or, xor, xnor, equals, differs, above, below, at-least, at-most}
 use Rattle.alf.specs.Values.{operate, chosen, settled, state, value}
-use Rattle.alf.proofs.Choices.{every, every-at}
-use Rattle.alf.proofs.Tables.{codes}
+use Rattle.basics.proofs.Choices.{every, every-at}
+use Rattle.basics.proofs.Tables.{codes}
 
 -- of one state, and of two: one test over all of them
 coded : (g : ℕ → ℕ) → codes g ≡ true → (x : ℕ) → x < 8 → g x < 8

@@ -1,26 +1,30 @@
 -- Listings of what a text gives, on a trace: a pattern's text comes to the listing of its answers, the text of a
 -- boolean expression to the listing of its values; or refused.
--- Main names: patternListing, valueListing, ListsPattern, ListsValues. Both are one contract, Lists, over what the text
--- gives. That result and buffer follow from the input is shown in proofs/ListingTheorems.antt.
+--   patternListing, valueListing    the texts
+--   OfGiven, listingOf              what is listed of what a text gives
+--   rowsOrder, listOrder            the refusals in their order
+--   ListsPattern, ListsValues       what the calls come to: one contract, Lists, over what the text gives
+--   ListsAs, RowsText, treeListing, Rowed, Roomy    what the functions inside give and ask
+-- That result and buffer follow from the input is shown in proofs/ListingTheorems.antt.
 use Prim.Native.Nat.{ℕ, _/_}
 use mathlib.Core.Path.{_≡_}
 use mathlib.Core.List.{List, [], _∷_, _++_}
 use lib.ListN.{length}
 use Rattle.alf.specs.declared.Sort.{Sort}
 use Rattle.alf.specs.declared.Sort.the-variants as the-sort
-use Rattle.alf.specs.declared.Refusal.{Refusal}
-use Rattle.alf.specs.declared.Outcome.{Outcome}
-use Rattle.alf.specs.declared.Outcome.the-variants.{Done, Refused}
-use Rattle.alf.specs.Words.{listed}
+use Rattle.basics.specs.declared.Refusal.{Refusal}
+use Rattle.basics.specs.declared.Outcome.{Outcome}
+use Rattle.basics.specs.declared.Outcome.the-variants.{Done, Refused}
+use Rattle.basics.specs.Words.{listed}
 use Rattle.alf.specs.Expressions.{Boolean, Vector, Expression, boolean, vector}
 use Rattle.alf.specs.Values.{stateAt, valueAt}
 use Rattle.alf.specs.Windows.{rowAnswer, numberOf}
 use Rattle.alf.specs.Refusals.{Row, Order, check, bad-lists, bad-code, no-room, RefusedWith, Passed, Comes}
 use Rattle.trees.specs.Parts.{expressionAt}
-use Rattle.limits.specs.Accepted.{Accepted}
+use Rattle.acceptance.specs.Accepted.{Accepted}
 use Rattle.reader.specs.Reading.{readOrder, Gives}
-use Rattle.calls.specs.Orders.{Rows}
-use Rattle.writer.specs.Writing.{after}
+use Rattle.judging.specs.Orders.{Rows}
+use Rattle.basics.specs.Memory.{after, front}
 use Rattle.listing.specs.Listing.{listing, valuesListing}
 
 -- of a pattern, its answers at all rows of a trace of k names; of a boolean expression, its values
@@ -61,7 +65,7 @@ pub data Lists {A : Type 0} (into : A → Expression) (sort : Sort) (shown : A �
       Passed (listOrder into sort shown names times states text (length out)) →
       Gives names text sort (into x) →
       m ≡ length (shown x) →
-      out′ ≡ after (shown x) out (Done m) →
+      out′ ≡ after (front (shown x) out) out (Done m) →
       Lists into sort shown names times states text out out′ (Done m)
   refuses :
       {r : Refusal} →
@@ -80,12 +84,18 @@ abbrev pub ListsValues : List ℕ → List ℕ → List ℕ → List ℕ → Lis
 ListsValues names times states =
     Lists boolean the-sort.Boolean (valueListing (length names / 32) times states) names times states
 
+-- either, by the sort
+unfoldable pub ListsAs : Sort → List ℕ → List ℕ → List ℕ → List ℕ → List ℕ → List ℕ → Outcome
+    → Type 0
+ListsAs the-sort.Vector = ListsPattern
+ListsAs the-sort.Boolean = ListsValues
+
 -- For the functions inside: a text for the rows of a trace; 18, 15, 9.
 pub record RowsText (k : ℕ) (times states text out out′ : List ℕ) (r : Outcome) : Type 0 where
   pub outcome :
       Comes (rowsOrder k times states (check 9 (no-room (length text) (length out)) ∷ []))
       (λ m. m ≡ length text) r
-  pub memory : out′ ≡ after text out r
+  pub memory : out′ ≡ after (front text out) out r
 
 -- of an expression of either sort; of that which a tree is
 unfoldable pub listingOf : ℕ → List ℕ → List ℕ → Expression → List ℕ

@@ -3,16 +3,17 @@
 ghost use mathlib.Core.Path.{_≡_};
 ghost use lib.ListN.{length};
 ghost use Rattle.alf.specs.declared.Sort.the-variants.{Boolean, Vector};
-ghost use Rattle.limits.specs.Accepted.{Accepted};
-ghost use Rattle.row_listings.specs.Listings.{ListsPattern, ListsValues, RowsText, treeListing, Rowed, Roomy};
-use alf::Outcome;
+ghost use Rattle.acceptance.specs.Accepted.{Accepted};
+ghost use Rattle.row_listings.specs.Listings.{ListsPattern, ListsValues, ListsAs};
+ghost use Rattle.row_listings.specs.Listings.{RowsText, treeListing, Rowed, Roomy};
 use alf::Sort;
-use calls::matching::match_all;
-use calls::written::values;
+use basics::Outcome;
+use basics::refusing::refuse;
 use listing::listings::list;
 use listing::listings::list_values;
-use names::refuse;
+use matching_calls::matching::match_all;
 use reader::read_expression;
+use row_calls::written::values;
 
 // The answers of a pattern's tree, listed; by way of lists of an entry for each row.
 fn list_answers(
@@ -161,12 +162,19 @@ fn list_tree(
     list_lent(sort, k, tree, times, states, &mut codes, &mut tried, out)
 }
 
-// The listing of the pattern that a text gives; its length. Refused with what reading refuses, then 18, 15, 9.
-pub fn list_text(names: &[u8], times: &[u32], states: &[u8], text: &[u8], out: &mut [u8]) -> Outcome
-    ensures { λ r. ⌜ ListsPattern (now (names .entry)) (now (times .entry)) (now (states .entry))
+// The listing of what a text gives, by its sort.
+fn list_given(
+    sort: Sort,
+    names: &[u8],
+    times: &[u32],
+    states: &[u8],
+    text: &[u8],
+    out: &mut [u8],
+) -> Outcome
+    ensures { λ r. ⌜ ListsAs sort (now (names .entry)) (now (times .entry)) (now (states .entry))
         (now (text .entry)) (now (out .entry)) (now (out .exit)) r ⌝ }
 {
-    let read = read_expression(names, text, Sort::Vector);
+    let read = read_expression(names, text, sort);
     let no = read.refused;
     if no {
         let refusal = read.refusal;
@@ -174,14 +182,15 @@ pub fn list_text(names: &[u8], times: &[u32], states: &[u8], text: &[u8], out: &
     }
     let tree = read.tree;
     let len = read.len;
-    list_tree(
-        Sort::Vector,
-        names.len() / 32,
-        &tree[..len],
-        times,
-        states,
-        out,
-    )
+    list_tree(sort, names.len() / 32, &tree[..len], times, states, out)
+}
+
+// The listing of the pattern that a text gives; its length. Refused with what reading refuses, then 18, 15, 9.
+pub fn list_text(names: &[u8], times: &[u32], states: &[u8], text: &[u8], out: &mut [u8]) -> Outcome
+    ensures { λ r. ⌜ ListsPattern (now (names .entry)) (now (times .entry)) (now (states .entry))
+        (now (text .entry)) (now (out .entry)) (now (out .exit)) r ⌝ }
+{
+    list_given(Sort::Vector, names, times, states, text, out)
 }
 
 // The listing of the values of the boolean expression that a text gives; its length. Refused in the same order.
@@ -195,20 +204,5 @@ pub fn values_text(
     ensures { λ r. ⌜ ListsValues (now (names .entry)) (now (times .entry)) (now (states .entry))
         (now (text .entry)) (now (out .entry)) (now (out .exit)) r ⌝ }
 {
-    let read = read_expression(names, text, Sort::Boolean);
-    let no = read.refused;
-    if no {
-        let refusal = read.refusal;
-        return Outcome::Refused(refusal);
-    }
-    let tree = read.tree;
-    let len = read.len;
-    list_tree(
-        Sort::Boolean,
-        names.len() / 32,
-        &tree[..len],
-        times,
-        states,
-        out,
-    )
+    list_given(Sort::Boolean, names, times, states, text, out)
 }

@@ -1,8 +1,8 @@
 // Answers by document 01's numbers, numbers tried, totals.
-use calls::matching::Counting;
-use calls::matching::Matching;
-use calls::written::Told;
 use matcher::tables::number_of;
+use matching_calls::matching::Counting;
+use matching_calls::matching::Matching;
+use row_calls::written::Told;
 use run_printing::printing::character;
 use run_printing::printing::number;
 use run_printing::printing::refusal;

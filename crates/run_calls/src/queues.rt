@@ -1,13 +1,13 @@
 // Rows pushed onto a queue.
 use crate::answers::matching;
 use alf::RowNo;
-use calls::pushing::push;
+use queue::queues::Queue;
+use queue::queues::empty;
 use run_printing::printing::character;
 use run_printing::printing::number;
 use run_printing::printing::write;
 use run_printing::states::letter;
-use updates::queues::Queue;
-use updates::queues::empty;
+use update_calls::pushing::push;
 
 // By the queue, one row after the other.
 pub fn by_queue(names: usize, tree: &[u8], states: &[u8]) {

@@ -2,11 +2,11 @@
 use crate::answers::counting;
 use crate::answers::matching;
 use crate::answers::told;
-use calls::matching::match_row;
-use calls::matching::totals;
-use calls::written::row_answer;
-use calls::written::row_state;
-use calls::written::row_value;
+use matching_calls::matching::match_row;
+use matching_calls::matching::totals;
+use row_calls::written::row_answer;
+use row_calls::written::row_state;
+use row_calls::written::row_value;
 use run_printing::states::state;
 
 // At a row: the answer as written, by alternatives, the value, the state.

@@ -1,6 +1,6 @@
 // Words, characters, numbers, refusals, and how much is done.
-use alf::Outcome;
-use alf::Refusal;
+use basics::Outcome;
+use basics::Refusal;
 use libc::STDOUT_FILENO;
 
 pub fn write(text: &[u8]) {

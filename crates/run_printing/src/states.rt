@@ -5,7 +5,7 @@ use crate::printing::refusal;
 use crate::printing::small;
 use crate::printing::wide;
 use crate::printing::write;
-use alf::Outcome;
+use basics::Outcome;
 
 // The letter or digit of a state, and of any other byte 0.
 fn letter_of(code: u8) -> u8 {

@@ -61,7 +61,7 @@ pub fn narrow(n: usize) -> u32 {
     }
 }
 
-fn zeros() -> [u8; 64] {
+pub fn zeros() -> [u8; 64] {
     [0u8; 64]
 }
 

@@ -2,23 +2,9 @@
 ghost use Prim.Native.Nat.{_≤_, _<_};
 ghost use lib.ListN.{length};
 use crate::words::digit;
-use crate::words::find;
 use crate::words::number_from;
-
-// A piece from `at` on, as far as there is room; where it ends.
-pub fn put(out: &mut [u8], at: usize, piece: &[u8]) -> usize {
-    let mut to = at;
-    let mut i = 0;
-    while i < piece.len() {
-        if to >= out.len() {
-            return to;
-        }
-        out[to] = piece[i];
-        to += 1;
-        i += 1;
-    }
-    to
-}
+use text_parts::parts::find;
+use text_parts::puts::put;
 
 // A piece so many times.
 fn repeat(out: &mut [u8], at: usize, piece: &[u8], times: usize) -> usize {

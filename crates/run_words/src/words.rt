@@ -1,45 +1,6 @@
-// Parts of a line, which a byte separates: where one starts, the part, the number or the list that it is.
+// The words of a line, which blanks separate: the number or the list that one is; the value of a digit.
 ghost use Prim.Native.Nat.{_≤_};
-ghost use lib.ListN.{length};
-
-// The first such byte from `from` on, or the length.
-pub fn find(text: &[u8], from: usize, byte: u8) -> usize
-    requires { ⌜ from ≤ length (now text) ⌝ }
-    ensures { λ r. ⌜ (from ≤ r) × (r ≤ length (now (text .entry))) ⌝ }
-{
-    let mut i = from;
-    while i < text.len() {
-        if text[i] == byte {
-            return i;
-        }
-        i += 1;
-    }
-    i
-}
-
-// Where part k starts, counted from 0; the length where there is none.
-pub fn start_of(line: &[u8], k: usize, byte: u8) -> usize
-    ensures { λ r. ⌜ r ≤ length (now (line .entry)) ⌝ }
-{
-    let mut at: usize = 0;
-    let mut i: usize = 0;
-    while i < k {
-        at = find(line, at, byte);
-        if at >= line.len() {
-            return at;
-        }
-        at += 1;
-        i += 1;
-    }
-    at
-}
-
-// Part k of a line.
-pub fn part(line: &[u8], k: usize, byte: u8) -> &[u8] {
-    let at = start_of(line, k, byte);
-    let end = find(line, at, byte);
-    &line[at..end]
-}
+use text_parts::parts::part;
 
 // A number with one more digit.
 fn with_digit(n: usize, b: u8) -> usize {

@@ -1,74 +1,73 @@
 // The command `show`: the trace as a test-pattern table, a line for each row, with the number of changed pins.
 ghost use Prim.Native.Nat.{_≤_};
-use alf::changes::changes_of;
-use console::output::put;
-use console::output::put_all;
 use console::output::say_front;
 use console::output::short;
+use states::changes::changes_of;
+use text_parts::puts::put;
+use text_parts::puts::put_byte;
 
 // A number.
 fn put_number(out: &mut [u8], at: usize, n: u64) -> usize {
     let mut digits = [0u8; 20];
     let k = io::decimal(n, &mut digits);
-    put_all(out, at, &digits[..k])
+    put(out, at, &digits[..k])
 }
 
 // A byte of a list of slots: a blank before each name, and no zeros behind it.
 fn put_slot_byte(out: &mut [u8], at: usize, i: usize, b: u8) -> usize {
     if i % 32 == 0 {
-        let p = put(out, at, b' ');
-        return put(out, p, b);
+        let p = put_byte(out, at, b' ');
+        return put_byte(out, p, b);
     }
     if b == 0 {
         return at;
     }
-    put(out, at, b)
-}
-
-fn put_names(out: &mut [u8], at: usize, names: &[u8]) -> usize {
-    let mut p = at;
-    let mut i: usize = 0;
-    while i < names.len() {
-        p = put_slot_byte(out, p, i, names[i]);
-        i += 1;
-    }
-    p
+    put_byte(out, at, b)
 }
 
 // A state's letter, behind a blank.
 fn put_state(out: &mut [u8], at: usize, state: u8) -> usize {
     let letters = b"01XHLWZU";
-    let p = put(out, at, b' ');
+    let p = put_byte(out, at, b' ');
     if state < 8 {
-        return put(out, p, letters[state as usize]);
+        return put_byte(out, p, letters[state as usize]);
     }
-    put(out, p, b'?')
+    put_byte(out, p, b'?')
 }
 
-fn put_states(out: &mut [u8], at: usize, states: &[u8]) -> usize {
+// An entry of a list: of names in slots, or of states.
+fn put_entry(out: &mut [u8], at: usize, i: usize, entry: u8, slots: bool) -> usize {
+    if slots {
+        return put_slot_byte(out, at, i, entry);
+    }
+    put_state(out, at, entry)
+}
+
+// All entries of such a list.
+fn put_list(out: &mut [u8], at: usize, list: &[u8], slots: bool) -> usize {
     let mut p = at;
     let mut i: usize = 0;
-    while i < states.len() {
-        p = put_state(out, p, states[i]);
+    while i < list.len() {
+        p = put_entry(out, p, i, list[i], slots);
         i += 1;
     }
     p
 }
 
 fn say_head(out: &mut [u8], names: &[u8]) {
-    let p = put_all(out, 0, b"time");
-    let q = put_names(out, p, names);
-    let n = put_all(out, q, b" changed\n");
+    let p = put(out, 0, b"time");
+    let q = put_list(out, p, names, true);
+    let n = put(out, q, b" changed\n");
     say_front(out, n);
 }
 
 fn say_row(out: &mut [u8], time: u32, old: &[u8], new: &[u8]) {
     let c = changes_of(old, new);
     let p = put_number(out, 0, time as u64);
-    let q = put_states(out, p, new);
-    let r = put(out, q, b' ');
+    let q = put_list(out, p, new, false);
+    let r = put_byte(out, q, b' ');
     let s = put_number(out, r, c.many as u64);
-    let n = put(out, s, b'\n');
+    let n = put_byte(out, s, b'\n');
     say_front(out, n);
 }
 

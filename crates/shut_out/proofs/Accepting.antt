@@ -13,30 +13,30 @@
 use Prim.Native.Nat.{ℕ, _<_, _≤_}
 use native.Mathlib.Omega.{arith}
 use mathlib.Core.Path.{_≡_, refl}
-use mathlib.Core.Logic.{_⊎_, inl, inr}
-use mathlib.Core.List.{List, [], _∷_, _++_}
-use lib.ListN.{length, getD}
+use mathlib.Core.Logic.{inl, inr}
+use mathlib.Core.List.{List, _++_}
+use lib.ListN.{length}
 use Rattle.alf.specs.declared.Sort.{Sort}
 use Rattle.alf.specs.declared.Sort.the-variants.{Vector}
-use Rattle.alf.specs.declared.Outcome.{Outcome}
-use Rattle.alf.specs.declared.Outcome.the-variants as outcome
+use Rattle.basics.specs.declared.Outcome.{Outcome}
+use Rattle.basics.specs.declared.Outcome.the-variants as outcome
 use Rattle.alf.specs.Alternatives.{stepsOf}
-use Rattle.alf.specs.Refusals.{RefusedWith, Passed, bad-code}
-use Rattle.limits.specs.Accepted.{Accepted}
-use Rattle.names.proofs.Orders.{refused-first, refused-then}
+use Rattle.alf.specs.Refusals.{RefusedWith, bad-code}
+use Rattle.acceptance.specs.Accepted.{Accepted}
+use Rattle.alf.proofs.Orders.{refused-then}
 use Rattle.names.specs.Check.{namesOrder}
 use Rattle.tokens.specs.Texts.{order}
 use Rattle.reader.specs.declared.Read.{Read}
 use Rattle.reader.specs.Reads.{refusedWith}
-use Rattle.reader.specs.Reading.{treeOrder, readOrder, Reading}
-use Rattle.updates.specs.declared.queues.Queue.{Queue}
-use Rattle.calls.specs.declared.matching.Matching.{Matching}
-use Rattle.calls.specs.declared.matching.Matching.the-variants as matching
-use Rattle.calls.specs.Matching.{expression, RowMatch, AllMatched}
-use Rattle.calls.specs.Correcting.{Correction}
-use Rattle.calls.specs.Pushing.{RowFits, Push}
-use Rattle.calls.specs.Orders.{Rows}
-use Rattle.calls.proofs.Routes.{codes-never}
+use Rattle.reader.specs.Reading.{treeOrder, Reading}
+use Rattle.queue.specs.declared.queues.Queue.{Queue}
+use Rattle.matching_calls.specs.declared.matching.Matching.{Matching}
+use Rattle.matching_calls.specs.declared.matching.Matching.the-variants as matching
+use Rattle.matching_calls.specs.Matching.{expression, RowMatch, AllMatched}
+use Rattle.update_calls.specs.Correcting.{Correction}
+use Rattle.update_calls.specs.Pushing.{RowFits, Push}
+use Rattle.judging.specs.Orders.{Rows}
+use Rattle.call_laws.proofs.Routes.{codes-never}
 use Rattle.shut_out.specs.Reasons.{refusal}
 use Rattle.shut_out.proofs.Refusing.{GoodNames, names-pass}
 use Rattle.shut_out.proofs.RefusingTexts.{read-expression}

@@ -13,13 +13,13 @@ use mathlib.Core.List.{List, [], _∷_, _++_}
 use lib.ListN.{length, getD, drop, replicate}
 use Rattle.alf.specs.declared.Answer.{Answer}
 use Rattle.alf.specs.declared.Answer.the-variants.{No, NoEvent}
-use Rattle.alf.specs.declared.Outcome.{Outcome}
-use Rattle.alf.specs.declared.Outcome.the-variants as outcome
-use Rattle.alf.specs.Words.{greatest, listed, count, some, all}
+use Rattle.basics.specs.declared.Outcome.{Outcome}
+use Rattle.basics.specs.declared.Outcome.the-variants as outcome
+use Rattle.basics.specs.Words.{greatest, listed, count, some, all}
 use Rattle.alf.specs.States.{reduce}
 use Rattle.alf.specs.Expressions.{Vector}
 use Rattle.alf.specs.Values.{state, settled, value, stateAt, valueAt}
-use Rattle.alf.specs.declared.changes.Changes.{Changes}
+use Rattle.states.specs.declared.changes.Changes.{Changes}
 use Rattle.alf.specs.Bytes.{halfNumber, edgeNumber, booleanBytes, vectorBytes, bytesOf, halfAt, edgeAt, leafAt, oneAt}
 use Rattle.alf.specs.Bytes.{operationAt, isBoolean, topBoolean, topVector, under, ifSo, run, stackAt}
 use Rattle.trees.specs.Parts.{booleanAt}
@@ -31,19 +31,19 @@ use Rattle.alf.specs.Traces.{changed, mask, changeMask}
 use Rattle.alf.specs.Refusals.{Comes}
 use Rattle.alf.specs.TableT.{names, rows, states}
 use Rattle.matcher.specs.declared.answers.Matched.{Matched}
-use Rattle.rewriting.specs.Lists.{laid}
-use Rattle.rewriting.specs.Possible.{flagOf, flagList}
+use Rattle.contradictions.specs.Possible.{flagOf, flagList}
 use Rattle.rewriting.specs.Calls as rewriting
-use Rattle.rewriting.specs.Calls.{ownAt, Contradicts}
+use Rattle.contradictions.specs.Calls.{ownAt, Contradicts}
 use Rattle.changes.specs.declared.RowChanges.the-variants as row-changes
 use Rattle.changes.specs.Call as changes
-use Rattle.calls.specs.declared.written.Told.{Told}
-use Rattle.calls.specs.declared.written.Told.the-variants as told
-use Rattle.calls.specs.declared.matching.Matching.{Matching}
-use Rattle.calls.specs.declared.matching.Matching.the-variants as matching
-use Rattle.calls.specs.Written.{Tells, RowAnswer, AllValues, after}
-use Rattle.calls.specs.Matching.{expression, Finds, RowMatch, AllMatched}
-use Rattle.calls.proofs.Routes.{answered, matched}
+use Rattle.row_calls.specs.declared.written.Told.{Told}
+use Rattle.row_calls.specs.declared.written.Told.the-variants as told
+use Rattle.matching_calls.specs.declared.matching.Matching.{Matching}
+use Rattle.matching_calls.specs.declared.matching.Matching.the-variants as matching
+use Rattle.row_calls.specs.Written.{Tells, RowAnswer, AllValues}
+use Rattle.basics.specs.Memory.{after}
+use Rattle.matching_calls.specs.Matching.{expression, Finds, RowMatch, AllMatched}
+use Rattle.call_laws.proofs.Routes.{answered, matched}
 use Rattle.shut_out.specs.Asked as T
 use Rattle.shut_out.specs.Asked.{rises, just-A}
 use Rattle.shut_out.proofs.RefusingRows.{match-all}
@@ -199,7 +199,7 @@ flag-0 = refl
 
 pub flag-turned : {flags flags′ : List ℕ} (m : ℕ) → Contradicts names (T.asked rises) flags flags′ (outcome.Done m)
     → getD flags′ 0 0 ≡ 1 → ⊥
-unfolding rewriting.after laid
+unfolding after
 flag-turned {flags} {flags′} m w e =
     let a = at-front _ _ (w .memory ∙ ap (λ (l : List ℕ). l ++ drop (length l) flags) flag-0) 0 in
     omega (arith, a, e)

@@ -9,63 +9,64 @@ use lib.ListN.{length}
 use contract.Lifetimes.{Lfts}
 use denote.Ref.{now}
 use borrow.Fn.Kinds.{Dens}
-use Rattle.alf.specs.declared.Outcome.{Outcome}
+use Rattle.basics.specs.declared.Outcome.{Outcome}
 use Rattle.alf.specs.Refusals.{Comes}
 use Rattle.names.specs.Check.{namesOrder}
 use Rattle.reader.specs.declared.Read.{Read}
 use Rattle.reader.specs.Reading.{Reading}
 use Rattle.writer.specs.Writing as writing
-use Rattle.traces.specs.declared.Reading as files
-use Rattle.traces.specs.Reading.{Reads}
-use Rattle.traces.specs.Writing as trace-writing
+use Rattle.trace_reader.specs.declared.Reading as files
+use Rattle.trace_reader.specs.Reading.{Reads}
+use Rattle.trace_writer.specs.Writing as trace-writing
 use Rattle.changes.specs.declared.RowChanges.{RowChanges}
 use Rattle.changes.specs.Call as changes
-use Rattle.rewriting.specs.Calls.{Rewrites, Contradicts}
-use Rattle.calls.specs.declared.written.Told.{Told}
-use Rattle.calls.specs.declared.matching.Matching.{Matching}
-use Rattle.calls.specs.declared.matching.Counting.{Counting}
-use Rattle.calls.specs.declared.pushing.Pushing.{Pushing}
-use Rattle.calls.specs.Written.{RowState, RowValue, AllValues, RowAnswer}
-use Rattle.calls.specs.Windows.{WindowAnswer}
-use Rattle.calls.specs.Matching.{RowMatch, AllMatched, RowTotals}
-use Rattle.calls.specs.Correcting.{Correction}
-use Rattle.calls.specs.Pushing.{Push}
+use Rattle.rewriting.specs.Calls.{Rewrites}
+use Rattle.contradictions.specs.Calls.{Contradicts}
+use Rattle.row_calls.specs.declared.written.Told.{Told}
+use Rattle.matching_calls.specs.declared.matching.Matching.{Matching}
+use Rattle.matching_calls.specs.declared.matching.Counting.{Counting}
+use Rattle.update_calls.specs.declared.pushing.Pushing.{Pushing}
+use Rattle.row_calls.specs.Written.{RowState, RowValue, AllValues, RowAnswer}
+use Rattle.row_calls.specs.Windows.{WindowAnswer}
+use Rattle.matching_calls.specs.Matching.{RowMatch, AllMatched, RowTotals}
+use Rattle.update_calls.specs.Correcting.{Correction}
+use Rattle.update_calls.specs.Pushing.{Push}
 use Rattle.names.proofs.check_names.Reads as check-names-says
 use Rattle.names.proofs.check_names.Kinds as check-names-kinds
 use Rattle.reader.proofs.read_expression.Reads as read-expression-says
 use Rattle.reader.proofs.read_expression.Kinds as read-expression-kinds
 use Rattle.writer.proofs.write_expression.Reads as write-expression-says
 use Rattle.writer.proofs.write_expression.Kinds as write-expression-kinds
-use Rattle.traces.proofs.read.read_trace.Reads as read-trace-says
-use Rattle.traces.proofs.read.read_trace.Kinds as read-trace-kinds
-use Rattle.traces.proofs.write.write_trace.Reads as write-trace-says
-use Rattle.traces.proofs.write.write_trace.Kinds as write-trace-kinds
+use Rattle.trace_reader.proofs.read.read_trace.Reads as read-trace-says
+use Rattle.trace_reader.proofs.read.read_trace.Kinds as read-trace-kinds
+use Rattle.trace_writer.proofs.write.write_trace.Reads as write-trace-says
+use Rattle.trace_writer.proofs.write.write_trace.Kinds as write-trace-kinds
 use Rattle.changes.proofs.changes_at.Reads as changes-at-says
 use Rattle.changes.proofs.changes_at.Kinds as changes-at-kinds
 use Rattle.rewriting.proofs.rewrite.Reads as rewrite-says
 use Rattle.rewriting.proofs.rewrite.Kinds as rewrite-kinds
-use Rattle.rewriting.proofs.contradictions.Reads as contradictions-says
-use Rattle.rewriting.proofs.contradictions.Kinds as contradictions-kinds
-use Rattle.calls.proofs.written.row_state.Reads as row-state-says
-use Rattle.calls.proofs.written.row_state.Kinds as row-state-kinds
-use Rattle.calls.proofs.written.row_value.Reads as row-value-says
-use Rattle.calls.proofs.written.row_value.Kinds as row-value-kinds
-use Rattle.calls.proofs.written.values.Reads as values-says
-use Rattle.calls.proofs.written.values.Kinds as values-kinds
-use Rattle.calls.proofs.written.row_answer.Reads as row-answer-says
-use Rattle.calls.proofs.written.row_answer.Kinds as row-answer-kinds
-use Rattle.calls.proofs.windows.window_answer.Reads as window-answer-says
-use Rattle.calls.proofs.windows.window_answer.Kinds as window-answer-kinds
-use Rattle.calls.proofs.matching.match_row.Reads as match-row-says
-use Rattle.calls.proofs.matching.match_row.Kinds as match-row-kinds
-use Rattle.calls.proofs.matching.match_all.Reads as match-all-says
-use Rattle.calls.proofs.matching.match_all.Kinds as match-all-kinds
-use Rattle.calls.proofs.matching.totals.Reads as totals-says
-use Rattle.calls.proofs.matching.totals.Kinds as totals-kinds
-use Rattle.calls.proofs.correcting.correct.Reads as correct-says
-use Rattle.calls.proofs.correcting.correct.Kinds as correct-kinds
-use Rattle.calls.proofs.pushing.push.Reads as push-says
-use Rattle.calls.proofs.pushing.push.Kinds as push-kinds
+use Rattle.contradictions.proofs.reports.contradictions.Reads as contradictions-says
+use Rattle.contradictions.proofs.reports.contradictions.Kinds as contradictions-kinds
+use Rattle.row_calls.proofs.written.row_state.Reads as row-state-says
+use Rattle.row_calls.proofs.written.row_state.Kinds as row-state-kinds
+use Rattle.row_calls.proofs.written.row_value.Reads as row-value-says
+use Rattle.row_calls.proofs.written.row_value.Kinds as row-value-kinds
+use Rattle.row_calls.proofs.written.values.Reads as values-says
+use Rattle.row_calls.proofs.written.values.Kinds as values-kinds
+use Rattle.row_calls.proofs.written.row_answer.Reads as row-answer-says
+use Rattle.row_calls.proofs.written.row_answer.Kinds as row-answer-kinds
+use Rattle.row_calls.proofs.windows.window_answer.Reads as window-answer-says
+use Rattle.row_calls.proofs.windows.window_answer.Kinds as window-answer-kinds
+use Rattle.matching_calls.proofs.matching.match_row.Reads as match-row-says
+use Rattle.matching_calls.proofs.matching.match_row.Kinds as match-row-kinds
+use Rattle.matching_calls.proofs.matching.match_all.Reads as match-all-says
+use Rattle.matching_calls.proofs.matching.match_all.Kinds as match-all-kinds
+use Rattle.matching_calls.proofs.matching.totals.Reads as totals-says
+use Rattle.matching_calls.proofs.matching.totals.Kinds as totals-kinds
+use Rattle.update_calls.proofs.correcting.correct.Reads as correct-says
+use Rattle.update_calls.proofs.correcting.correct.Kinds as correct-kinds
+use Rattle.update_calls.proofs.pushing.push.Reads as push-says
+use Rattle.update_calls.proofs.pushing.push.Kinds as push-kinds
 
 pub check-names : (κs : Lfts 1) (a : Dens κs check-names-kinds.ps) → check-names-says.Pre κs a
     × ((r : Outcome) (e : Dens κs check-names-kinds.ps) → check-names-says.Post κs a r e

@@ -2,9 +2,8 @@
 -- (`Hands`) a result that the call's contract allows, of its arguments at entry (a), its result (r) and its
 -- arguments at exit (e); and it requires nothing. So what is shut out of a call is shut out of its function for C.
 -- Here: texts, files, rows, matching, a correction, a push. The others stand in AttachedListsForC.
-use Prim.Native.Nat.{ℕ, _/_}
+use Prim.Native.Nat.{_/_}
 use mathlib.Core.Path.{_≡_}
-use mathlib.Core.List.{List}
 use lib.ListN.{length, replicate}
 use contract.Lifetimes.{Lfts}
 use denote.Ref.{now}
@@ -13,25 +12,26 @@ use Rattle.alf.specs.Refusals.{Comes}
 use Rattle.names.specs.Check.{namesOrder}
 use Rattle.reader.specs.Reading.{Reading}
 use Rattle.writer.specs.Writing as writing
-use Rattle.traces.specs.Reading.{Reads}
-use Rattle.traces.specs.Writing as trace-writing
+use Rattle.trace_reader.specs.Reading.{Reads}
+use Rattle.trace_writer.specs.Writing as trace-writing
 use Rattle.changes.specs.Call as changes
-use Rattle.rewriting.specs.Calls.{Rewrites, Contradicts}
-use Rattle.calls.specs.Written.{RowState, RowValue, AllValues, RowAnswer}
-use Rattle.calls.specs.Windows.{WindowAnswer}
-use Rattle.calls.specs.Matching.{RowMatch, AllMatched, RowTotals}
-use Rattle.calls.specs.Correcting.{Correction}
-use Rattle.dachsmond.specs.Handing.{Hands, sortOf, told, toldExpression, toldTrace, toldChanges, toldAnswer}
-use Rattle.dachsmond.specs.Matching.{toldMatch, toldCounts, queueOf, Pushes, toldPush}
-use Rattle.dachsmond.specs.declared.Told.{Told}
-use Rattle.dachsmond.specs.declared.Expression.{Expression}
-use Rattle.dachsmond.specs.declared.Trace.{Trace}
-use Rattle.dachsmond.specs.declared.Changed.{Changed}
-use Rattle.dachsmond.specs.declared.Answered.{Answered}
-use Rattle.dachsmond.specs.declared.Matched.{Matched}
-use Rattle.dachsmond.specs.declared.Counted.{Counted}
-use Rattle.dachsmond.specs.declared.Queue.{Queue}
-use Rattle.dachsmond.specs.declared.Pushed.{Pushed}
+use Rattle.rewriting.specs.Calls.{Rewrites}
+use Rattle.contradictions.specs.Calls.{Contradicts}
+use Rattle.row_calls.specs.Written.{RowState, RowValue, AllValues, RowAnswer}
+use Rattle.row_calls.specs.Windows.{WindowAnswer}
+use Rattle.matching_calls.specs.Matching.{RowMatch, AllMatched, RowTotals}
+use Rattle.update_calls.specs.Correcting.{Correction}
+use Rattle.telling.specs.Handing.{Hands, sortOf, told, toldExpression, toldTrace, toldChanges, toldAnswer}
+use Rattle.telling.specs.Matching.{toldMatch, toldCounts, queueOf, Pushes, toldPush}
+use Rattle.telling.specs.declared.Told.{Told}
+use Rattle.telling.specs.declared.Expression.{Expression}
+use Rattle.telling.specs.declared.Trace.{Trace}
+use Rattle.telling.specs.declared.Changed.{Changed}
+use Rattle.telling.specs.declared.Answered.{Answered}
+use Rattle.telling.specs.declared.Matched.{Matched}
+use Rattle.telling.specs.declared.Counted.{Counted}
+use Rattle.telling.specs.declared.Queue.{Queue}
+use Rattle.telling.specs.declared.Pushed.{Pushed}
 use Rattle.dachsmond.proofs.texts.dachsmond_check_names.Reads as check-names-says
 use Rattle.dachsmond.proofs.texts.dachsmond_check_names.Kinds as check-names-kinds
 use Rattle.dachsmond.proofs.texts.dachsmond_read_expression.Reads as read-expression-says

@@ -10,9 +10,9 @@ use mathlib.Core.Path.{_≡_}
 use contract.Lifetimes.{Lfts}
 use denote.Ref.{now}
 use borrow.Fn.Kinds.{Dens}
-use Rattle.alf.specs.declared.Outcome.{Outcome}
-use Rattle.calls.specs.declared.matching.Counting.{Counting}
-use Rattle.listing.specs.declared.table.Sums.{Sums}
+use Rattle.basics.specs.declared.Outcome.{Outcome}
+use Rattle.matching_calls.specs.declared.matching.Counting.{Counting}
+use Rattle.table_lines.specs.declared.lines.Sums.{Sums}
 use Rattle.listing.specs.Calls.{ValuesText}
 use Rattle.alternative_lines.specs.declared.Lines.{Lines}
 use Rattle.alternative_lines.specs.Calls.{WritesAlternatives}

@@ -4,15 +4,16 @@ use mathlib.Core.Bool.{Bool}
 use contract.Lifetimes.{Lfts}
 use denote.Ref.{now}
 use borrow.Fn.Kinds.{Dens}
-use Rattle.alf.specs.declared.Outcome.{Outcome}
-use Rattle.limits.specs.Accepted.{Decides}
-use Rattle.calls.specs.declared.matching.Matching.{Matching}
-use Rattle.calls.specs.declared.matching.Counting.{Counting}
-use Rattle.calls.specs.declared.pushing.Pushing.{Pushing}
+use Rattle.basics.specs.declared.Outcome.{Outcome}
+use Rattle.basics.specs.Deciding.{Decides}
+use Rattle.matching_calls.specs.declared.matching.Matching.{Matching}
+use Rattle.matching_calls.specs.declared.matching.Counting.{Counting}
+use Rattle.update_calls.specs.declared.pushing.Pushing.{Pushing}
 use Rattle.listed_calls.specs.Lists.{AcceptedAlternatives}
 use Rattle.listed_calls.specs.Listed.{ListedMatch, ListedAll, ListedTotals, ListedPush}
-use Rattle.listing.specs.Calls.{Delivers, ListsText}
-use Rattle.listing.specs.Table.{headingLine, patternLine, refusedLine, totalLine}
+use Rattle.listing.specs.Calls.{ListsText}
+use Rattle.figures.specs.Delivering.{Delivers}
+use Rattle.table_lines.specs.Table.{headingLine, patternLine, refusedLine, totalLine}
 use Rattle.listed_calls.proofs.accepting.fits.Reads as listed-fits-says
 use Rattle.listed_calls.proofs.accepting.fits.Kinds as listed-fits-kinds
 use Rattle.listed_calls.proofs.listed.match_row.Reads as listed-match-row-says
@@ -25,14 +26,14 @@ use Rattle.listed_calls.proofs.listed.push.Reads as listed-push-says
 use Rattle.listed_calls.proofs.listed.push.Kinds as listed-push-kinds
 use Rattle.listing.proofs.listings.list.Reads as list-says
 use Rattle.listing.proofs.listings.list.Kinds as list-kinds
-use Rattle.listing.proofs.table.write_heading.Reads as table-heading-says
-use Rattle.listing.proofs.table.write_heading.Kinds as table-heading-kinds
-use Rattle.listing.proofs.table.write_line.Reads as table-line-says
-use Rattle.listing.proofs.table.write_line.Kinds as table-line-kinds
-use Rattle.listing.proofs.table.write_refused.Reads as table-refused-says
-use Rattle.listing.proofs.table.write_refused.Kinds as table-refused-kinds
-use Rattle.listing.proofs.table.write_total.Reads as table-total-says
-use Rattle.listing.proofs.table.write_total.Kinds as table-total-kinds
+use Rattle.table_lines.proofs.lines.write_heading.Reads as table-heading-says
+use Rattle.table_lines.proofs.lines.write_heading.Kinds as table-heading-kinds
+use Rattle.table_lines.proofs.lines.write_line.Reads as table-line-says
+use Rattle.table_lines.proofs.lines.write_line.Kinds as table-line-kinds
+use Rattle.table_lines.proofs.lines.write_refused.Reads as table-refused-says
+use Rattle.table_lines.proofs.lines.write_refused.Kinds as table-refused-kinds
+use Rattle.table_lines.proofs.lines.write_total.Reads as table-total-says
+use Rattle.table_lines.proofs.lines.write_total.Kinds as table-total-kinds
 
 pub listed-fits : (κs : Lfts 5) (a : Dens κs listed-fits-kinds.ps) → listed-fits-says.Pre κs a
     × ((r : Bool) (e : Dens κs listed-fits-kinds.ps) → listed-fits-says.Post κs a r e

@@ -1,23 +1,21 @@
 -- The same as AttachedForC, for the functions over alternatives handed in as lists, the listing and the table.
-use Prim.Native.Nat.{ℕ}
-use mathlib.Core.Path.{_≡_}
 use mathlib.Core.Bool.{Bool}
-use mathlib.Core.List.{List}
 use contract.Lifetimes.{Lfts}
 use denote.Ref.{now}
 use borrow.Fn.Kinds.{Dens}
-use Rattle.limits.specs.Accepted.{Decides}
+use Rattle.basics.specs.Deciding.{Decides}
 use Rattle.listed_calls.specs.Lists.{AcceptedAlternatives}
 use Rattle.listed_calls.specs.Listed.{ListedMatch, ListedAll, ListedTotals}
-use Rattle.listing.specs.Calls.{Delivers, ListsText}
-use Rattle.listing.specs.Table.{headingLine, patternLine, refusedLine, totalLine}
-use Rattle.dachsmond.specs.Handing.{Hands, told}
-use Rattle.dachsmond.specs.Matching.{toldMatch, toldCounts, queueOf, toldPush}
-use Rattle.dachsmond.specs.Listed.{ListedPushes}
-use Rattle.dachsmond.specs.declared.Told.{Told}
-use Rattle.dachsmond.specs.declared.Matched.{Matched}
-use Rattle.dachsmond.specs.declared.Counted.{Counted}
-use Rattle.dachsmond.specs.declared.Pushed.{Pushed}
+use Rattle.listing.specs.Calls.{ListsText}
+use Rattle.figures.specs.Delivering.{Delivers}
+use Rattle.table_lines.specs.Table.{headingLine, patternLine, refusedLine, totalLine}
+use Rattle.telling.specs.Handing.{Hands, told}
+use Rattle.telling.specs.Matching.{toldMatch, toldCounts, queueOf, toldPush}
+use Rattle.telling.specs.Listed.{ListedPushes}
+use Rattle.telling.specs.declared.Told.{Told}
+use Rattle.telling.specs.declared.Matched.{Matched}
+use Rattle.telling.specs.declared.Counted.{Counted}
+use Rattle.telling.specs.declared.Pushed.{Pushed}
 use Rattle.dachsmond.proofs.listed.dachsmond_listed_fits.Reads as listed-fits-says
 use Rattle.dachsmond.proofs.listed.dachsmond_listed_fits.Kinds as listed-fits-kinds
 use Rattle.dachsmond.proofs.listed.dachsmond_listed_match_row.Reads as listed-match-row-says
@@ -28,16 +26,16 @@ use Rattle.dachsmond.proofs.listed.dachsmond_listed_totals.Reads as listed-tota
 use Rattle.dachsmond.proofs.listed.dachsmond_listed_totals.Kinds as listed-totals-kinds
 use Rattle.dachsmond.proofs.listed.dachsmond_listed_push.Reads as listed-push-says
 use Rattle.dachsmond.proofs.listed.dachsmond_listed_push.Kinds as listed-push-kinds
-use Rattle.dachsmond.proofs.lists.dachsmond_list.Reads as list-says
-use Rattle.dachsmond.proofs.lists.dachsmond_list.Kinds as list-kinds
-use Rattle.dachsmond.proofs.lists.dachsmond_table_heading.Reads as table-heading-says
-use Rattle.dachsmond.proofs.lists.dachsmond_table_heading.Kinds as table-heading-kinds
-use Rattle.dachsmond.proofs.lists.dachsmond_table_line.Reads as table-line-says
-use Rattle.dachsmond.proofs.lists.dachsmond_table_line.Kinds as table-line-kinds
-use Rattle.dachsmond.proofs.lists.dachsmond_table_refused.Reads as table-refused-says
-use Rattle.dachsmond.proofs.lists.dachsmond_table_refused.Kinds as table-refused-kinds
-use Rattle.dachsmond.proofs.lists.dachsmond_table_total.Reads as table-total-says
-use Rattle.dachsmond.proofs.lists.dachsmond_table_total.Kinds as table-total-kinds
+use Rattle.dachsmond.proofs.listings.dachsmond_list.Reads as list-says
+use Rattle.dachsmond.proofs.listings.dachsmond_list.Kinds as list-kinds
+use Rattle.dachsmond.proofs.listings.dachsmond_table_heading.Reads as table-heading-says
+use Rattle.dachsmond.proofs.listings.dachsmond_table_heading.Kinds as table-heading-kinds
+use Rattle.dachsmond.proofs.listings.dachsmond_table_line.Reads as table-line-says
+use Rattle.dachsmond.proofs.listings.dachsmond_table_line.Kinds as table-line-kinds
+use Rattle.dachsmond.proofs.listings.dachsmond_table_refused.Reads as table-refused-says
+use Rattle.dachsmond.proofs.listings.dachsmond_table_refused.Kinds as table-refused-kinds
+use Rattle.dachsmond.proofs.listings.dachsmond_table_total.Reads as table-total-says
+use Rattle.dachsmond.proofs.listings.dachsmond_table_total.Kinds as table-total-kinds
 
 pub listed-fits : (κs : Lfts 5) (a : Dens κs listed-fits-kinds.ps) → listed-fits-says.Pre κs a
     × ((r : Bool) (e : Dens κs listed-fits-kinds.ps) → listed-fits-says.Post κs a r e

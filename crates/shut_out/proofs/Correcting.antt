@@ -8,17 +8,17 @@
 -- and on T, case 12, where the list was right before:
 --   stops-at-row-3        the answer at row 4 does not stay unknown
 --   changes-nothing-on-T  the list of six times 9 does not stay
-use Prim.Native.Nat.{ℕ, suc, _+_, _-_, _*_, _<_, _≤_, min}
+use Prim.Native.Nat.{ℕ, _+_, _-_, _<_, _≤_}
 use native.Mathlib.Omega.{arith}
 use mathlib.Core.Path.{_≡_, refl, sym, ap, _∙_, subst}
-use mathlib.Core.Logic.{_⊎_, inl, inr}
+use mathlib.Core.Logic.{_⊎_}
 use mathlib.Core.List.{List, [], _∷_}
 use lib.ListN.{length, getD}
 use Rattle.alf.specs.declared.Answer.{Answer}
 use Rattle.alf.specs.declared.Answer.the-variants.{No, Yes, Unknown, NoEvent}
-use Rattle.alf.specs.declared.Outcome.{Outcome}
-use Rattle.alf.specs.declared.Outcome.the-variants.{Done, Refused}
-use Rattle.alf.specs.Words.{greatest}
+use Rattle.basics.specs.declared.Outcome.{Outcome}
+use Rattle.basics.specs.declared.Outcome.the-variants.{Done, Refused}
+use Rattle.basics.specs.Words.{greatest}
 use Rattle.alf.specs.States.{reduce}
 use Rattle.alf.specs.Expressions.{Vector}
 use Rattle.alf.specs.Values.{state, stateAt}
@@ -28,10 +28,10 @@ use Rattle.alf.specs.Traces.{corrected, lastRewritten}
 use Rattle.alf.specs.Refusals.{Comes}
 use Rattle.alf.specs.TableT.{names, rows, states}
 use Rattle.alf.proofs.TraceNearness.{steps-pos}
-use Rattle.calls.specs.Written.{after}
-use Rattle.calls.specs.Matching.{expression}
-use Rattle.calls.specs.Correcting.{Correction}
-use Rattle.calls.proofs.Theorems.{correction-reaches, correction-stays}
+use Rattle.basics.specs.Memory.{after}
+use Rattle.matching_calls.specs.Matching.{expression}
+use Rattle.update_calls.specs.Correcting.{Correction}
+use Rattle.call_laws.proofs.Theorems.{correction-reaches, correction-stays}
 use Rattle.shut_out.specs.Asked as T
 use Rattle.shut_out.specs.Asked.{rises, junk}
 use Rattle.shut_out.proofs.RefusingUpdates.{Correctable, correct}

@@ -11,7 +11,7 @@ use mathlib.Core.List.{List}
 use lib.ListN.{length, drop}
 use Rattle.alf.specs.declared.Answer.{Answer}
 use Rattle.alf.specs.declared.Answer.the-variants.{No, Yes, Unknown}
-use Rattle.alf.specs.Words.{greatest, leastOf, count, all}
+use Rattle.basics.specs.Words.{greatest, leastOf, count, all}
 use Rattle.alf.specs.States.{reduce}
 use Rattle.alf.specs.Expressions.{Vector}
 use Rattle.alf.specs.Values.{state, stateAt}
@@ -21,23 +21,23 @@ use Rattle.alf.specs.Alternatives.{alternatives, rewritten, tries, tried, atRow
 use Rattle.alf.specs.Traces.{total}
 use Rattle.alf.specs.TableT.{names, rows, times, states}
 use Rattle.alf.proofs.TraceNearness.{steps-pos}
-use Rattle.traces.specs.Format.{codesOf}
-use Rattle.traces.proofs.Putting.{codes-all}
+use Rattle.trace_format.specs.Format.{codesOf}
+use Rattle.trace_writer.proofs.Putting.{codes-all}
 use Rattle.matcher.specs.declared.answers.Matched.{Matched}
 use Rattle.matcher.specs.declared.tables.Total.{Total}
-use Rattle.updates.specs.declared.queues.Queue.{Queue}
-use Rattle.updates.specs.Copies.{Codes}
-use Rattle.updates.specs.Queues.{fed}
-use Rattle.updates.proofs.Codes.{codes-take, codes-drop}
-use Rattle.calls.specs.declared.written.Told.the-variants as told
-use Rattle.calls.specs.declared.matching.Matching.{Matching}
-use Rattle.calls.specs.declared.matching.Matching.the-variants as matching
-use Rattle.calls.specs.declared.matching.Counting.the-variants as counting
-use Rattle.calls.specs.Orders.{Rows}
-use Rattle.calls.specs.Written.{Tells}
-use Rattle.calls.specs.Matching.{expression, triesOn, Finds, Counts, RowMatch, RowTotals}
-use Rattle.calls.specs.Pushing.{Takes, Push}
-use Rattle.calls.proofs.Routes.{matched, found, row-passed, three-routes}
+use Rattle.queue.specs.declared.queues.Queue.{Queue}
+use Rattle.states.specs.FirstBadCode.{Codes}
+use Rattle.queue.specs.Queues.{fed}
+use Rattle.states.proofs.CodeLists.{codes-take, codes-drop}
+use Rattle.row_calls.specs.declared.written.Told.the-variants as told
+use Rattle.matching_calls.specs.declared.matching.Matching.{Matching}
+use Rattle.matching_calls.specs.declared.matching.Matching.the-variants as matching
+use Rattle.matching_calls.specs.declared.matching.Counting.the-variants as counting
+use Rattle.judging.specs.Orders.{Rows}
+use Rattle.row_calls.specs.Written.{Tells}
+use Rattle.matching_calls.specs.Matching.{expression, triesOn, Finds, Counts, RowMatch, RowTotals}
+use Rattle.update_calls.specs.Pushing.{Takes, Push}
+use Rattle.call_laws.proofs.Routes.{matched, found, row-passed, three-routes}
 use Rattle.shut_out.specs.Asked as T
 use Rattle.shut_out.specs.Asked.{rises, one-of}
 use Rattle.shut_out.proofs.OnT.{trace-good, rises-accepted, one-of-accepted, rises-is, one-of-is}

@@ -6,8 +6,8 @@ use native.Mathlib.Omega.{arith}
 use mathlib.Core.Path.{_≡_, refl, ap}
 use mathlib.Core.List.{List}
 use lib.ListN.{length}
-use Rattle.alf.specs.declared.Refusal.{Refusal}
-use Rattle.alf.specs.Words.{some, all}
+use Rattle.basics.specs.declared.Refusal.{Refusal}
+use Rattle.basics.specs.Words.{some, all}
 use Rattle.alf.specs.States.{reduce}
 use Rattle.alf.specs.Names.{slot, untilZero, slotOf}
 use Rattle.alf.specs.Bytes.{halfNumber, edgeNumber, booleanBytes, vectorBytes, bytesOf}
@@ -19,9 +19,10 @@ use Rattle.grammar.specs.Tokens.{table, kindIn, kind}
 use Rattle.grammar.specs.Written.{written}
 use Rattle.reader.proofs.Unique.{gives-unique}
 use Rattle.writer.specs.Trees.{booleanTree, vectorTree, treeOf}
-use Rattle.writer.specs.Spelled.{halfByte, pairSpelled, signSpelled, spelled, following, textOf, text}
-use Rattle.listing.specs.Text.{bytes, joined}
-use Rattle.listing.specs.Numbers.{digits, widthUpTo, width, decimal}
+use Rattle.spelling.specs.Spelled.{halfByte, pairSpelled, signSpelled, spelled, following, textOf}
+use Rattle.writer.specs.Trees.{text}
+use Rattle.figures.specs.Text.{bytes, joined}
+use Rattle.figures.specs.Numbers.{digits, widthUpTo, width, decimal}
 use Rattle.alternative_texts.specs.Texts.{readable, shown, expressionOf, testText, behind, between, stepText}
 use Rattle.alternative_texts.specs.Texts.{alternativeText}
 use Rattle.alternative_lines.specs.Listing.{note, lineOf, line, linesFrom, listing}

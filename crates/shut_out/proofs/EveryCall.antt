@@ -6,37 +6,39 @@ use native.Mathlib.Omega.{arith}
 use mathlib.Core.Path.{_≡_, refl}
 use mathlib.Core.List.{List}
 use lib.ListN.{length, getD}
-use Rattle.alf.specs.declared.Refusal.{Refusal}
+use Rattle.basics.specs.declared.Refusal.{Refusal}
 use Rattle.alf.specs.declared.Sort.the-variants as sort
-use Rattle.alf.specs.declared.Outcome.the-variants as outcome
+use Rattle.basics.specs.declared.Outcome.the-variants as outcome
 use Rattle.alf.specs.Expressions.{boolean}
 use Rattle.alf.specs.Bytes.{halfNumber, edgeNumber, booleanBytes, vectorBytes, bytesOf}
 use Rattle.alf.specs.Bytes.{halfAt, edgeAt, leafAt, oneAt, operationAt}
 use Rattle.alf.specs.Bytes.{isBoolean, topBoolean, topVector, under, ifSo, run, stackAt, Decodes}
-use Rattle.alf.specs.Alternatives.{alternatives, each}
+use Rattle.alf.specs.Alternatives.{alternatives}
 use Rattle.alf.specs.Refusals.{NameCount}
 use Rattle.alf.specs.TableT.{names, rows, times, states, A}
 use Rattle.alf.proofs.TraceNearness.{steps-pos}
 use Rattle.trees.specs.Brackets.{booleanDepth, depthOf}
-use Rattle.limits.specs.Accepted.{sortOf, overSize, Accepted}
-use Rattle.writer.specs.Spelled.{text}
-use Rattle.rewriting.specs.Codes.{placed}
+use Rattle.acceptance.specs.Accepted.{sortOf, overSize, Accepted}
+use Rattle.writer.specs.Trees.{text}
+use Rattle.step_tests.specs.OperandPlaces.{placed}
 use Rattle.rewriting.specs.Lists.{joined, alternativesAt, stepList, testList, edgeList, operandList}
-use Rattle.rewriting.specs.Possible.{flagList}
-use Rattle.rewriting.specs.Calls.{ownAt, Rewrites, Contradicts}
-use Rattle.updates.specs.declared.queues.Queue.{Queue}
-use Rattle.updates.specs.Copies.{Codes}
-use Rattle.calls.specs.declared.written.Told.the-variants as told
-use Rattle.calls.specs.declared.matching.Matching.the-variants as matching
-use Rattle.calls.specs.declared.matching.Counting.the-variants as counting
-use Rattle.calls.specs.Written.{RowState, RowValue, AllValues, RowAnswer}
-use Rattle.calls.specs.Windows.{WindowAnswer}
-use Rattle.calls.specs.Matching.{expression, RowMatch, AllMatched, RowTotals}
-use Rattle.calls.specs.Correcting.{Correction}
-use Rattle.calls.specs.Pushing.{Push}
-use Rattle.calls.proofs.Routes.{holding-first}
+use Rattle.contradictions.specs.Possible.{flagList}
+use Rattle.rewriting.specs.Calls.{Rewrites}
+use Rattle.contradictions.specs.Calls.{ownAt, Contradicts}
+use Rattle.queue.specs.declared.queues.Queue.{Queue}
+use Rattle.states.specs.FirstBadCode.{Codes}
+use Rattle.row_calls.specs.declared.written.Told.the-variants as told
+use Rattle.matching_calls.specs.declared.matching.Matching.the-variants as matching
+use Rattle.matching_calls.specs.declared.matching.Counting.the-variants as counting
+use Rattle.row_calls.specs.Written.{RowState, RowValue, AllValues, RowAnswer}
+use Rattle.row_calls.specs.Windows.{WindowAnswer}
+use Rattle.matching_calls.specs.Matching.{expression, RowMatch, AllMatched, RowTotals}
+use Rattle.update_calls.specs.Correcting.{Correction}
+use Rattle.update_calls.specs.Pushing.{Push}
+use Rattle.call_laws.proofs.Routes.{holding-first}
 use Rattle.listing.specs.Listing.{listing}
-use Rattle.listing.specs.Calls.{ListsText, Delivers}
+use Rattle.listing.specs.Calls.{ListsText}
+use Rattle.figures.specs.Delivering.{Delivers}
 use Rattle.shut_out.specs.Asked.{asked, rises, just-A}
 use Rattle.shut_out.proofs.Reasons.{Four}
 use Rattle.shut_out.proofs.Refusing as texts

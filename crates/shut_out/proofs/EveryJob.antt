@@ -12,11 +12,11 @@ use mathlib.Core.Path.{_≡_, refl, sym, ap, _∙_}
 use mathlib.Core.List.{List, map}
 use lib.ListN.{length, getD}
 use Rattle.alf.specs.declared.Answer.the-variants.{Yes}
-use Rattle.alf.specs.declared.Refusal.{Refusal}
+use Rattle.basics.specs.declared.Refusal.{Refusal}
 use Rattle.alf.specs.declared.Sort.the-variants as sort
-use Rattle.alf.specs.declared.Outcome.{Outcome}
-use Rattle.alf.specs.declared.Outcome.the-variants as outcome
-use Rattle.alf.specs.Words.{greatest, greatestOf, count, sumOf, listed}
+use Rattle.basics.specs.declared.Outcome.{Outcome}
+use Rattle.basics.specs.declared.Outcome.the-variants as outcome
+use Rattle.basics.specs.Words.{greatest, greatestOf, count, sumOf, listed}
 use Rattle.alf.specs.States.{among, reduce}
 use Rattle.alf.specs.Names.{slot, untilZero, slotOf}
 use Rattle.alf.specs.Expressions.{Vector, edge, changes, boolean, vector}
@@ -29,27 +29,28 @@ use Rattle.alf.specs.Alternatives.{alternatives, rewritten, each, overLimit, te
 use Rattle.alf.specs.Traces.{total, corrected}
 use Rattle.alf.specs.TableT.{names, rows, times, states, A, B}
 use Rattle.trees.specs.Brackets.{levelOf, bracketed, booleanDepth, vectorDepth, depthOf}
-use Rattle.limits.specs.Accepted.{sortOf, overSize}
+use Rattle.acceptance.specs.Accepted.{sortOf, overSize}
 use Rattle.grammar.specs.Written.{written}
 use Rattle.reader.specs.Reading.{Gives}
 use Rattle.reader.proofs.Unique.{gives-unique}
 use Rattle.writer.specs.Trees.{booleanTree, vectorTree, treeOf}
-use Rattle.writer.specs.Spelled.{halfByte, pairSpelled, prefixes, signSpelled, spelled, following, textOf, text}
+use Rattle.spelling.specs.Spelled.{halfByte, pairSpelled, prefixes, signSpelled, spelled, following, textOf}
+use Rattle.writer.specs.Trees.{text}
 use Rattle.writer.specs.Writing.{Named}
-use Rattle.round_trip.proofs.Given.{text-gives}
-use Rattle.traces.specs.Format as format
+use Rattle.text_laws.proofs.WrittenGives.{text-gives}
+use Rattle.trace_format.specs.Format as format
 use Rattle.matcher.specs.declared.tables.Total.{Total}
-use Rattle.updates.specs.Copies.{Codes}
-use Rattle.calls.specs.declared.matching.Counting.{Counting}
-use Rattle.calls.specs.declared.matching.Counting.the-variants as counting
-use Rattle.calls.specs.Written.{after}
-use Rattle.calls.specs.Matching.{Counts}
-use Rattle.listing.specs.declared.table.Sums.{Sums}
-use Rattle.listing.specs.Text.{bytes, joined}
-use Rattle.listing.specs.Numbers.{digits, widthUpTo, width, decimal}
+use Rattle.states.specs.FirstBadCode.{Codes}
+use Rattle.matching_calls.specs.declared.matching.Counting.{Counting}
+use Rattle.matching_calls.specs.declared.matching.Counting.the-variants as counting
+use Rattle.basics.specs.Memory.{after}
+use Rattle.matching_calls.specs.Matching.{Counts}
+use Rattle.table_lines.specs.declared.lines.Sums.{Sums}
+use Rattle.figures.specs.Text.{bytes, joined}
+use Rattle.figures.specs.Numbers.{digits, widthUpTo, width, decimal}
 use Rattle.listing.specs.Listing.{letter, wordOf, line, lines, valuesListing}
 use Rattle.listing.specs.Calls.{ValuesText}
-use Rattle.listing.proofs.Examples.{case-1-line}
+use Rattle.table_lines.proofs.TableExamples.{case-1-line}
 use Rattle.row_listings.specs.Listings.{patternListing, valueListing, ListsPattern, ListsValues}
 use Rattle.row_listings.proofs.TextListings.{vector-one, boolean-one}
 use Rattle.row_listings.proofs.ListingExamples.{case-1}

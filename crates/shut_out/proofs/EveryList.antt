@@ -1,26 +1,26 @@
 -- Shut out: "refusing everything", for the calls over alternatives handed in: 01 A as lists, on table T.
-use Prim.Native.Nat.{ℕ, zero, suc, _+_, _<_, _≤_}
+use Prim.Native.Nat.{ℕ, zero, suc, _<_, _≤_}
 use native.Mathlib.Omega.{arith}
 use mathlib.Core.Path.{_≡_, refl}
-use mathlib.Core.Bool.{true, false}
+use mathlib.Core.Bool.{false}
 use mathlib.Core.List.{List, [], _∷_}
 use lib.ListN.{length, getD}
-use Rattle.alf.specs.declared.Refusal.{Refusal}
-use Rattle.alf.specs.declared.Outcome.the-variants as outcome
-use Rattle.alf.specs.Words.{greatestOf, sumOf}
+use Rattle.basics.specs.declared.Refusal.{Refusal}
+use Rattle.basics.specs.declared.Outcome.the-variants as outcome
+use Rattle.basics.specs.Words.{greatestOf, sumOf}
 use Rattle.alf.specs.Bytes.{halfNumber, edgeNumber, booleanBytes, vectorBytes, bytesOf}
-use Rattle.alf.specs.Bytes.{halfAt, edgeAt, leafAt, oneAt, operationAt}
-use Rattle.alf.specs.Bytes.{isBoolean, topBoolean, under, ifSo, run, stackAt}
+use Rattle.alf.specs.Bytes.{halfAt, edgeAt, leafAt, operationAt}
+use Rattle.alf.specs.Bytes.{isBoolean, topBoolean, under, run, stackAt}
 use Rattle.alf.specs.Alternatives.{overLimit, tests}
 use Rattle.alf.specs.TableT.{names, rows, states}
 use Rattle.trees.specs.Parts.{top}
-use Rattle.limits.specs.Accepted.{Decides}
-use Rattle.matcher.specs.Shapes.{cut, sum, testsOf, alternativesOf}
-use Rattle.updates.specs.declared.queues.Queue.{Queue}
-use Rattle.updates.specs.Copies.{Codes}
-use Rattle.calls.specs.declared.matching.Matching.the-variants as matching
-use Rattle.calls.specs.declared.matching.Counting.the-variants as counting
-use Rattle.calls.proofs.Routes.{holding-first}
+use Rattle.basics.specs.Deciding.{Decides}
+use Rattle.alternatives.specs.InMemory.{cut, sum, testsOf, alternativesOf}
+use Rattle.queue.specs.declared.queues.Queue.{Queue}
+use Rattle.states.specs.FirstBadCode.{Codes}
+use Rattle.matching_calls.specs.declared.matching.Matching.the-variants as matching
+use Rattle.matching_calls.specs.declared.matching.Counting.the-variants as counting
+use Rattle.call_laws.proofs.Routes.{holding-first}
 use Rattle.listed_calls.specs.Lists.{Operand, AcceptedAlternatives}
 use Rattle.listed_calls.specs.Listed as listed
 use Rattle.shut_out.specs.Asked.{asked, rises}

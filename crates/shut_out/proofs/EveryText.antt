@@ -6,9 +6,9 @@ use native.Mathlib.Omega.{arith}
 use mathlib.Core.Path.{_≡_, refl, ap}
 use mathlib.Core.List.{List}
 use lib.ListN.{length, take}
-use Rattle.alf.specs.declared.Refusal.{Refusal}
+use Rattle.basics.specs.declared.Refusal.{Refusal}
 use Rattle.alf.specs.declared.Sort.the-variants as sort
-use Rattle.alf.specs.declared.Outcome.the-variants as outcome
+use Rattle.basics.specs.declared.Outcome.the-variants as outcome
 use Rattle.alf.specs.Names.{slot, untilZero, slotOf}
 use Rattle.alf.specs.Bytes.{halfNumber, edgeNumber, booleanBytes, vectorBytes, bytesOf}
 use Rattle.alf.specs.Bytes.{halfAt, edgeAt, leafAt, oneAt, operationAt}
@@ -17,22 +17,23 @@ use Rattle.alf.specs.Refusals.{Comes}
 use Rattle.alf.specs.TableT.{names, rows, times, states, A}
 use Rattle.names.specs.Check.{namesOrder}
 use Rattle.trees.specs.Parts.{top}
-use Rattle.limits.specs.Accepted.{Accepted}
+use Rattle.acceptance.specs.Accepted.{Accepted}
 use Rattle.grammar.specs.Written.{written}
 use Rattle.reader.specs.Reads.{refusedWith}
 use Rattle.reader.specs.Reading.{Reading}
 use Rattle.writer.specs.Trees.{booleanTree, vectorTree, treeOf}
-use Rattle.writer.specs.Spelled.{halfByte, pairSpelled, signSpelled, spelled, following, textOf, text}
+use Rattle.spelling.specs.Spelled.{halfByte, pairSpelled, signSpelled, spelled, following, textOf}
+use Rattle.writer.specs.Trees.{text}
 use Rattle.writer.specs.Writing.{textAt, Writes}
-use Rattle.round_trip.proofs.Given.{written-gives}
-use Rattle.traces.specs.declared.Reading.the-variants as file
-use Rattle.traces.specs.Format.{fileOf, count}
-use Rattle.traces.specs.Reading.{Reads}
-use Rattle.traces.specs.Writing as files
+use Rattle.text_laws.proofs.WrittenGives.{written-gives}
+use Rattle.trace_reader.specs.declared.Reading.the-variants as file
+use Rattle.trace_format.specs.Format.{fileOf, count}
+use Rattle.trace_reader.specs.Reading.{Reads}
+use Rattle.trace_writer.specs.Writing as files
 use Rattle.changes.specs.declared.RowChanges.the-variants as row-changes
 use Rattle.changes.specs.Call as changes
-use Rattle.calls.specs.Matching.{expression}
-use Rattle.listing.specs.Text.{bytes}
+use Rattle.matching_calls.specs.Matching.{expression}
+use Rattle.figures.specs.Text.{bytes}
 use Rattle.shut_out.specs.Asked.{asked, letters, rises}
 use Rattle.shut_out.proofs.Reasons.{Three}
 use Rattle.shut_out.proofs.Writing.{brackets-more}

@@ -3,17 +3,17 @@
 -- another place. Where a call is done, this is what it told, and this is what stands in the memory lent to it; past
 -- an output it is as it was. That nothing else is a refusal of good input, or a refusal, stands in Refusing and its
 -- like.
-use Prim.Native.Nat.{ℕ, _+_, _<_, _≤_, min}
+use Prim.Native.Nat.{ℕ, _+_, _<_, _≤_}
 use native.Mathlib.Omega.{arith}
 use mathlib.Core.Path.{_≡_}
 use mathlib.Core.List.{List, _++_}
 use lib.ListN.{length, drop}
 use Rattle.alf.specs.declared.Answer.{Answer}
 use Rattle.alf.specs.declared.Sort.{Sort}
-use Rattle.alf.specs.declared.Outcome.the-variants.{Done}
-use Rattle.alf.specs.declared.changes.Changes.{Changes}
+use Rattle.basics.specs.declared.Outcome.the-variants.{Done}
+use Rattle.states.specs.declared.changes.Changes.{Changes}
 use Rattle.alf.specs.Expressions.{Expression}
-use Rattle.alf.specs.Words.{listed}
+use Rattle.basics.specs.Words.{listed}
 use Rattle.alf.specs.Values.{stateAt, valueAt}
 use Rattle.alf.specs.Windows.{rowAnswer, named}
 use Rattle.alf.specs.Alternatives.{tries}
@@ -25,35 +25,37 @@ use Rattle.reader.specs.Reads.{made}
 use Rattle.reader.specs.Reading.{Gives, Reading}
 use Rattle.reader.proofs.Unique.{read-complete}
 use Rattle.writer.specs.Writing as writing
-use Rattle.traces.specs.Format.{fileOf}
-use Rattle.traces.specs.Reading.{over}
-use Rattle.traces.specs.Writing as files
+use Rattle.trace_format.specs.Format.{fileOf}
+use Rattle.trace_writer.specs.Writing as files
 use Rattle.changes.specs.declared.RowChanges.the-variants.{Changed}
 use Rattle.changes.specs.Call as changes
-use Rattle.rewriting.specs.Lists.{alternativesAt, stepList, testList, edgeList, operandList, laid}
-use Rattle.rewriting.specs.Possible.{flagList}
+use Rattle.rewriting.specs.Lists.{alternativesAt, stepList, testList, edgeList, operandList}
+use Rattle.contradictions.specs.Possible.{flagList}
 use Rattle.rewriting.specs.Calls as rewriting
+use Rattle.contradictions.specs.Calls as flagging
 use Rattle.matcher.specs.declared.answers.Matched.{Matched}
 use Rattle.matcher.specs.declared.tables.Total.{Total}
-use Rattle.matcher.specs.Shapes.{alternativesOf}
+use Rattle.alternatives.specs.InMemory.{alternativesOf}
 use Rattle.matcher.specs.Answers.{Matches}
 use Rattle.matcher.specs.Tables as tables
-use Rattle.updates.specs.declared.queues.Queue.{Queue}
-use Rattle.updates.specs.Corrections.{longestOf}
-use Rattle.updates.specs.Queues.{Pushes}
-use Rattle.calls.specs.declared.written.Told.the-variants.{Answered}
-use Rattle.calls.specs.declared.matching.Matching.the-variants.{Found}
-use Rattle.calls.specs.declared.matching.Counting.the-variants.{Counted}
-use Rattle.calls.specs.Written.{RowState, RowValue, AllValues, RowAnswer, Tells, after}
-use Rattle.calls.specs.Windows.{WindowAnswer, answerOver}
-use Rattle.calls.specs.Matching.{Finds, Counts, RowMatch, AllMatched, RowTotals, MatchesTree, TotalsTree}
-use Rattle.calls.specs.Matching.{answersOn, triesOn}
-use Rattle.calls.specs.Correcting.{Correction, rewritten}
-use Rattle.calls.specs.Pushing.{Takes, Push, PushesTree}
+use Rattle.queue.specs.declared.queues.Queue.{Queue}
+use Rattle.alternatives.specs.InMemory.{longestOf}
+use Rattle.queue.specs.Queues.{Pushes}
+use Rattle.row_calls.specs.declared.written.Told.the-variants.{Answered}
+use Rattle.matching_calls.specs.declared.matching.Matching.the-variants.{Found}
+use Rattle.matching_calls.specs.declared.matching.Counting.the-variants.{Counted}
+use Rattle.row_calls.specs.Written.{RowState, RowValue, AllValues, RowAnswer, Tells}
+use Rattle.basics.specs.Memory.{after, front}
+use Rattle.row_calls.specs.Windows.{WindowAnswer, answerOver}
+use Rattle.matching_calls.specs.Matching.{Finds, Counts, RowMatch, AllMatched, RowTotals, MatchesTree, TotalsTree}
+use Rattle.matching_calls.specs.Matching.{answersOn, triesOn}
+use Rattle.update_calls.specs.Correcting.{Correction, rewritten}
+use Rattle.update_calls.specs.Pushing.{Takes, Push, PushesTree}
 use Rattle.listed_calls.specs.Listed as listed-calls
 use Rattle.listed_calls.specs.Listed.{alternativesIn}
 use Rattle.listing.specs.Listing.{listing}
-use Rattle.listing.specs.Calls.{ListsText, Delivers}
+use Rattle.listing.specs.Calls.{ListsText}
+use Rattle.figures.specs.Delivering.{Delivers}
 use Rattle.shut_out.proofs.Refusing.{GoodNames, names-pass}
 
 -- Texts and files.
@@ -65,37 +67,37 @@ module _ {out out′ : List ℕ} {m : ℕ} where
   pub no-other-text : {names tree : List ℕ} {sort : Sort} → writing.Writes names tree sort out out′ (Done m)
       → (m ≡ length (writing.textAt names tree))
       × (out′ ≡ writing.textAt names tree ++ drop (length (writing.textAt names tree)) out)
-  unfolding Comes writing.after
+  unfolding Comes after
   no-other-text w = (w .outcome .1, w .memory)
 
   pub no-other-file : {names times states : List ℕ} {n : ℕ} → files.Writes names times states n out out′ (Done m)
-      → (m ≡ length (fileOf names times states n)) × (out′ ≡ over (fileOf names times states n) out)
-  unfolding Comes files.after
+      → (m ≡ length (fileOf names times states n)) × (out′ ≡ front (fileOf names times states n) out)
+  unfolding Comes after
   no-other-file w = (w .outcome .1, w .memory)
 
   pub no-other-listing : {times answers : List ℕ} → ListsText times answers out out′ (Done m)
       → (m ≡ length (listing times answers))
       × (out′ ≡ listing times answers ++ drop (length (listing times answers)) out)
-  unfolding Comes writing.after
+  unfolding Comes after
   no-other-listing w = (w .outcome .1, w .memory)
 
   pub no-other-line : {text : List ℕ} → Delivers text out out′ (Done m)
       → (m ≡ length text) × (out′ ≡ text ++ drop (length text) out)
-  unfolding Comes writing.after
+  unfolding Comes after
   no-other-line w = (w .outcome .1, w .memory)
 
 -- Rewriting.
 module _ {k : ℕ} {tree : List ℕ} {m : ℕ} where
   pub no-other-lists : {s t e o s′ t′ e′ o′ : List ℕ} → rewriting.Rewrites k tree s t e o s′ t′ e′ o′ (Done m)
-      → (s′ ≡ laid (stepList (alternativesAt tree k)) s) × (t′ ≡ laid (testList (alternativesAt tree k)) t)
-      × (e′ ≡ laid (edgeList (alternativesAt tree k)) e) × (o′ ≡ laid (operandList (alternativesAt tree k)) o)
-  unfolding rewriting.after
+      → (s′ ≡ front (stepList (alternativesAt tree k)) s) × (t′ ≡ front (testList (alternativesAt tree k)) t)
+      × (e′ ≡ front (edgeList (alternativesAt tree k)) e) × (o′ ≡ front (operandList (alternativesAt tree k)) o)
+  unfolding after
   no-other-lists w =
       let l = w .memory in (l .steps-are, l .tests-are, l .edges-are, l .operands-are)
 
-  pub no-other-flags : {flags flags′ : List ℕ} → rewriting.Contradicts k tree flags flags′ (Done m)
-      → flags′ ≡ laid (flagList k (rewriting.ownAt tree k)) flags
-  unfolding rewriting.after
+  pub no-other-flags : {flags flags′ : List ℕ} → flagging.Contradicts k tree flags flags′ (Done m)
+      → flags′ ≡ front (flagList k (flagging.ownAt tree k)) flags
+  unfolding after
   no-other-flags w = w .memory
 
 -- Rows.

@@ -2,32 +2,31 @@
 -- patterns.
 --   trace-good, rises-accepted, one-of-accepted, pulse-accepted
 --   rises-is, one-of-is, pulse-is
-use Prim.Native.Nat.{ℕ, zero, suc, _+_, _*_, _^_, _<_, _≤_}
+use Prim.Native.Nat.{ℕ, zero, suc, _+_, _^_, _<_}
 use native.Mathlib.Omega.{arith}
 use borrow.Author.Tests.{ltb-true}
 use mathlib.Core.Path.{_≡_, refl, sym, ap, _∙_}
-use mathlib.Core.Bool.{Bool, true, false, _&&_}
+use mathlib.Core.Bool.{Bool, true, _&&_}
 use mathlib.Core.List.{List, [], _∷_}
 use lib.Dec.{ltb}
 use lib.ListN.{length, getD}
 use Rattle.alf.specs.declared.Sort.the-variants as sort
-use Rattle.alf.specs.Words.{greatestOf, sumOf, all}
+use Rattle.basics.specs.Words.{greatestOf, sumOf, all}
 use Rattle.alf.specs.Names.{isLetter, isDecimal, startsName, goesOnName, isName, slot, untilZero, nameAt, slotOf}
 use Rattle.alf.specs.Names.{GoodSlot}
 use Rattle.alf.specs.Expressions.{vector}
-use Rattle.alf.specs.Bytes.{binaryByte, joinByte, halfNumber, edgeNumber, booleanBytes, vectorBytes, bytesOf}
-use Rattle.alf.specs.Bytes.{binaryAt, joinAt, halfAt, edgeAt, leafAt, pairAt, threeAt, oneAt, operationAt}
+use Rattle.alf.specs.Bytes.{joinByte, halfNumber, edgeNumber, booleanBytes, vectorBytes, bytesOf}
+use Rattle.alf.specs.Bytes.{joinAt, halfAt, edgeAt, leafAt, pairAt, oneAt, operationAt}
 use Rattle.alf.specs.Bytes.{isBoolean, isVector, topBoolean, topVector, under, ifSo, run, stackAt, Decodes}
 use Rattle.alf.specs.Alternatives.{alternatives, rewritten, each, overLimit, tests}
 use Rattle.alf.specs.TableT.{names, rows, times, states, pulse}
-use Rattle.alf.proofs.Bools.{and-left, and-right}
+use Rattle.basics.proofs.Bools.{and-left, and-right}
 use Rattle.names.specs.Check.{Slots}
-use Rattle.traces.specs.Format.{Trace, count}
+use Rattle.trace_format.specs.Format.{Trace, count}
 use Rattle.trees.specs.Brackets.{joinLevel, levelOf, bracketed, booleanDepth, vectorDepth, depthOf}
-use Rattle.limits.specs.Accepted.{sortOf, overSize, Accepted}
-use Rattle.updates.specs.Copies.{Codes}
-use Rattle.calls.specs.Orders.{Rows}
-use Rattle.calls.specs.Matching.{expression}
+use Rattle.acceptance.specs.Accepted.{sortOf, overSize, Accepted}
+use Rattle.states.specs.FirstBadCode.{Codes}
+use Rattle.matching_calls.specs.Matching.{expression}
 use Rattle.shut_out.specs.Asked.{asked, letters, rises, one-of}
 use Rattle.shut_out.proofs.Refusing.{GoodNames}
 use Rattle.shut_out.proofs.RefusingRows.{GoodTrace}

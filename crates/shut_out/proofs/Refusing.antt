@@ -10,25 +10,28 @@ use mathlib.Core.List.{List}
 use lib.ListN.{length, getD}
 use Rattle.alf.specs.declared.Sort.{Sort}
 use Rattle.alf.specs.declared.Sort.the-variants.{Vector}
-use Rattle.alf.specs.declared.Outcome.{Outcome}
-use Rattle.alf.specs.declared.Outcome.the-variants as outcome
+use Rattle.basics.specs.declared.Outcome.{Outcome}
+use Rattle.basics.specs.declared.Outcome.the-variants as outcome
 use Rattle.alf.specs.Names.{GoodSlot}
 use Rattle.alf.specs.Refusals.{Passed, Comes, NameCount}
 use Rattle.names.specs.Check.{Slots, namesOrder}
 use Rattle.writer.specs.Writing as writing
-use Rattle.traces.specs.Format.{Trace, fileOf}
-use Rattle.traces.specs.Writing as files
+use Rattle.trace_format.specs.Format.{Trace, fileOf}
+use Rattle.trace_writer.specs.Writing as files
 use Rattle.trace_laws.proofs.RoundTrips.{writing-passes}
-use Rattle.limits.specs.Accepted.{Accepted}
+use Rattle.acceptance.specs.Accepted.{Accepted}
 use Rattle.rewriting.specs.Lists.{alternativesAt, stepList, testList, edgeList, operandList}
-use Rattle.rewriting.specs.Possible.{flagList}
+use Rattle.contradictions.specs.Possible.{flagList}
 use Rattle.rewriting.specs.Calls as rewriting
+use Rattle.contradictions.specs.Calls as flagging
 use Rattle.listing.specs.Listing.{listing, valuesListing}
+use Rattle.figures.specs.Delivering as delivering
 use Rattle.listing.specs.Calls as lines
 use Rattle.listing.proofs.Theorems.{values-unique}
 use Rattle.demands.proofs.Demand1 as one
 use Rattle.shut_out.specs.Reasons.{Exactly}
 use Rattle.shut_out.proofs.Reasons.{exactly, comes-parts, None, Four, both}
+use Rattle.basics.specs.Memory.{after}
 
 -- Texts.
 pub record GoodNames (names : List ℕ) : Type 0 where
@@ -74,7 +77,7 @@ module _ (names : List ℕ) where
 
     pub write-expression : Exactly Writable (writing.order names tree sort (length out)) outcome.Refused
         (λ r m. writing.Writes names tree sort out m r) out
-    unfolding Comes writing.after
+    unfolding Comes after
     write-expression =
         exactly write-passes
         (record {
@@ -92,7 +95,7 @@ module _ (names times states : List ℕ) (n : ℕ) (out : List ℕ) where
 
   pub write-trace : Exactly FileWritable (files.writeOrder names times states n (length out)) outcome.Refused
       (λ r m. files.Writes names times states n out m r) out
-  unfolding Comes files.after
+  unfolding Comes after
   write-trace =
       exactly (λ g. writing-passes (g .trace) (g .room))
       (record {
@@ -136,7 +139,7 @@ module _ (names : ℕ) (tree : List ℕ) where
         (rewriting.roomOrder (alternativesAt tree names) steps tests edges operands)) outcome.Refused
         (λ r m. rewriting.Rewrites names tree steps tests edges operands (m .0) (m .1) (m .2) (m .3) r)
         (steps, tests, edges, operands)
-    unfolding Comes rewriting.after
+    unfolding Comes after
     rewrite =
         exactly rewrite-passes
         (record {
@@ -154,20 +157,20 @@ module _ (names : ℕ) (tree : List ℕ) where
     pub record Reportable : Type 0 where
       pub name-count : NameCount names
       pub accepted : Accepted names Vector tree
-      pub room : length (flagList names (rewriting.ownAt tree names)) ≤ length flags
+      pub room : length (flagList names (flagging.ownAt tree names)) ≤ length flags
 
     report-passes : Reportable
-        → Passed (rewriting.treeOrder names tree (rewriting.flagOrder names (rewriting.ownAt tree names) flags))
-    unfolding Passed rewriting.treeOrder rewriting.flagOrder
+        → Passed (rewriting.treeOrder names tree (flagging.flagOrder names (flagging.ownAt tree names) flags))
+    unfolding Passed rewriting.treeOrder flagging.flagOrder
     report-passes g = (
       λ p a. a .given (g .name-count),
       (λ p a. a .given (g .accepted), (λ p a. omega (arith, a .given, g .room), tt)),
     )
 
     pub contradictions : Exactly Reportable
-        (rewriting.treeOrder names tree (rewriting.flagOrder names (rewriting.ownAt tree names) flags))
-        outcome.Refused (λ r m. rewriting.Contradicts names tree flags m r) flags
-    unfolding Comes rewriting.after
+        (rewriting.treeOrder names tree (flagging.flagOrder names (flagging.ownAt tree names) flags))
+        outcome.Refused (λ r m. flagging.Contradicts names tree flags m r) flags
+    unfolding Comes after
     contradictions =
         exactly report-passes
         (record {
@@ -200,7 +203,7 @@ module _ (out : List ℕ) where
         → lines.ListsCodes most text times codes out n b → (a ≡ b) × (m ≡ n))
         → Exactly Listable (lines.listOrder most text times codes (length out)) outcome.Refused
         (λ r m. lines.ListsCodes most text times codes out m r) out
-    unfolding Comes writing.after
+    unfolding Comes after
     list-codes same =
         exactly list-passes
         (record {
@@ -222,13 +225,13 @@ module _ (out : List ℕ) where
       list-codes 7 (valuesListing times values) times values (λ a b m n x y. values-unique times values out x y)
 
   module _ (text : List ℕ) where
-    line-passes : length text ≤ length out → Passed (lines.lineOrder text (length out))
+    line-passes : length text ≤ length out → Passed (delivering.lineOrder text (length out))
     unfolding Passed
     line-passes g = (λ p a. omega (arith, a .given, g), tt)
 
-    pub line : Exactly (length text ≤ length out) (lines.lineOrder text (length out)) outcome.Refused
-        (λ r m. lines.Delivers text out m r) out
-    unfolding Comes writing.after
+    pub line : Exactly (length text ≤ length out) (delivering.lineOrder text (length out)) outcome.Refused
+        (λ r m. delivering.Delivers text out m r) out
+    unfolding Comes after
     line =
         exactly line-passes
         (record {

@@ -9,19 +9,20 @@ use mathlib.Core.Path.{_≡_, refl}
 use mathlib.Core.Logic.{_⊎_, inl, inr}
 use mathlib.Core.List.{List, [], _∷_, _++_}
 use lib.ListN.{length}
-use Rattle.alf.specs.declared.Refusal.{Refusal}
+use Rattle.basics.specs.declared.Refusal.{Refusal}
 use Rattle.alf.specs.declared.Sort.the-variants as sort
-use Rattle.alf.specs.declared.Outcome.{Outcome}
-use Rattle.alf.specs.declared.Outcome.the-variants as outcome
+use Rattle.basics.specs.declared.Outcome.{Outcome}
+use Rattle.basics.specs.declared.Outcome.the-variants as outcome
 use Rattle.alf.specs.Expressions.{Vector, vector}
 use Rattle.alf.specs.Alternatives.{alternatives}
 use Rattle.alf.specs.Refusals.{Order, check, no-room, RefusedWith, Passed, Comes}
-use Rattle.names.proofs.Orders.{refused-first, refused-then, refused-either, passed-both}
-use Rattle.limits.specs.Accepted.{Accepted}
+use Rattle.alf.proofs.Orders.{refused-first, refused-then, refused-either, passed-both}
+use Rattle.acceptance.specs.Accepted.{Accepted}
 use Rattle.reader.specs.Reading.{readOrder, Gives}
 use Rattle.reader.proofs.Unique.{gives-unique}
-use Rattle.writer.specs.Writing.{countOf, after}
-use Rattle.listing.specs.Calls.{lineOrder}
+use Rattle.writer.specs.Writing.{countOf}
+use Rattle.basics.specs.Memory.{after}
+use Rattle.figures.specs.Delivering.{lineOrder}
 use Rattle.alternative_lines.specs.declared.Lines.{Lines}
 use Rattle.alternative_lines.specs.Listing.{listing}
 use Rattle.alternative_lines.specs.Calls.{listingAt, order, tally, WritesAlternatives}

@@ -14,19 +14,19 @@ use mathlib.Core.List.{List, map}
 use lib.ListN.{length}
 use Rattle.alf.specs.declared.Sort.{Sort}
 use Rattle.alf.specs.declared.Sort.the-variants as sort
-use Rattle.alf.specs.declared.Outcome.{Outcome}
-use Rattle.alf.specs.declared.Outcome.the-variants as outcome
+use Rattle.basics.specs.declared.Outcome.{Outcome}
+use Rattle.basics.specs.declared.Outcome.the-variants as outcome
 use Rattle.alf.specs.Expressions.{Boolean, Vector, Expression, boolean, vector}
 use Rattle.alf.specs.Refusals.{Order, Passed, Comes}
-use Rattle.names.proofs.Orders.{passed-both}
+use Rattle.alf.proofs.Orders.{passed-both}
 use Rattle.reader.specs.Reading.{readOrder, Gives}
-use Rattle.updates.specs.Copies.{Codes}
-use Rattle.calls.specs.declared.matching.Counting.{Counting}
-use Rattle.calls.specs.declared.matching.Counting.the-variants as counting
-use Rattle.calls.specs.Written.{after}
-use Rattle.calls.specs.Matching.{Counts}
-use Rattle.calls.proofs.Routes.{codes-never}
-use Rattle.listing.specs.Calls.{lineOrder}
+use Rattle.states.specs.FirstBadCode.{Codes}
+use Rattle.matching_calls.specs.declared.matching.Counting.{Counting}
+use Rattle.matching_calls.specs.declared.matching.Counting.the-variants as counting
+use Rattle.basics.specs.Memory.{after}
+use Rattle.matching_calls.specs.Matching.{Counts}
+use Rattle.call_laws.proofs.Routes.{codes-never}
+use Rattle.figures.specs.Delivering.{lineOrder}
 use Rattle.row_listings.specs.Listings.{patternListing, valueListing, listOrder}
 use Rattle.row_listings.specs.Listings.{Lists, lists, refuses, ListsPattern, ListsValues}
 use Rattle.row_listings.proofs.TextListings.{vector-one, boolean-one}

@@ -1,28 +1,28 @@
 -- Shut out: "refusing everything (the table says 'exactly when')", for the calls over alternatives handed in as lists.
-use Prim.Native.Nat.{ℕ, _<_, _≤_}
+use Prim.Native.Nat.{ℕ, _<_}
 use mathlib.Core.Path.{_≡_, refl}
 use mathlib.Core.Bool.{true, false}
 use mathlib.Core.Logic.{_⊎_, inl, inr}
 use mathlib.Core.List.{List}
 use lib.ListN.{length}
-use Rattle.alf.specs.declared.Outcome.the-variants as outcome
+use Rattle.basics.specs.declared.Outcome.the-variants as outcome
 use Rattle.alf.specs.Refusals.{Passed, Comes}
-use Rattle.limits.specs.Accepted.{Decides}
-use Rattle.updates.specs.declared.queues.Queue.{Queue}
-use Rattle.updates.specs.Copies.{Codes}
-use Rattle.calls.specs.declared.matching.Matching.{Matching}
-use Rattle.calls.specs.declared.matching.Matching.the-variants as matching
-use Rattle.calls.specs.declared.matching.Counting.the-variants as counting
-use Rattle.calls.specs.Orders.{Rows}
-use Rattle.calls.specs.Written.{after}
-use Rattle.calls.specs.Matching.{Finds, Counts}
-use Rattle.calls.specs.Pushing.{RowFits}
-use Rattle.calls.proofs.Routes.{row-passed, codes-passed}
+use Rattle.basics.specs.Deciding.{Decides}
+use Rattle.queue.specs.declared.queues.Queue.{Queue}
+use Rattle.states.specs.FirstBadCode.{Codes}
+use Rattle.matching_calls.specs.declared.matching.Matching.{Matching}
+use Rattle.matching_calls.specs.declared.matching.Matching.the-variants as matching
+use Rattle.matching_calls.specs.declared.matching.Counting.the-variants as counting
+use Rattle.judging.specs.Orders.{Rows}
+use Rattle.basics.specs.Memory.{after}
+use Rattle.matching_calls.specs.Matching.{Finds, Counts}
+use Rattle.update_calls.specs.Pushing.{RowFits}
+use Rattle.call_laws.proofs.Routes.{row-passed, codes-passed}
 use Rattle.listed_calls.specs.Lists.{AcceptedAlternatives}
 use Rattle.listed_calls.specs.Listed as listed
 use Rattle.demands.proofs.Demand1 as one
 use Rattle.shut_out.specs.Reasons.{IsRefusal, Exactly}
-use Rattle.shut_out.proofs.Reasons.{Kept, exactly, comes-parts, None, Two, both}
+use Rattle.shut_out.proofs.Reasons.{exactly, comes-parts, None, Two, both}
 use Rattle.shut_out.proofs.RefusingRows.{GoodTrace, finds-parts, counts-parts}
 
 module _ (names n : ℕ) (tree steps tests edges operands states : List ℕ) where

@@ -11,24 +11,25 @@ use lib.ListN.{length}
 use Rattle.alf.specs.declared.Answer.{Answer}
 use Rattle.alf.specs.declared.Sort.{Sort}
 use Rattle.alf.specs.declared.Sort.the-variants.{Boolean, Vector}
-use Rattle.alf.specs.declared.Outcome.the-variants as outcome
+use Rattle.basics.specs.declared.Outcome.the-variants as outcome
 use Rattle.alf.specs.Refusals.{Order, Passed, Comes}
 use Rattle.changes.specs.declared.RowChanges.{RowChanges}
 use Rattle.changes.specs.declared.RowChanges.the-variants as row-changes
 use Rattle.changes.specs.Call as changes
-use Rattle.limits.specs.Accepted.{Accepted}
-use Rattle.updates.specs.Copies.{Codes}
-use Rattle.calls.specs.declared.written.Told.{Told}
-use Rattle.calls.specs.declared.written.Told.the-variants as told
-use Rattle.calls.specs.declared.matching.Matching.{Matching}
-use Rattle.calls.specs.declared.matching.Matching.the-variants as matching
-use Rattle.calls.specs.declared.matching.Counting.{Counting}
-use Rattle.calls.specs.declared.matching.Counting.the-variants as counting
-use Rattle.calls.specs.Orders.{Rows, rowOrder, rowsOrder, traceOrder}
-use Rattle.calls.specs.Written.{Tells, RowState, RowValue, AllValues, RowAnswer, after}
-use Rattle.calls.specs.Windows.{WindowAnswer}
-use Rattle.calls.specs.Matching.{Finds, Counts, RowMatch, AllMatched, RowTotals}
-use Rattle.calls.proofs.Routes.{codes-never, row-passed, codes-passed}
+use Rattle.acceptance.specs.Accepted.{Accepted}
+use Rattle.states.specs.FirstBadCode.{Codes}
+use Rattle.row_calls.specs.declared.written.Told.{Told}
+use Rattle.row_calls.specs.declared.written.Told.the-variants as told
+use Rattle.matching_calls.specs.declared.matching.Matching.{Matching}
+use Rattle.matching_calls.specs.declared.matching.Matching.the-variants as matching
+use Rattle.matching_calls.specs.declared.matching.Counting.{Counting}
+use Rattle.matching_calls.specs.declared.matching.Counting.the-variants as counting
+use Rattle.judging.specs.Orders.{Rows, rowOrder, rowsOrder, traceOrder}
+use Rattle.row_calls.specs.Written.{Tells, RowState, RowValue, AllValues, RowAnswer}
+use Rattle.basics.specs.Memory.{after}
+use Rattle.row_calls.specs.Windows.{WindowAnswer}
+use Rattle.matching_calls.specs.Matching.{Finds, Counts, RowMatch, AllMatched, RowTotals}
+use Rattle.call_laws.proofs.Routes.{codes-never, row-passed, codes-passed}
 use Rattle.demands.proofs.Demand1 as one
 use Rattle.shut_out.specs.Reasons.{IsRefusal, Exactly}
 use Rattle.shut_out.proofs.Reasons.{exactly, comes-parts, None, Two, both}

@@ -10,20 +10,20 @@ use mathlib.Core.Bool.{Bool, true, false}
 use mathlib.Core.Logic.{_⊎_}
 use mathlib.Core.List.{List}
 use lib.ListN.{length}
-use Rattle.alf.specs.declared.Refusal.{Refusal}
+use Rattle.basics.specs.declared.Refusal.{Refusal}
 use Rattle.alf.specs.declared.Sort.{Sort}
 use Rattle.alf.specs.Expressions.{Expression}
 use Rattle.alf.specs.Refusals.{Passed}
-use Rattle.alf.proofs.Bools.{never}
+use Rattle.basics.proofs.Bools.{never}
 use Rattle.reader.specs.declared.Read.{Read}
-use Rattle.reader.specs.Reads.{made, refusedWith}
+use Rattle.reader.specs.Reads.{made, refusedBy, refusedWith}
 use Rattle.reader.specs.Reading as texts
 use Rattle.reader.specs.Reading.{readOrder, Gives, Reading}
 use Rattle.reader.proofs.Unique.{read-unique, gives-read, read-complete}
-use Rattle.traces.specs.declared.Reading as files
-use Rattle.traces.specs.declared.Reading.the-variants as file
-use Rattle.traces.specs.Format.{Trace, fileOf, count}
-use Rattle.traces.specs.Reading.{FileRefused, RoomRefused, Reads}
+use Rattle.trace_reader.specs.declared.Reading as files
+use Rattle.trace_reader.specs.declared.Reading.the-variants as file
+use Rattle.trace_format.specs.Format.{Trace, fileOf, count}
+use Rattle.trace_reader.specs.Reading.{FileRefused, RoomRefused, Reads}
 use Rattle.trace_laws.proofs.Theorems.{TraceOf, OneReading, got-trace}
 use Rattle.trace_laws.proofs.RoundTrips.{reads-unique, read-write}
 use Rattle.shut_out.specs.Reasons.{Held, IsRefusal, refusal, Exactly}
@@ -42,7 +42,7 @@ module _ (names text : List ℕ) (sort : Sort) where
   refused r = refusedWith (r .number) (r .place)
 
   passed-read : {r : Read} → Reading names text sort r → r .refused ≡ false → Passed (readOrder names text sort)
-  unfolding refusedWith
+  unfolding refusedBy
   passed-read (texts.refused n p a) e = never (sym e)
   passed-read (texts.read a g) e = a
 
@@ -61,7 +61,7 @@ module _ (names text : List ℕ) (sort : Sort) where
 
   pub read-expression : Exactly {M = None} Readable (readOrder names text sort) refused
       (λ r m. Reading names text sort r) tt
-  unfolding refusedWith
+  unfolding refusedBy
   read-expression =
       record {
         no-refusal = λ g r m w. never (sym (not-refused (refused r) g w));

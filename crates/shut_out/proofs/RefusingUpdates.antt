@@ -8,17 +8,17 @@ use mathlib.Core.Logic.{_⊎_, inl, inr}
 use mathlib.Core.List.{List}
 use lib.ListN.{length}
 use Rattle.alf.specs.declared.Sort.the-variants.{Vector}
-use Rattle.alf.specs.declared.Outcome.the-variants as outcome
+use Rattle.basics.specs.declared.Outcome.the-variants as outcome
 use Rattle.alf.specs.Refusals.{Passed, Comes}
-use Rattle.limits.specs.Accepted.{Accepted}
-use Rattle.updates.specs.declared.queues.Queue.{Queue}
-use Rattle.updates.specs.Copies.{Codes}
-use Rattle.calls.specs.declared.matching.Matching.{Matching}
-use Rattle.calls.specs.declared.matching.Matching.the-variants as matching
-use Rattle.calls.specs.Written.{after}
-use Rattle.calls.specs.Correcting.{correctionOrder, Correction}
-use Rattle.calls.specs.Pushing.{RowFits, Handed, pushOrder, Takes, Push}
-use Rattle.calls.proofs.Routes.{codes-never, codes-passed}
+use Rattle.acceptance.specs.Accepted.{Accepted}
+use Rattle.queue.specs.declared.queues.Queue.{Queue}
+use Rattle.states.specs.FirstBadCode.{Codes}
+use Rattle.matching_calls.specs.declared.matching.Matching.{Matching}
+use Rattle.matching_calls.specs.declared.matching.Matching.the-variants as matching
+use Rattle.basics.specs.Memory.{after}
+use Rattle.update_calls.specs.Correcting.{correctionOrder, Correction}
+use Rattle.update_calls.specs.Pushing.{RowFits, Handed, pushOrder, Takes, Push}
+use Rattle.call_laws.proofs.Routes.{codes-never, codes-passed}
 use Rattle.demands.proofs.Demand1 as one
 use Rattle.shut_out.specs.Reasons.{IsRefusal, Exactly}
 use Rattle.shut_out.proofs.Reasons.{exactly, comes-parts, Two}

@@ -4,28 +4,28 @@
 --   brackets-more-on-T    01 A written as ( 01 A )
 --   rows-swapped          a file of two rows that differ, read with the rows swapped
 --   wrote-and-refused, ..-match, ..-correct, ..-read, ..-list       a refusal that has written something
-use Prim.Native.Nat.{ℕ, suc, _+_, _*_, _/_, _<_, _≤_}
+use Prim.Native.Nat.{ℕ, _+_, _*_, _<_, _≤_}
 use native.Mathlib.Omega.{arith}
-use mathlib.Core.Path.{_≡_, refl, sym, ap, _∙_}
+use mathlib.Core.Path.{_≡_, sym, ap, _∙_}
 use mathlib.Core.List.{List, [], _∷_, _++_}
 use lib.ListN.{length, getD, take, drop, length-append, length-take, List·getD-append}
-use Rattle.alf.specs.declared.Refusal.{Refusal}
+use Rattle.basics.specs.declared.Refusal.{Refusal}
 use Rattle.alf.specs.declared.Sort.{Sort}
 use Rattle.alf.specs.declared.Sort.the-variants as sort
-use Rattle.alf.specs.declared.Outcome.the-variants.{Done, Refused}
+use Rattle.basics.specs.declared.Outcome.the-variants.{Done, Refused}
 use Rattle.alf.specs.Refusals.{Comes}
 use Rattle.writer.specs.Writing as writing
-use Rattle.traces.specs.declared.Reading as files
-use Rattle.traces.specs.declared.Reading.the-variants as file
-use Rattle.traces.specs.Format.{Trace, fileOf, count}
-use Rattle.traces.specs.Reading.{Reads}
+use Rattle.trace_reader.specs.declared.Reading as files
+use Rattle.trace_reader.specs.declared.Reading.the-variants as file
+use Rattle.trace_format.specs.Format.{Trace, fileOf, count}
+use Rattle.trace_reader.specs.Reading.{Reads}
 use Rattle.trace_laws.proofs.RoundTrips.{read-write}
 use Rattle.rewriting.specs.Calls.{Rewrites}
-use Rattle.updates.specs.declared.queues.Queue.{Queue}
-use Rattle.calls.specs.declared.matching.Matching.the-variants as matching
-use Rattle.calls.specs.Matching.{AllMatched}
-use Rattle.calls.specs.Pushing.{Push}
-use Rattle.calls.specs.Correcting.{Correction}
+use Rattle.queue.specs.declared.queues.Queue.{Queue}
+use Rattle.matching_calls.specs.declared.matching.Matching.the-variants as matching
+use Rattle.matching_calls.specs.Matching.{AllMatched}
+use Rattle.update_calls.specs.Pushing.{Push}
+use Rattle.update_calls.specs.Correcting.{Correction}
 use Rattle.listing.specs.Calls.{ListsText}
 use Rattle.demands.proofs.Demand1 as one
 use Rattle.alf.specs.TableT as T

@@ -7,8 +7,8 @@
 use Prim.Native.Nat.{ℕ}
 use mathlib.Core.Logic.{_⊎_}
 use mathlib.Core.Path.{_≡_}
-use mathlib.Core.List.{List, [], _∷_}
-use Rattle.alf.specs.declared.Refusal.{Refusal}
+use mathlib.Core.List.{[], _∷_}
+use Rattle.basics.specs.declared.Refusal.{Refusal}
 use Rattle.alf.specs.Refusals.{Order, RefusedWith}
 
 unfoldable pub Held : Order → Type 0

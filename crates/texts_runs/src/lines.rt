@@ -13,8 +13,11 @@ use run_printing::states::list;
 use run_printing::texts::quote;
 use run_printing::texts::say_text;
 use run_words::pieces::expand;
-use run_words::words::find;
 use run_words::words::number_from;
+use text_parts::lines::behind_line;
+use text_parts::lines::line_at;
+use text_parts::parts::find;
+use text_parts::parts::front;
 
 fn sort_of(kind: u8) -> Sort {
     match kind {
@@ -99,15 +102,9 @@ fn fill(out: &mut [u8; 4200], text: &[u8]) -> usize {
     expand(out, text)
 }
 
-fn show_front(kind: u8, usual: &[u8], text: &[u8], n: usize) {
-    if n <= text.len() {
-        let whole = &text[0..n];
-        show_parts(kind, usual, whole, find(whole, 0, b';'));
-    }
-}
-
 fn show_filled(kind: u8, usual: &[u8], text: &[u8; 4200], n: usize) {
-    show_front(kind, usual, text, n);
+    let whole = front(text, n);
+    show_parts(kind, usual, whole, find(whole, 0, b';'));
 }
 
 fn show_expanded(kind: u8, usual: &[u8], text: &[u8]) {
@@ -148,8 +145,7 @@ pub fn show_lines(input: &[u8]) {
     let usual = usual_in(input);
     let mut at: usize = 0;
     while at < input.len() {
-        let end = find(input, at, b'\n');
-        show_line(usual, &input[at..end]);
-        at = end + 1;
+        show_line(usual, line_at(input, at));
+        at = behind_line(input, at);
     }
 }

@@ -10,5 +10,5 @@ use libc::STDIN_FILENO;
 fn main() {
     let mut input = io::large_buffer();
     let n = io::read_full(STDIN_FILENO, &mut input);
-    lines::show_lines(&input[..n]);
+    crate::lines::show_lines(&input[..n]);
 }

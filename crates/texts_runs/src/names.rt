@@ -1,6 +1,6 @@
 // Lists of names from words: a slot of 32 bytes for each.
-use run_words::pieces::put;
-use run_words::words::part;
+use text_parts::parts::part;
+use text_parts::puts::put;
 
 // Word k, without the comma at its end.
 fn word(words: &[u8], k: usize) -> &[u8] {

@@ -1,12 +1,13 @@
 // A text with what its tree is written as, or with its refusal. A text of over 64 bytes is shown by its length.
-use alf::Outcome;
-use alf::Refusal;
 use alf::Sort;
+use basics::Outcome;
+use basics::Refusal;
 use reader::read_expression;
 use run_printing::printing::character;
 use run_printing::printing::refused;
 use run_printing::printing::write;
 use run_printing::texts::say_text;
+use text_parts::parts::front;
 use writer::write_expression;
 
 pub fn say_sort(sort: Sort) {
@@ -31,16 +32,10 @@ fn say_written(text: &[u8], written: &[u8]) {
     character(b'\n');
 }
 
-fn say_front(text: &[u8], out: &[u8], n: usize) {
-    if n <= out.len() {
-        say_written(text, &out[..n]);
-    }
-}
-
 fn say_outcome(text: &[u8], out: &[u8; 4096], r: Outcome) {
     match r {
         Outcome::Refused(f) => say_refusal(b"  not written: ", f),
-        Outcome::Done(n) => say_front(text, out, n),
+        Outcome::Done(n) => say_written(text, front(out, n)),
     }
 }
 
@@ -63,12 +58,6 @@ pub fn show_tree(names: &[u8], text: &[u8], tree: &[u8], sort: Sort, room: usize
     say_outcome(text, &out, r);
 }
 
-fn show_nodes(names: &[u8], text: &[u8], tree: &[u8], len: usize, sort: Sort) {
-    if len <= tree.len() {
-        show_tree(names, text, &tree[..len], sort, 4096);
-    }
-}
-
 // What a text is read as over a list of names, or its refusal.
 pub fn show(names: &[u8], text: &[u8], sort: Sort) {
     let r = read_expression(names, text, sort);
@@ -80,5 +69,5 @@ pub fn show(names: &[u8], text: &[u8], sort: Sort) {
     }
     let len = r.len;
     let tree = r.tree;
-    show_nodes(names, text, &tree, len, sort);
+    show_tree(names, text, front(&tree, len), sort, 4096);
 }

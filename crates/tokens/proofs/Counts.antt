@@ -1,7 +1,6 @@
 -- Laws of the limits: what a token changes, and the first that goes over.
 --   opens, closes-none, closes, leaves, uncounted, counts   `after`
 --   over-hit, over-more, over-end                           one turn of `first_over`, and its end
--- Assumes nothing.
 use mathlib.Core.Path.{_≡_, refl, ap}
 use mathlib.Core.Bool.{Bool, true, false}
 use mathlib.Core.List.{List, [], _∷_}

@@ -1,57 +1,42 @@
--- Laws of the lists that hold tokens: zeros behind what was written.
---   filled-none, filled-more   none written; one more
---   filled-front, filled-at    what was written
---   codes-more, places-more, codes-length, places-length   the codes and places of a list of tokens
--- Assumes nothing.
-use mathlib.Core.Path.{_≡_, refl, ap}
-use mathlib.Core.List.{List, [], _∷_, _++_, append-assoc}
-use Prim.Native.Nat.{ℕ, zero, suc, _+_, _-_, _<_}
+-- Laws of the lists that hold tokens, with zeros behind them: codes and places, which are two columns of one list.
+--   zeros-length                       there are 4,096 zeros
+--   column-length, column-more         a column of a list of tokens, and of one token more
+--   filled-none, filled-more           none written; one more
+--   filled-front, filled-at, filled-holds     what was written
+use mathlib.Core.Path.{_≡_, refl, ap, _∙_}
+use mathlib.Core.List.{List, [], _∷_, _++_, map, map-append}
+use Prim.Native.Nat.{ℕ, _≤_, _<_}
 use native.Mathlib.Omega.{arith}
-use lib.ListN.{length, take, getD, set, replicate, length-append, List·getD-append}
-use lib.Seq.{set-append-seam, take-append-seam}
+use lib.ListN.{length, take, getD, set, length-map, length-replicate}
+use Rattle.basics.specs.Memory.{front}
+use Rattle.basics.proofs.Stores.{front-take, front-at, front-holds, front-next}
 use Rattle.tokens.specs.Texts.{Token}
-use Rattle.tokens.specs.Reading.{zeros, filled, codesOf, placesOf}
+use Rattle.tokens.specs.Reading.{zeros, filled}
+
+zeros-length : length zeros ≡ 4096
+unfolding zeros
+zeros-length = length-replicate {A = ℕ} 4096 0
 
 pub filled-none : zeros ≡ filled []
-unfolding zeros filled
 filled-none = refl
 
-room : (m : ℕ) → 0 < m → replicate {A = ℕ} m 0 ≡ 0 ∷ replicate (m - 1) 0
-room zero h = absurd (omega arith)
-room (suc m) h = let e : m ≡ suc m - 1 = omega arith in ap (λ (k : ℕ). 0 ∷ replicate {A = ℕ} k 0) e
-
-pub filled-more : (xs : List ℕ) (c : ℕ) → length xs < 4096
-    → set (filled xs) (length xs) c ≡ filled (xs ++ (c ∷ []))
-unfolding filled
-filled-more xs c h =
-    let e : 4096 - length xs - 1 ≡ 4096 - (length xs + 1) = omega arith in
-    rw (room (4096 - length xs) (omega arith), set-append-seam, append-assoc, length-append)
-    (ap (λ (k : ℕ). xs ++ (c ∷ replicate k 0)) e)
-
-pub filled-front : (xs : List ℕ) → take (length xs) (filled xs) ≡ xs
-unfolding filled
-filled-front xs = take-append-seam xs _
-
 pub filled-at : (xs : List ℕ) (i : ℕ) → i < length xs → getD (filled xs) i 0 ≡ getD xs i 0
-unfolding filled
-filled-at xs i h = List·getD-append xs _ 0 i h
+filled-at xs i h = front-at zeros xs i h
 
-pub codes-length : (ts : List Token) → length (codesOf ts) ≡ length ts
-unfolding codesOf
-codes-length [] = refl
-codes-length (t ∷ ts) = ap suc (codes-length ts)
+pub filled-holds : (xs : List ℕ) → length xs ≤ length (filled xs)
+filled-holds xs = front-holds zeros xs
 
-pub places-length : (ts : List Token) → length (placesOf ts) ≡ length ts
-unfolding placesOf
-places-length [] = refl
-places-length (t ∷ ts) = ap suc (places-length ts)
+module _ (f : Token → ℕ) (ts : List Token) where
+  pub column-length : length (map f ts) ≡ length ts
+  column-length = length-map ts f
 
-pub codes-more : (ts : List Token) (t : Token) → codesOf (ts ++ (t ∷ [])) ≡ codesOf ts ++ (t .code ∷ [])
-unfolding codesOf
-codes-more [] t = refl
-codes-more (u ∷ ts) t = ap (λ (xs : List ℕ). u .code ∷ xs) (codes-more ts t)
+  pub filled-front : take (length ts) (filled (map f ts)) ≡ map f ts
+  filled-front = front-take zeros (map f ts) (length ts) column-length
 
-pub places-more : (ts : List Token) (t : Token) → placesOf (ts ++ (t ∷ [])) ≡ placesOf ts ++ (t .place ∷ [])
-unfolding placesOf
-places-more [] t = refl
-places-more (u ∷ ts) t = ap (λ (xs : List ℕ). u .place ∷ xs) (places-more ts t)
+  -- one token more
+  pub filled-more : (t : Token) {n : ℕ} {l : List ℕ} → n ≡ length ts → n < 4096 → l ≡ filled (map f ts)
+      → set l n (f t) ≡ filled (map f (ts ++ (t ∷ [])))
+  filled-more t e h k =
+      let more : map f ts ++ (f t ∷ []) ≡ map f (ts ++ (t ∷ [])) = rw (map-append f ts (t ∷ [])) in
+      rw (k, e, ← column-length)
+      (front-next zeros (map f ts) (f t) (omega (arith, column-length, zeros-length)) ∙ ap filled more)

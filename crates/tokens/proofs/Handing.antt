@@ -3,7 +3,6 @@
 --   Whole, whole-of   the text's tokens, as they were written
 --   counting          they can be counted
 --   deep-reading, many-reading, whole-reading   refused with 3, with 4, or read
--- Assumes nothing.
 use mathlib.Core.Path.{_≡_, refl, ap, _∙_}
 use mathlib.Core.Bool.{Bool, true, false}
 use mathlib.Core.List.{List}
@@ -16,9 +15,9 @@ use Rattle.tokens.specs.Texts.Reads.{done, blank, token}
 use Rattle.tokens.specs.Reading.{filled, codesOf, placesOf, made, refusedWith, Reading}
 use Rattle.tokens.specs.Inner.{Scan, Counting, changed, overAt}
 use Rattle.tokens.specs.Inner.Scan.{stopped, whole}
-use Rattle.tokens.proofs.Bytes.{contrary}
-use Rattle.tokens.proofs.Shapes.{token-size}
-use Rattle.tokens.proofs.Filling.{filled-front, filled-at, codes-length, places-length}
+use Rattle.token_steps.proofs.Bytes.{contrary}
+use Rattle.token_steps.proofs.TokenStarts.{token-size}
+use Rattle.tokens.proofs.Filling.{filled-front, filled-at, filled-holds, column-length}
 use Rattle.tokens.proofs.ReadingLaws.{read-stuck, read-deep, read-many, read-whole}
 
 pub stopped-reading :
@@ -46,33 +45,35 @@ whole-of (whole ts r) h =
     record { tokens = ts; read = r; count-is = refl; codes-are = refl; places-are = refl; is = refl }
 
 -- no more tokens than bytes
-fewer : {p : ℕ} {bs : List ℕ} {ts : List Token} → Reads p bs ts → length ts ≤ length bs
-fewer done = omega arith
-fewer (blank h r) = let k = fewer r in omega arith
-fewer (token h t r) =
-    let k = fewer r in
+pub reads-short : {p : ℕ} {bs : List ℕ} {ts : List Token} → Reads p bs ts → length ts ≤ length bs
+reads-short done = omega arith
+reads-short (blank h r) = let k = reads-short r in omega arith
+reads-short (token h t r) =
+    let k = reads-short r in
     let j = token-size (t .token) in omega (arith, simp length-append at (ap length (t .there)))
 
 module _ {text : List ℕ} {t : Tokens} (l : length text ≤ 4096) (w : Whole text t) where
   bound : t .count ≤ 4096
-  bound = let k = fewer (w .read) in omega (arith, w .count-is)
+  bound = let k = reads-short (w .read) in omega (arith, w .count-is)
 
   pub counting : (limit : ℕ) → limit ≤ 4096 → Counting (t .codes) (t .count) limit
-  unfolding filled
   counting limit h =
       record {
         inside = bound;
-        there = rw (w .codes-are, w .count-is, length-append) (omega (arith, codes-length (w .tokens)));
+        there =
+            rw (w .codes-are, w .count-is, ← column-length (λ t. t .code) (w .tokens))
+            (filled-holds (codesOf (w .tokens)));
         below = h;
       }
 
   -- the codes that are searched are those of the tokens
   front : take (t .count) (t .codes) ≡ codesOf (w .tokens)
-  front = rw (w .count-is, w .codes-are, ← codes-length (w .tokens)) (filled-front (codesOf (w .tokens)))
+  front = rw (w .count-is, w .codes-are) (filled-front (λ t. t .code) (w .tokens))
 
   place-at : (i : ℕ) → i < t .count → getD (t .places) i 0 ≡ getD (placesOf (w .tokens)) i 0
   place-at i h =
-      rw (w .places-are) (filled-at (placesOf (w .tokens)) i (omega (arith, w .count-is, places-length (w .tokens))))
+      let n = column-length (λ t. t .place) (w .tokens) in
+      rw (w .places-are) (filled-at (placesOf (w .tokens)) i (omega (arith, w .count-is)))
 
   abbrev over : Bool → ℕ → ℕ
   over b limit = overAt (changed b) limit 0 (take (t .count) (t .codes))

@@ -3,7 +3,6 @@
 --   rising-at      .. from the first on
 --   over-first     the place of the first token over the limit is the first byte at which the number is over it
 --   over-none      where no token is, no byte is
--- Assumes nothing.
 use mathlib.Core.Path.{_≡_, refl}
 use mathlib.Core.Bool.{Bool, true, false}
 use mathlib.Core.List.{List, [], _∷_}
@@ -17,7 +16,7 @@ use Rattle.tokens.specs.Texts.{Token, Reads, running}
 use Rattle.tokens.specs.Texts.Reads.{done, blank, token}
 use Rattle.tokens.specs.Reading.{codesOf, placesOf}
 use Rattle.tokens.specs.Inner.{overAt}
-use Rattle.tokens.proofs.Shapes.{token-size}
+use Rattle.token_steps.proofs.TokenStarts.{token-size}
 
 abbrev pub Rising : ℕ → List Token → Type 0
 Rising lo [] = Unit {0}
@@ -34,7 +33,6 @@ reads-rising (token {p = p} {w = w} {ts = ts} h t r) =
     let k = token-size (t .token) in (omega arith, lower ts (suc p) (p + length w) (omega arith) (reads-rising r))
 
 pub rising-at : (ts : List Token) (lo k : ℕ) → Rising lo ts → k < length ts → lo ≤ getD (placesOf ts) k 0
-unfolding placesOf
 rising-at [] lo zero r h = absurd (omega arith)
 rising-at [] lo (suc k) r h = absurd (omega arith)
 rising-at (t ∷ ts) lo zero r h = r .0
@@ -67,14 +65,14 @@ module _ (f : ℕ → ℕ → ℕ) where
 
     over-hit : (n : ℕ) (t : Token) (ts : List Token) → ltb limit (f (t .code) n) ≡ true
         → over n (t ∷ ts) ≡ 0
-    unfolding overAt codesOf
+    unfolding overAt
     over-hit n t ts h = rw h
 
     over-miss :
         (n : ℕ) (t : Token) (ts : List Token) →
         ltb limit (f (t .code) n) ≡ false →
         over n (t ∷ ts) ≡ suc (over (f (t .code) n) ts)
-    unfolding overAt codesOf
+    unfolding overAt
     over-miss n t ts h = rw h
 
     pub over-none : (n : ℕ) (ts : List Token) → n ≤ limit → length ts ≤ over n ts → (p : ℕ)
@@ -119,7 +117,6 @@ module _ (f : ℕ → ℕ → ℕ) where
         Rising lo ts →
         over n ts < length ts →
         First (Over n ts) (getD (placesOf ts) (over n ts) 0)
-    unfolding placesOf
     over-first n lo [] h r k = absurd (omega arith)
     over-first n lo (t ∷ ts) h r k =
         go (ltb limit (f (t .code) n)) refl (λ a b. over-first (f (t .code) n) (suc (t .place)) ts a (r .1) b)

@@ -3,7 +3,6 @@
 --   of-tokens-fixes, order-fixes   each row of the order fixes its place
 --   reading-unique   two readings of a text are the same
 --   reading-total    every text has one
--- Assumes nothing.
 use mathlib.Core.Path.{_≡_, refl, ap}
 use mathlib.Core.Bool.{Bool, true, false}
 use mathlib.Core.Logic.{inl, inr}

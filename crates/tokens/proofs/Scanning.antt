@@ -2,7 +2,6 @@
 --   Scanned        the tokens before the place are written, and what the rest comes to, the text comes to
 --   scan-start, scan-blank, scan-token   at the start; past a blank; past a token
 --   scan-stop, scan-end                  where no token starts; at the text's end
--- Assumes nothing.
 use mathlib.Core.Path.{_≡_, refl, _∙_}
 use mathlib.Core.Bool.{true, false}
 use mathlib.Core.List.{List, [], _∷_, _++_, append-assoc, append-nil}
@@ -11,23 +10,23 @@ use native.Mathlib.Omega.{arith}
 use native.Mathlib.Numerals.{add-one}
 use lib.ListN.{length, take, drop, getD, set, length-append, length-drop, length-take, drop-of-length-le}
 use lib.Seq.{drop-cons, drop-drop}
-use Rattle.tokens.specs.declared.Step.{Step}
-use Rattle.tokens.specs.Classes.{isBlank}
-use Rattle.tokens.specs.Taking.{Taken, NoToken}
-use Rattle.tokens.specs.Taking.Barred.{together, overlong, loose, lone, bad-half}
-use Rattle.tokens.specs.Taking.NoToken.{barred, tokenless}
+use Rattle.token_steps.specs.declared.Step.{Step}
+use Rattle.token_steps.specs.Classes.{isBlank}
+use Rattle.token_steps.specs.Taking.{Taken, NoToken}
+use Rattle.token_steps.specs.Taking.Barred.{together, overlong, loose, lone, bad-half}
+use Rattle.token_steps.specs.Taking.NoToken.{barred, tokenless}
+use Rattle.basics.specs.Refusing.{refusal}
 use Rattle.tokens.specs.Texts.{Token, tokenAt, Reads, Stuck}
 use Rattle.tokens.specs.Texts.Reads.{done, blank, token}
 use Rattle.tokens.specs.Texts.Stuck.{blank as blank-then, token as token-then, here}
-use Rattle.tokens.specs.Steps.{none, stepOf}
+use Rattle.token_steps.specs.Steps.{none, stepOf}
 use Rattle.tokens.specs.Reading.{zeros, filled, codesOf, placesOf, made}
 use Rattle.tokens.specs.Inner.{Scan}
 use Rattle.tokens.specs.Inner.Scan.{whole}
-use Rattle.tokens.proofs.Shapes.{token-size}
-use Rattle.tokens.proofs.Right.{Right}
-use Rattle.tokens.proofs.Taking.{right}
-use Rattle.tokens.proofs.Filling.{filled-none, filled-more, codes-more, places-more}
-use Rattle.tokens.proofs.Filling.{codes-length, places-length}
+use Rattle.token_steps.proofs.TokenStarts.{token-size}
+use Rattle.token_steps.proofs.Right.{Right}
+use Rattle.token_steps.proofs.Taking.{right}
+use Rattle.tokens.proofs.Filling.{filled-none, filled-more}
 
 pub record Scanned (text : List ℕ) (p count : ℕ) (codes places : List ℕ) : Type 0 where
   pub before : List Token
@@ -44,7 +43,6 @@ pub scan-start :
     codes ≡ zeros →
     places ≡ zeros →
     Scanned text 0 0 codes places
-unfolding codesOf placesOf
 scan-start text e f =
     record {
       before = [];
@@ -136,11 +134,11 @@ module _ (text : List ℕ) (p : ℕ) (h : p < length text) where
               room = let k = token-fits .0 in omega arith;
               count-is = rw length-append (omega arith);
               codes-are =
-                  rw (z .codes-are, z .count-is, ← codes-length (z .before), codes-more)
-                  (filled-more (codesOf (z .before)) (r .code) (omega (arith, codes-length (z .before))));
+                  filled-more (λ t. t .code) (z .before) (tokenAt (r .code) p) (z .count-is) (omega arith)
+                  (z .codes-are);
               places-are =
-                  rw (z .places-are, z .count-is, ← places-length (z .before), places-more)
-                  (filled-more (placesOf (z .before)) p (omega (arith, places-length (z .before))));
+                  filled-more (λ t. t .place) (z .before) (tokenAt (r .code) p) (z .count-is) (omega arith)
+                  (z .places-are);
               reads =
                   λ ts s. rw append-assoc
                   (z .reads (tokenAt (r .code) p ∷ ts) (reads-token rest b taken (onward s)));
@@ -165,7 +163,7 @@ pub scan-end :
     Scanned text p count codes places →
     Scan text (record {
       refused = false;
-      refusal = record { number = 0; place = 0 };
+      refusal = refusal 0 0;
       count = count;
       codes = codes;
       places = places;

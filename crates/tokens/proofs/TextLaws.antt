@@ -3,7 +3,6 @@
 --   no-token-unique, taken-not-none   or none is, at one place
 --   reads-unique, stuck-unique, reads-not-stuck   the same of texts
 --   reads-or-stuck  every text has the one or the other
--- Assumes nothing.
 use mathlib.Core.Path.{_≡_, refl, sym, ap, _∙_}
 use mathlib.Core.Bool.{Bool, true, false, _&&_}
 use mathlib.Core.Logic.{_⊎_, inl, inr}
@@ -14,20 +13,20 @@ use lib.Dec.{eqb}
 use lib.ListN.{length, take, drop, length-append}
 use lib.Seq.{take-append-seam, drop-append-seam}
 use borrow.Author.Tests.{eq-eqb, ne-eqb, eqb-true, eqb-false}
-use Rattle.alf.specs.Words.{if_then_else_}
-use Rattle.tokens.specs.Classes.{isBlank}
-use Rattle.tokens.specs.Taking.{byteAt, isHalf, Barred, Taken, NoToken}
-use Rattle.tokens.specs.Taking.Barred.{together, overlong, loose, lone, bad-half}
-use Rattle.tokens.specs.Taking.NoToken.{barred, tokenless}
+use Rattle.basics.specs.Words.{if_then_else_}
+use Rattle.token_steps.specs.Classes.{isBlank}
+use Rattle.token_steps.specs.Taking.{byteAt, isHalf, Barred, Taken, NoToken}
+use Rattle.token_steps.specs.Taking.Barred.{together, overlong, loose, lone, bad-half}
+use Rattle.token_steps.specs.Taking.NoToken.{barred, tokenless}
 use Rattle.tokens.specs.Texts.{Token, Reads, Stuck}
 use Rattle.tokens.specs.Texts.Reads.{done, blank, token}
 use Rattle.tokens.specs.Texts.Stuck.{blank as blank-then, token as token-then, here}
-use Rattle.tokens.specs.Steps.{none, stepOf}
-use Rattle.tokens.proofs.Bytes.{contrary, plain-unquoted, quote-unnamed}
-use Rattle.tokens.proofs.Lists.{and-false}
-use Rattle.tokens.proofs.Shapes.{token-size}
-use Rattle.tokens.proofs.Codes.{token-unique}
-use Rattle.tokens.proofs.Taking.{right}
+use Rattle.token_steps.specs.Steps.{none, stepOf}
+use Rattle.token_steps.proofs.Bytes.{contrary, plain-unquoted, quote-unnamed}
+use Rattle.token_steps.proofs.ByteByByte.{and-false}
+use Rattle.token_steps.proofs.TokenStarts.{token-size}
+use Rattle.token_steps.proofs.OneCode.{token-unique}
+use Rattle.token_steps.proofs.Taking.{right}
 
 -- a token that is taken, by how many bytes it has
 module _ {bs w a : List ℕ} {c : ℕ} (t : Taken bs w c a) where

@@ -5,7 +5,6 @@
 --   reads-by-step   a text is read by such steps
 --   one-text        a text has tokens, or a place where its bytes form none, and not both; each is the only one
 --   one-reading     every text has one reading: its tokens, or one refusal of 1 to 4 at one place
--- Assumes nothing.
 use mathlib.Core.Path.{_≡_, refl, ap, _∙_}
 use mathlib.Core.Bool.{Bool, true, false}
 use mathlib.Core.List.{List, _∷_, _++_}
@@ -13,17 +12,17 @@ use Prim.Native.Nat.{ℕ, _+_, _≤_}
 use lib.Dec.{eqb}
 use lib.ListN.{length, take, drop}
 use borrow.Author.Tests.{eqb-true, eqb-false}
-use Rattle.tokens.specs.declared.Step.{Step}
+use Rattle.token_steps.specs.declared.Step.{Step}
 use Rattle.tokens.specs.declared.Tokens.{Tokens}
-use Rattle.tokens.specs.Classes.{isBlank}
-use Rattle.tokens.specs.Spelling.{IsToken}
-use Rattle.tokens.specs.Taking.{Taken, NoToken}
+use Rattle.token_steps.specs.Classes.{isBlank}
+use Rattle.token_steps.specs.Spelling.{IsToken}
+use Rattle.token_steps.specs.Taking.{Taken, NoToken}
 use Rattle.tokens.specs.Texts.{Token, tokenAt, Reads, Stuck}
 use Rattle.tokens.specs.Texts.Reads.{token}
-use Rattle.tokens.specs.Steps.{none, step, stepOf}
+use Rattle.token_steps.specs.Steps.{none, step, stepOf}
 use Rattle.tokens.specs.Reading.{Reading}
-use Rattle.tokens.proofs.Right.{Right}
-use Rattle.tokens.proofs.Taking.{right}
+use Rattle.token_steps.proofs.Right.{Right}
+use Rattle.token_steps.proofs.Taking.{right}
 use Rattle.tokens.proofs.TextLaws.{taken-unique, taken-not-none, no-token-unique}
 use Rattle.tokens.proofs.TextLaws.{Outcome, reads-or-stuck, reads-unique, stuck-unique, reads-not-stuck}
 use Rattle.tokens.proofs.ReadingLaws.{reading-total, reading-unique}

@@ -1,8 +1,15 @@
 -- What `read_tokens` answers: the tokens of the text, or a refusal.
-use Prim.Native.Nat.{ℕ, _-_}
+--   zeros, filled           4,096 zeros; a list with zeros behind it
+--   codesOf, placesOf       the codes and the places of tokens
+--   made                    the tokens, handed over
+--   refusedWith             a refusal, and no tokens
+--   Reading                 what a text comes to
+use Prim.Native.Nat.{ℕ}
 use mathlib.Core.Bool.{true, false}
-use mathlib.Core.List.{List, [], _∷_, _++_}
+use mathlib.Core.List.{List, map}
 use lib.ListN.{length, replicate}
+use Rattle.basics.specs.Memory.{front}
+use Rattle.basics.specs.Refusing.{refusal}
 use Rattle.alf.specs.Refusals.{RefusedWith, Passed}
 use Rattle.tokens.specs.declared.Tokens.{Tokens}
 use Rattle.tokens.specs.Texts.{Token, Reads, order}
@@ -11,38 +18,29 @@ unfoldable pub zeros : List ℕ
 zeros = replicate 4096 0
 
 -- zeros behind a list, up to 4,096 entries
-unfoldable pub filled : List ℕ → List ℕ
-filled xs = xs ++ replicate (4096 - length xs) 0
+abbrev pub filled : List ℕ → List ℕ
+filled xs = front xs zeros
 
-unfoldable pub codesOf : List Token → List ℕ
-codesOf [] = []
-codesOf (t ∷ ts) = t .code ∷ codesOf ts
+abbrev pub codesOf : List Token → List ℕ
+codesOf ts = map (λ (t : Token). t .code) ts
 
-unfoldable pub placesOf : List Token → List ℕ
-placesOf [] = []
-placesOf (t ∷ ts) = t .place ∷ placesOf ts
+abbrev pub placesOf : List Token → List ℕ
+placesOf ts = map (λ (t : Token). t .place) ts
 
 -- the tokens ts, handed over
 unfoldable pub made : List Token → Tokens
 made ts =
     record {
       refused = false;
-      refusal = record { number = 0; place = 0 };
+      refusal = refusal 0 0;
       count = length ts;
       codes = filled (codesOf ts);
       places = filled (placesOf ts);
     }
 
--- refused with number n at place p: no tokens
+-- refused: no tokens
 unfoldable pub refusedWith : ℕ → ℕ → Tokens
-refusedWith n p =
-    record {
-      refused = true;
-      refusal = record { number = n; place = p };
-      count = 0;
-      codes = zeros;
-      places = zeros;
-    }
+refusedWith n p = record { refused = true; refusal = refusal n p; count = 0; codes = zeros; places = zeros }
 
 -- 1 to 4 in their order, exactly when the table says; else the tokens of the text
 pub data Reading (text : List ℕ) : Tokens → Type 0 where

@@ -1,15 +1,20 @@
 -- Document 01, "Text" and rows 1 to 4 of "Numbers for refused work": the tokens of a text with their places, the place
 -- where its bytes form no token, and its refusals in their order, each over the whole text before the next.
+--   Token, tokenAt            a token in a text
+--   Reads, Stuck              the tokens of a text, or the place where its bytes form none
+--   opened, counted, running  brackets open and tokens counted, behind a token and up to a byte
+--   deep, many                rows 3 and 4
+--   OfTokens, order           a row that speaks of the text's tokens; all rows in their order
 use Prim.Native.Nat.{ℕ, suc, _+_, _-_}
 use mathlib.Core.Bool.{true, false, _||_}
 use mathlib.Core.Path.{_≡_}
 use mathlib.Core.List.{List, [], _∷_}
 use lib.Dec.{eqb, leb}
 use lib.ListN.{length}
-use Rattle.alf.specs.Words.{if_then_else_}
+use Rattle.basics.specs.Words.{if_then_else_}
 use Rattle.alf.specs.Refusals.{Row, Order, check, too-long, no-token, too-deep, too-many-tokens}
-use Rattle.tokens.specs.Classes.{isBlank}
-use Rattle.tokens.specs.Taking.{Taken, NoToken}
+use Rattle.token_steps.specs.Classes.{isBlank}
+use Rattle.token_steps.specs.Taking.{Taken, NoToken}
 
 -- a token in a text: its code and its first byte
 pub record Token : Type 0 where

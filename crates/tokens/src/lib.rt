@@ -1,33 +1,16 @@
 // A text into its tokens, or refused with 1, 2, 3 or 4.
-mod classes;
 mod limits;
-pub mod steps;
 
 ghost use mathlib.Core.Path.{_≡_};
 ghost use Prim.Native.Nat.{_≤_};
 ghost use lib.ListN.{length};
 ghost use Rattle.tokens.specs.Inner.{Scan};
 ghost use Rattle.tokens.specs.Reading.{Reading, refusedWith, zeros};
-use alf::Refusal;
-use classes::is_blank;
-use limits::first_over;
-use steps::take_token;
-
-// The class of a byte.
-pub enum Class {
-    Letter,
-    Quote,
-    Digit,
-    Blank,
-    Operator,
-    Other,
-}
-
-// One token: its code and how many bytes it has. Where there is none: 255, and how far on the byte refused is.
-pub struct Step {
-    pub code: u8,
-    pub size: usize,
-}
+use crate::limits::first_over;
+use basics::Refusal;
+use basics::refusing::refusal_of;
+use token_steps::classes::is_blank;
+use token_steps::steps::take_token;
 
 // The tokens of a text: of the lists the first `count` entries, with zeros behind them. None where the text is refused.
 pub struct Tokens {
@@ -50,15 +33,15 @@ fn no_places() -> [u16; 4096]
     [0u16; 4096]
 }
 
-// No tokens.
-fn refuse(number: u8, place: usize) -> Tokens
+// No tokens, but a refusal.
+fn refuse_text(number: u8, place: usize) -> Tokens
     ensures { λ r. ⌜ r ≡ refusedWith number place ⌝ }
 {
     let codes = no_codes();
     let places = no_places();
     Tokens {
         refused: true,
-        refusal: Refusal { number, place },
+        refusal: refusal_of(number, place),
         count: 0,
         codes,
         places,
@@ -83,7 +66,7 @@ fn scan(text: &[u8]) -> Tokens
         let code = s.code;
         let size = s.size;
         if code == 255 {
-            return refuse(2, at + size);
+            return refuse_text(2, at + size);
         }
         codes[count] = code;
         places[count] = at as u16;
@@ -92,10 +75,7 @@ fn scan(text: &[u8]) -> Tokens
     }
     Tokens {
         refused: false,
-        refusal: Refusal {
-            number: 0,
-            place: 0,
-        },
+        refusal: refusal_of(0, 0),
         count,
         codes,
         places,
@@ -107,7 +87,7 @@ pub fn read_tokens(text: &[u8]) -> Tokens
     ensures { λ r. ⌜ Reading (now (text .entry)) r ⌝ }
 {
     if 4096 < text.len() {
-        return refuse(1, 4096);
+        return refuse_text(1, 4096);
     }
     let tokens = scan(text);
     let refused = tokens.refused;
@@ -119,11 +99,11 @@ pub fn read_tokens(text: &[u8]) -> Tokens
     let places = tokens.places;
     let deep = first_over(&codes, count, true, 32);
     if deep < count {
-        return refuse(3, places[deep] as usize);
+        return refuse_text(3, places[deep] as usize);
     }
     let many = first_over(&codes, count, false, 256);
     if many < count {
-        return refuse(4, places[many] as usize);
+        return refuse_text(4, places[many] as usize);
     }
     tokens
 }

@@ -7,7 +7,8 @@ use run_printing::printing::refusal;
 use run_printing::printing::small;
 use run_printing::printing::write;
 use run_printing::texts::length;
-use run_words::words::find;
+use text_parts::lines::behind_line;
+use text_parts::lines::line_at;
 
 fn wide16(n: u16) -> usize {
     n as usize
@@ -57,9 +58,8 @@ fn show(text: &[u8]) {
 fn show_lines(input: &[u8]) {
     let mut at: usize = 0;
     while at < input.len() {
-        let end = find(input, at, b'\n');
-        show(&input[at..end]);
-        at = end + 1;
+        show(line_at(input, at));
+        at = behind_line(input, at);
     }
 }
 

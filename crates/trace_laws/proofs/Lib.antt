@@ -1,6 +1,6 @@
 -- What reading and writing mean together: exactness, uniqueness, and both ways round.
 pub mod Places
-pub mod Unspelt
-pub mod Complete
+pub mod RecordsReadBack
+pub mod BytesAccepted
 pub mod Theorems
 pub mod RoundTrips

@@ -2,21 +2,19 @@
 --   accepted-unique     how many names and rows
 --   accepted-refused    not both
 --   refusal-unique      one number and one place
--- Assumes nothing.
-use mathlib.Core.Path.{_≡_, refl, sym, ap, _∙_, subst}
+use mathlib.Core.Path.{_≡_, refl, sym, _∙_}
 use mathlib.Core.Bool.{Bool, true, false}
-use mathlib.Core.List.{List, [], _∷_}
-use mathlib.Core.Logic.{_⊎_, inl, inr}
-use Prim.Native.Nat.{ℕ, zero, suc, _+_, _<_, _≤_}
+use mathlib.Core.List.{List}
+use Prim.Native.Nat.{ℕ, zero, suc, _<_}
 use native.Mathlib.Omega.{arith}
 use lib.Dec.{ltb}
 use borrow.Author.Tests.{ltb-true, ltb-false}
 use Rattle.alf.specs.Refusals.{RefusedWith, Passed}
 use Rattle.alf.proofs.Outcomes.{AllFixed, at-fixed, first-fixed, refused-passed, refused-unique}
-use Rattle.traces.specs.declared.Mark.{Mark}
-use Rattle.traces.specs.declared.Mark.the-variants.{Name, Row, End, Other}
-use Rattle.traces.specs.Records.{markHere, recordOrder, contents, Good, Before}
-use Rattle.traces.specs.Reading.{Accepted, FileRefused}
+use Rattle.trace_format.specs.declared.Mark.{Mark}
+use Rattle.trace_format.specs.declared.Mark.the-variants.{Name, Row, End, Other}
+use Rattle.trace_format.specs.Records.{markHere, recordOrder, contents, Good, Before}
+use Rattle.trace_reader.specs.Reading.{Accepted, FileRefused}
 
 -- a good record that another follows
 pub record GoesOn (file : List ℕ) (k r : ℕ) : Type 0 where

@@ -3,28 +3,28 @@
 --   writes-unique    likewise of a writing
 --   read-write       reading what was written gives the same names, times and states
 --   write-read       writing what was read gives the same bytes
--- Assumes nothing.
 use mathlib.Core.Path.{_≡_, refl, sym, ap, _∙_}
 use mathlib.Core.List.{List}
 use mathlib.Core.Logic.{_⊎_, inl, inr}
-use Prim.Native.Nat.{ℕ, zero, suc, _+_, _-_, _*_, _/_, _<_, _≤_}
+use Prim.Native.Nat.{ℕ, zero, suc, _-_, _*_, _<_, _≤_}
 use native.Mathlib.Omega.{arith}
-use lib.ListN.{length, getD}
-use Rattle.alf.specs.declared.Outcome.{Outcome}
-use Rattle.alf.specs.declared.Outcome.the-variants as Outcome
-use Rattle.alf.specs.Refusals.{RefusedWith, Passed, Comes}
+use lib.ListN.{length}
+use Rattle.basics.specs.declared.Outcome.{Outcome}
+use Rattle.basics.specs.declared.Outcome.the-variants as Outcome
+use Rattle.alf.specs.Refusals.{Passed, Comes}
 use Rattle.alf.proofs.Outcomes.{AllFixed, at-fixed, first-fixed, refused-passed, refused-unique, comes-unique}
-use Rattle.names.proofs.Orders.{passed-both, fixed-both}
-use Rattle.traces.specs.declared.Reading.{Reading}
-use Rattle.traces.specs.declared.Reading.the-variants.{Read, Refused}
-use Rattle.traces.specs.Format.{fileOf, count, Trace}
-use Rattle.traces.specs.Reading.{Accepted, FileRefused, RoomRefused, roomOrder, over, Got, Reads}
-use Rattle.traces.specs.Writing.{rowsOrder, writeOrder, after, Writes, BadState}
-use Rattle.traces.proofs.Copying.{room-for}
+use Rattle.alf.proofs.Orders.{passed-both, fixed-both}
+use Rattle.trace_reader.specs.declared.Reading.{Reading}
+use Rattle.trace_reader.specs.declared.Reading.the-variants.{Read, Refused}
+use Rattle.trace_format.specs.Format.{fileOf, count, Trace}
+use Rattle.trace_reader.specs.Reading.{FileRefused, RoomRefused, roomOrder, Got, Reads}
+use Rattle.trace_writer.specs.Writing.{rowsOrder, writeOrder, Writes, BadState}
+use Rattle.basics.specs.Memory.{after, front}
+use Rattle.trace_format.proofs.RowByRow.{room-for}
 use Rattle.trace_laws.proofs.Places.{accepted-unique, accepted-refused, refusal-unique}
-use Rattle.trace_laws.proofs.Complete.{trace-accepted}
-use Rattle.trace_laws.proofs.Theorems.{TraceOf, exact-accepted, one-trace, refused-none, got-trace, room-fixed}
+use Rattle.trace_laws.proofs.Theorems.{exact-accepted, one-trace, refused-none, got-trace, room-fixed}
 use Rattle.trace_laws.proofs.Theorems.{OneReading}
+use Rattle.basics.proofs.Memory.{after-unique}
 
 module _ (file names times states : List ℕ) where
   -- not both read and refused
@@ -62,9 +62,9 @@ module _ (file names times states : List ℕ) where
       let o = one-trace (got-trace g) (got-trace h) in
       record {
         answer = λ i. Read (e .0 i) (e .1 i);
-        names-now = g .names-now ∙ ap (λ (x : List ℕ). over x names) (o .names-same) ∙ sym (h .names-now);
-        times-now = g .times-now ∙ ap (λ (x : List ℕ). over x times) (o .times-same) ∙ sym (h .times-now);
-        states-now = g .states-now ∙ ap (λ (x : List ℕ). over x states) (o .states-same) ∙ sym (h .states-now);
+        names-now = g .names-now ∙ ap (λ (x : List ℕ). front x names) (o .names-same) ∙ sym (h .names-now);
+        times-now = g .times-now ∙ ap (λ (x : List ℕ). front x times) (o .times-same) ∙ sym (h .times-now);
+        states-now = g .states-now ∙ ap (λ (x : List ℕ). front x states) (o .states-same) ∙ sym (h .states-now);
       }
   reads-unique (Read k n) (Refused q) g h = absurd (not-both g (h .0))
   reads-unique (Refused p) (Read k n) g h = absurd (not-both h (g .0))
@@ -108,7 +108,7 @@ module _ {names times states : List ℕ} {n : ℕ} {out : List ℕ} where
       in
       record {
         answer = e;
-        memory = w .memory ∙ ap (after (fileOf names times states n) out) e ∙ sym (v .memory);
+        memory = after-unique _ out e (w .memory) (v .memory);
       }
 
 -- a trace passes the checks of writing
@@ -152,7 +152,7 @@ module _ {names times states : List ℕ} {n : ℕ} (t : Trace names times states
       {out out′ : List ℕ} (r : Outcome) →
       length (fileOf names times states n) ≤ length out →
       Writes names times states n out out′ r →
-      OneWriting r out′ (Outcome.Done (length (fileOf names times states n))) (over (fileOf names times states n) out)
+      OneWriting r out′ (Outcome.Done (length (fileOf names times states n))) (front (fileOf names times states n) out)
   unfolding Comes after
   writes-bytes (Outcome.Done m) h w = record { answer = ap Outcome.Done (w .outcome .1); memory = w .memory }
   writes-bytes {out} (Outcome.Refused r) h w =
@@ -165,7 +165,7 @@ module _ {names times states : List ℕ} {n : ℕ} (t : Trace names times states
       n ≤ length t₀ →
       n * count names ≤ length s₀ →
       Reads (fileOf names times states n) n₀ t₀ s₀ n₁ t₁ s₁ r →
-      OneReading r n₁ t₁ s₁ (Read (count names) n) (over names n₀) (over times t₀) (over states s₀)
+      OneReading r n₁ t₁ s₁ (Read (count names) n) (front names n₀) (front times t₀) (front states s₀)
   unfolding Reads Passed
   read-write n₀ t₀ s₀ r hn ht hs w =
       reads-unique (fileOf names times states n) n₀ t₀ s₀ r (Read (count names) n) w
@@ -191,5 +191,5 @@ pub write-read :
     {out out′ : List ℕ} (r : Outcome) →
     length file ≤ length out →
     Writes (g .ns) (g .ts) (g .ss) n out out′ r →
-    OneWriting r out′ (Outcome.Done (length file)) (over file out)
+    OneWriting r out′ (Outcome.Done (length file)) (front file out)
 write-read g r h w = rw (g .bytes) (writes-bytes (g .trace) r (rw (g .bytes) at h) w)

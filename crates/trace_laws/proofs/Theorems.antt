@@ -3,26 +3,21 @@
 --   one-trace                     a file has one trace
 --   refused-none                  a refused file is the bytes of none
 -- That any two outcomes coincide, and both round trips, are in RoundTrips.antt.
--- `exact-trace` assumes that the file is a list of bytes; the rest assumes nothing.
-use mathlib.Core.Path.{_≡_, refl, sym, ap, _∙_}
-use mathlib.Core.List.{List, [], _∷_, _++_}
-use mathlib.Core.Logic.{_⊎_, inl, inr}
-use Prim.Native.Nat.{ℕ, zero, suc, _+_, _*_, _/_, _<_, _≤_}
-use native.Mathlib.Omega.{arith}
-use lib.ListN.{length, getD}
-use Rattle.alf.specs.declared.Outcome.{Outcome}
-use Rattle.alf.specs.declared.Outcome.the-variants as Outcome
-use Rattle.alf.specs.Refusals.{Order, RefusedWith, Passed, Comes}
-use Rattle.alf.proofs.Outcomes.{AllFixed, at-fixed, first-fixed, refused-passed, refused-unique, comes-unique}
-use Rattle.traces.specs.declared.Reading.{Reading}
-use Rattle.traces.specs.declared.Reading.the-variants.{Read, Refused}
-use Rattle.traces.specs.Format.{fileOf, count, Trace}
-use Rattle.traces.specs.Reading.{Accepted, FileRefused, RoomRefused, roomOrder, over, Got, Reads}
-use Rattle.traces.specs.Writing.{rowsOrder, writeOrder, after, Writes}
-use Rattle.traces.specs.Held.{namesOf, timesOf, statesOf}
-use Rattle.traces.proofs.Sound.{accepted-trace, accepted-bytes}
-use Rattle.trace_laws.proofs.Places.{accepted-unique, accepted-refused, refusal-unique}
-use Rattle.trace_laws.proofs.Complete.{trace-accepted, held-names, held-times, held-states}
+-- `exact-trace` assumes that the file is a list of bytes.
+use mathlib.Core.Path.{_≡_, sym, ap, _∙_}
+use mathlib.Core.List.{List}
+use Prim.Native.Nat.{ℕ, _<_}
+use lib.ListN.{getD}
+use Rattle.basics.specs.declared.Outcome.{Outcome}
+use Rattle.basics.specs.declared.Outcome.the-variants as Outcome
+use Rattle.alf.proofs.Outcomes.{AllFixed, at-fixed}
+use Rattle.trace_reader.specs.declared.Reading.{Reading}
+use Rattle.trace_format.specs.Format.{fileOf, count, Trace}
+use Rattle.trace_reader.specs.Reading.{Accepted, FileRefused, roomOrder, Got}
+use Rattle.trace_reader.specs.HeldLists.{namesOf, timesOf, statesOf}
+use Rattle.trace_reader.proofs.AcceptedTraces.{accepted-trace, accepted-bytes}
+use Rattle.trace_laws.proofs.Places.{accepted-unique, accepted-refused}
+use Rattle.trace_laws.proofs.BytesAccepted.{trace-accepted, held-names, held-times, held-states}
 
 -- a trace whose bytes a file is
 pub record TraceOf (file : List ℕ) (k n : ℕ) : Type 0 where
@@ -45,7 +40,7 @@ exact-trace {file} {k} {n} bytes a =
       states = statesOf file k n;
       trace = accepted-trace a bytes;
       bytes = accepted-bytes a bytes;
-      counted = sym (Rattle.traces.proofs.Sound.counted a);
+      counted = sym (Rattle.trace_reader.proofs.AcceptedTraces.counted a);
     }
 
 -- what a trace of a file holds

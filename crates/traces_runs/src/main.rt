@@ -1,22 +1,22 @@
 // Runs of the trace reader and writer: document 01's example, files cut at every byte, each refusal at its boundary.
 // The files come from standard input, one a line, in hexadecimal digits.
-ghost use Prim.Native.Nat.{_≤_};
-
 mod long;
 
-use alf::Outcome;
+ghost use Prim.Native.Nat.{_≤_};
+use crate::long::read_rows;
+use basics::Outcome;
 use libc::STDIN_FILENO;
-use long::read_rows;
 use run_printing::printing::broken;
 use run_printing::printing::character;
 use run_printing::printing::number;
 use run_printing::printing::small;
 use run_printing::printing::write;
 use run_words::words::digit;
-use run_words::words::find;
-use traces::Reading;
-use traces::read::read_trace;
-use traces::write::write_trace;
+use text_parts::lines::behind_line;
+use text_parts::lines::line_at;
+use trace_reader::Reading;
+use trace_reader::read::read_trace;
+use trace_writer::write::write_trace;
 
 // A number or two of an answer, on a line.
 fn line(word: &[u8], a: usize, between: &[u8], b: usize) {
@@ -182,9 +182,8 @@ fn show_lines(input: &[u8]) {
     let mut first = true;
     let mut at: usize = 0;
     while at < input.len() {
-        let end = find(input, at, b'\n');
-        first = show_line(&input[at..end], first);
-        at = end + 1;
+        first = show_line(line_at(input, at), first);
+        at = behind_line(input, at);
     }
 }
 

@@ -1,5 +1,5 @@
 -- The depth of the brackets of an expression, from its operands', by its last byte; counted no further than 33.
--- Main names: Depth, Placed, depth-small, bracket-is; leaf-depth, one-depth, pair-depth, three-depth. Assumes nothing.
+-- Main names: Depth, Placed, depth-small, bracket-is; leaf-depth, one-depth, pair-depth, three-depth.
 use Prim.Native.Nat.{ℕ, _+_, _-_, _<_, _≤_, min, max}
 use native.Mathlib.Omega.{arith}
 use mathlib.Core.Path.{_≡_, refl, _∙_}
@@ -7,9 +7,9 @@ use mathlib.Core.Bool.{Bool, true, false}
 use mathlib.Core.List.{List}
 use lib.Dec.{ltb}
 use lib.ListN.{getD}
-use Rattle.alf.specs.Words.{if_then_else_}
+use Rattle.basics.specs.Words.{if_then_else_}
 use Rattle.alf.specs.Bytes.{Stack, under, stackAt}
-use Rattle.alf.proofs.Bools.{never}
+use Rattle.basics.proofs.Bools.{never}
 use Rattle.alf.proofs.Made.{Made, a-name, a-literal, a-negation, a-binary, a-choice, an-edge, a-join}
 use Rattle.alf.proofs.Made.{a-condition, a-condition-before, nothing}
 use Rattle.alf.proofs.Parts.{made-last}

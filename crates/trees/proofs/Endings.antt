@@ -1,6 +1,6 @@
 -- The kind of what a byte makes, from its operands' kinds, and where it starts.
 -- Main names: none, leaf-found, one-found, pair-found, three-found; no-right, no-left, no-first, where an operand is
--- missing; ending-unique. Assumes nothing.
+-- missing; ending-unique.
 use Prim.Native.Nat.{ℕ, _-_, _<_, _≤_}
 use native.Mathlib.Omega.{arith}
 use mathlib.Core.Path.{_≡_, refl, ap, sym, _∙_}
@@ -10,12 +10,12 @@ use lib.ListN.{getD, length}
 use lib.Dec.{ltb, eqb}
 use native.Mathlib.Nat.{zero-add}
 use borrow.Author.Tests.{ltb-true, ltb-false, ne-eqb}
-use Rattle.alf.specs.Words.{if_then_else_}
+use Rattle.basics.specs.Words.{if_then_else_}
 use Rattle.alf.specs.Expressions.{Boolean, boolean, Vector, vector}
 use Rattle.alf.specs.Bytes.{Stack, empty, broken, push, Operation, leafAt, pairAt, threeAt, oneAt}
 use Rattle.alf.specs.Bytes.{isBoolean, isVector, under, ifSo, run, arityAt, stackAt}
-use Rattle.alf.proofs.Bools.{never}
-use Rattle.alf.proofs.Codes.{leaf-class, pair-class, three-class, one-class}
+use Rattle.basics.proofs.Bools.{never}
+use Rattle.alf.proofs.OperatorBytes.{leaf-class, pair-class, three-class, one-class}
 use Rattle.alf.proofs.Parts.{last, arity-zero, arity-one, arity-two, arity-three, deep, unders}
 use Rattle.trees.specs.Parts.{isWhole, Ends, Start}
 use Rattle.trees.specs.Sorts.{kindOf, givenOne, givenTwo, leafKind, oneKind, pairKind}

@@ -1,5 +1,5 @@
 -- The level of an expression, from its last byte.
--- Main names: level-table (the table of the code), level-some, level-one, level-made, level-at. Assumes nothing.
+-- Main names: level-table (the table of the code), level-some, level-one, level-made, level-at.
 use Prim.Native.Nat.{ℕ, _+_, _-_, _<_, _≤_}
 use native.Mathlib.Omega.{arith}
 use mathlib.Core.Path.{_≡_, refl, ap, sym, _∙_}
@@ -9,8 +9,8 @@ use lib.Dec.{ltb, eqb}
 use lib.ListN.{getD}
 use borrow.Author.Tests.{lt-ltb, le-ltb, ltb-true, eqb-true}
 use Rattle.alf.specs.Bytes.{Stack, binaryAt, joinAt}
-use Rattle.alf.proofs.Bools.{never}
-use Rattle.alf.proofs.Choices.{every, every-at}
+use Rattle.basics.proofs.Bools.{never}
+use Rattle.basics.proofs.Choices.{every, every-at}
 use Rattle.alf.proofs.Made.{Made, a-name, a-literal, a-negation, a-binary, a-choice, an-edge, a-join}
 use Rattle.alf.proofs.Made.{a-condition, a-condition-before, nothing}
 use Rattle.alf.proofs.Parts.{made-last}

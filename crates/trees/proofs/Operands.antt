@@ -1,5 +1,5 @@
 -- The operands of an expression end where the code looks for them.
--- Main names: arity-some, arity-more; right-whole, left-whole, first-whole. Assumes nothing.
+-- Main names: arity-some, arity-more; right-whole, left-whole, first-whole.
 use Prim.Native.Nat.{ℕ, _-_, _<_, _≤_}
 use native.Mathlib.Omega.{arith}
 use native.Mathlib.Nat.{zero-add}
@@ -8,7 +8,7 @@ use lib.Dec.{ltb}
 use lib.ListN.{getD, length}
 use borrow.Author.Tests.{lt-ltb, le-ltb}
 use Rattle.alf.specs.Bytes.{arityAt, stackAt}
-use Rattle.alf.proofs.Choices.{if-all}
+use Rattle.basics.proofs.Choices.{if-all}
 use Rattle.alf.proofs.Parts.{deep, unders, back, arity-three}
 use Rattle.trees.specs.Parts.{Ends, Start}
 use Rattle.trees.proofs.Starts.{ends-pos, whole-deep, whole-at}

@@ -1,6 +1,6 @@
 -- The way back from the end of a part to its start, by bytes or by whole parts.
 -- Main names: Going, going-first, going-on (a byte), going-part (a part), going-done; ends-pos, whole-deep, whole-at,
--- start-unique. Assumes nothing.
+-- start-unique.
 use Prim.Native.Nat.{ℕ, zero, suc, _+_, _-_, _<_, _≤_}
 use native.Mathlib.Omega.{arith}
 use mathlib.Core.Path.{_≡_, refl, ap, _∙_}
@@ -8,7 +8,7 @@ use mathlib.Core.Bool.{true}
 use mathlib.Core.List.{List}
 use lib.ListN.{getD, length}
 use Rattle.alf.specs.Bytes.{bytesOf, Stack, empty, broken, push, under, arityAt, stackAt, isBoolean, isVector}
-use Rattle.alf.proofs.Bools.{never}
+use Rattle.basics.proofs.Bools.{never}
 use Rattle.alf.proofs.Parts.{deep, unders, size, back, deep-le, deep-under, size-under}
 use Rattle.trees.specs.Parts.{isWhole, top, Ends, EndsBoolean, EndsVector, Start}
 

@@ -1,5 +1,5 @@
 -- What a tree is, from what it ends with and where that starts; and what that says of the expression it is.
--- Main names: whole-boolean, whole-vector, whole-more, whole-none; kind-decodes. Assumes nothing.
+-- Main names: whole-boolean, whole-vector, whole-more, whole-none; kind-decodes.
 use Prim.Native.Nat.{ℕ, _<_}
 use native.Mathlib.Omega.{arith}
 use native.Mathlib.Nat.{pos-of-ne-zero}
@@ -9,7 +9,7 @@ use mathlib.Core.List.{List}
 use lib.ListN.{length}
 use Rattle.alf.specs.Expressions.{Boolean, Vector, boolean, vector}
 use Rattle.alf.specs.Bytes.{Stack, empty, broken, push, under, stackAt, Decodes}
-use Rattle.alf.proofs.Bools.{never}
+use Rattle.basics.proofs.Bools.{never}
 use Rattle.alf.proofs.Made.{Made, a-name, a-literal, a-negation, a-binary, a-choice, an-edge, a-join}
 use Rattle.alf.proofs.Made.{a-condition, a-condition-before, nothing}
 use Rattle.alf.proofs.Parts.{made-last}

@@ -1,7 +1,6 @@
 -- The vector expression that ends at a place, from its last byte: what it is, and that its operands end where the code
 -- looks for them.
 -- Main names: vector-pos, right-ends, edge-is, before-is, before-ends, condition-is, join-is, ends-left.
--- Assumes nothing.
 use Prim.Native.Nat.{ℕ, _-_, _<_, _≤_}
 use native.Mathlib.Omega.{arith}
 use mathlib.Core.Path.{_≡_, refl}
@@ -14,7 +13,7 @@ use Rattle.alf.specs.Expressions.{edge, join, while, on-right, on-left}
 use Rattle.alf.specs.Bytes.{edgeAt, joinAt, isBoolean, isVector, topBoolean, topVector, under, stackAt}
 use Rattle.alf.proofs.Made.{Made}
 use Rattle.alf.proofs.Parts.{made-last}
-use Rattle.alf.proofs.Tops.{edge-top, join-top, condition-top, condition-before-top, vector-class}
+use Rattle.alf.proofs.StackTops.{edge-top, join-top, condition-top, condition-before-top, vector-class}
 use Rattle.trees.specs.Parts.{Ends, EndsBoolean, EndsVector, booleanAt, vectorAt, Start}
 use Rattle.trees.proofs.Starts.{of-boolean, of-vector, ends-pos}
 

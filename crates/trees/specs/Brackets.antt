@@ -1,8 +1,10 @@
 -- Document 01, "Text" and "Writing out": the levels of the operators, from strongest to weakest, and how deep the
 -- brackets nest in an expression's text with only needed brackets. A name or a literal has level 0.
+--   binaryLevel, joinLevel, levelOf, levelAt     levels of operators, of an expression, of the operator at a byte
+--   bracketed, booleanDepth, vectorDepth, depthOf        how deep brackets nest
 use Prim.Native.Nat.{ℕ, _+_, _-_, max}
 use lib.Dec.{ltb}
-use Rattle.alf.specs.Words.{if_then_else_}
+use Rattle.basics.specs.Words.{if_then_else_}
 use Rattle.alf.specs.Expressions.{Binary, and, or, xor, xnor, equals, differs, above, below, at-least, at-most}
 use Rattle.alf.specs.Expressions.{Boolean, name, literal, negated, binary, choice, Vector, edge, join, while}
 use Rattle.alf.specs.Expressions.{Join, followed-by, either-order, with-or-then, any-order, with, or-else}

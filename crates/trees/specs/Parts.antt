@@ -1,4 +1,8 @@
 -- The parts of a tree: the expression that ends at a place, and where it starts.
+--   isWhole, top                         an expression on top of a stack
+--   Ends, EndsBoolean, EndsVector        the bytes before a place end with an expression
+--   expressionAt, booleanAt, vectorAt    that expression
+--   Start                                where it starts
 use Prim.Native.Nat.{ℕ, _+_, _<_, _≤_}
 use mathlib.Core.Path.{_≡_}
 use mathlib.Core.Bool.{Bool, true, false}

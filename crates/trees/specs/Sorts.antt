@@ -1,11 +1,15 @@
 -- Document 01, "Sorts", for trees: the kind of expression that the bytes before a place end with, and what a tree is.
+--   kindOf, wholeKind, treeKind          the kind of what is on top of a stack, of a whole stack, of a tree
+--   givenOne, givenTwo, leafKind, oneKind, pairKind, threeKind   the kind that a byte makes of its operands' kinds
+--   placed, Ending                       what the bytes before a place end with, and where that starts
+--   Holds                                which expressions something holds of, by the kind
 use Prim.Native.Nat.{ℕ, _<_}
 use mathlib.Core.Path.{_≡_}
 use mathlib.Core.Bool.{_&&_}
 use mathlib.Core.List.{List}
 use lib.Dec.{eqb, ltb}
 use lib.ListN.{length}
-use Rattle.alf.specs.Words.{if_then_else_}
+use Rattle.basics.specs.Words.{if_then_else_}
 use Rattle.alf.specs.Expressions.{Expression, boolean, vector}
 use Rattle.alf.specs.Expressions as expressions
 use Rattle.alf.specs.Bytes.{Stack, empty, broken, push, stackAt}

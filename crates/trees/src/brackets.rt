@@ -3,7 +3,7 @@ use crate::parts;
 ghost use mathlib.Core.Path.{_≡_};
 ghost use Prim.Native.Nat.{_+_, _<_, _≤_, min, max};
 ghost use lib.Dec.{ltb};
-ghost use Rattle.alf.specs.Words.{if_then_else_};
+ghost use Rattle.basics.specs.Words.{if_then_else_};
 ghost use Rattle.trees.specs.Parts.{Ends, expressionAt};
 ghost use Rattle.trees.specs.Brackets.{levelAt, depthOf};
 
@@ -59,14 +59,14 @@ pub fn depth_of(tree: &[u8], end: usize, names: usize) -> usize
     if 64 <= b {
         return bracket(1, tree[at - 1], right);
     }
-    let middle = parts::start_of(tree, at, names);
+    let middle = crate::parts::start_of(tree, at, names);
     let left = depth_of(tree, middle, names);
     if b < 60 {
         let place = level(b);
         let x = bracket(place, tree[middle - 1], left);
         return deeper(x, bracket(place - 1, tree[at - 1], right));
     }
-    let start = parts::start_of(tree, middle, names);
+    let start = crate::parts::start_of(tree, middle, names);
     let first = depth_of(tree, start, names);
     deeper(bracket(5, tree[start - 1], first), deeper(left, right))
 }

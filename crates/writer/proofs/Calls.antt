@@ -1,68 +1,57 @@
 -- What the call and its parts are proved by.
--- Main names: held, delivered-long, delivered-short, delivered, refused-names, refused-tree, laid, lined, wrote,
--- names-named, names-new.
--- Assumes nothing.
-use Prim.Native.Nat.{ℕ, _+_, _*_, _/_, _<_, _≤_}
+--   delivered-long, delivered-short, delivered   the end of the call: 1, 9, or done
+--   names-few, names-named, names-new            what checked names are
+--   refused-names, refused-tree, names-passed    18, 12 and 10, before the text is made
+--   laid, lined, wrote                           an accepted tree is laid out, spelled and delivered
+use Prim.Native.Nat.{ℕ, _+_, _/_, _<_, _≤_}
 use native.Mathlib.Omega.{arith}
-use mathlib.Core.Path.{_≡_, refl, sym, ap, _∙_, subst}
+use mathlib.Core.Path.{_≡_, refl, sym, ap, _∙_}
 use mathlib.Core.Bool.{Bool, true, false}
-use mathlib.Core.Logic.{_⊎_, inl, inr}
-use mathlib.Core.List.{List, [], _∷_, _++_, map}
+use mathlib.Core.Logic.{inl, inr}
+use mathlib.Core.List.{List, _++_}
 use lib.Dec.{leb}
-use lib.ListN.{length, getD, take, drop, length-map, length-take}
+use lib.ListN.{length, getD, take, drop, length-map}
 use borrow.Author.Tests.{leb-true, leb-false}
-use lib.Seq.{sets, sets-eq, take-at, take-length, getD-take}
+use lib.Seq.{sets-eq, getD-take}
 use Rattle.alf.specs.declared.Sort.{Sort}
-use Rattle.alf.specs.declared.Refusal.{Refusal}
-use Rattle.alf.specs.declared.Outcome.{Outcome}
-use Rattle.alf.specs.declared.Outcome.the-variants.{Done, Refused}
+use Rattle.basics.specs.declared.Refusal.{Refusal}
+use Rattle.basics.specs.Refusing.{refusal}
+use Rattle.basics.specs.declared.Outcome.{Outcome}
+use Rattle.basics.specs.declared.Outcome.the-variants.{Done, Refused}
 use Rattle.alf.specs.Names.{isName, nameAt}
 use Rattle.alf.specs.Expressions.{Expression, ExpressionOver}
 use Rattle.alf.specs.Bytes.{bytesOf, Decodes}
-use Rattle.alf.proofs.Bools.{never}
+use Rattle.basics.proofs.Bools.{never}
 use Rattle.alf.proofs.Decoding.{bytes-decode, decode-over}
-use Rattle.alf.specs.Refusals.{At, RefusedWith, Passed, Comes}
+use Rattle.alf.specs.Refusals.{RefusedWith, Passed, Comes}
 use Rattle.grammar.specs.Written.{written}
 use Rattle.trees.specs.Parts.{Ends, isWhole, expressionAt}
 use Rattle.names.specs.Check.{namesOrder}
-use Rattle.names.proofs.Orders.{none-first}
-use Rattle.limits.specs.Accepted.{Accepted}
-use Rattle.limits.proofs.Acceptance.{decoded}
+use Rattle.alf.proofs.Orders.{none-first}
+use Rattle.acceptance.specs.Accepted.{Accepted}
+use Rattle.acceptance.proofs.Acceptance.{decoded}
 use Rattle.writer.specs.Trees.{treeOf}
-use Rattle.writer.specs.Spelled.{text}
-use Rattle.writer.specs.Signs.{sign, signs, treeAt, lineFrom}
-use Rattle.writer.specs.Inner.{Put, Room, Spellable}
-use Rattle.writer.specs.Writing.{countOf, textAt, order, after, Writes, Named, Layable, Holds, Linable}
+use Rattle.writer.specs.Trees.{text}
+use Rattle.spelling.specs.Signs.{sign, lineFrom}
+use Rattle.writer.specs.Layout.{signs, treeAt}
+use Rattle.spelling.specs.Inner.{Spellable}
+use Rattle.basics.specs.Memory.{Put}
+use Rattle.writer.specs.Writing.{countOf, textAt, order, Writes, Named, Layable, Linable}
+use Rattle.basics.specs.Memory.{Holds}
+use Rattle.basics.specs.Memory.{after}
 use Rattle.writer.specs.Writing.{endOrder, Delivers}
-use Rattle.writer.proofs.Reading.{AllKnown}
+use Rattle.spelling.proofs.Reading.{AllKnown}
 use Rattle.writer.proofs.Known.{written-known, tree-known, written-short, nodes-bytes}
-use Rattle.writer.proofs.Lines.{line-text, text-short, signs-spellable}
-
--- what is written at the front stands there
-pub held : {out w out′ : List ℕ} {r : ℕ} → Put out 0 w out′ r → Room out 0 w → Holds out′ r w
-held {out} {w} {r = r} p h =
-    let e : _≡_ {A = ℕ} (0 + length w) (length w) = omega arith in
-    record {
-      front =
-          ap (take r) (p .bytes ∙ sets-eq w out 0 h)
-          ∙ take-at w (drop (0 + length w) out) r (sym (p .next ∙ e));
-      size = p .next ∙ e;
-    }
-
-pub holds-count : {list w : List ℕ} {r : ℕ} → Holds list r w → r ≡ length (take r list)
-holds-count h = h .size ∙ sym (ap length (h .front))
-
-pub holds-within : {list w : List ℕ} {r : ℕ} → Holds list r w → r ≤ length list
-holds-within {list} {r = r} h = omega (arith, holds-count h, length-take r list)
+use Rattle.spelling.proofs.Lines.{line-text, text-short, signs-spellable}
 
 -- 1, 9, or the text at the front
 pub delivered-long : {w out : List ℕ} → 4096 < length w
-    → Delivers w out out (Refused (record { number = 1; place = 4096 }))
+    → Delivers w out out (Refused (refusal 1 4096))
 unfolding Comes RefusedWith endOrder after
 delivered-long h = record { outcome = inl (refl, record { given = h; there = refl }); memory = refl }
 
 pub delivered-short : {w out : List ℕ} → length w ≤ 4096 → length out < length w
-    → Delivers w out out (Refused (record { number = 9; place = length w }))
+    → Delivers w out out (Refused (refusal 9 (length w)))
 unfolding Comes RefusedWith endOrder after
 delivered-short h k =
     record {
@@ -71,7 +60,7 @@ delivered-short h k =
     }
 
 pub delivered : {w out out′ : List ℕ} {r : ℕ} → length w ≤ 4096 → length w ≤ length out
-    → Put out 0 (take (length w) w) out′ r → Delivers w out out′ (Done (length w))
+    → Put out 0 w out′ r → Delivers w out out′ (Done (length w))
 unfolding Comes Passed endOrder after
 delivered {w} {out} h k p =
     let e : _≡_ {A = ℕ} (0 + length w) (length w) = omega arith in
@@ -79,7 +68,7 @@ delivered {w} {out} h k p =
     record {
       outcome = (((λ p r. omega (arith, r .given)), ((λ p r. omega (arith, r .given)), tt)), refl);
       memory =
-          p .bytes ∙ ap (sets out 0) (take-length w) ∙ sets-eq w out 0 z ∙ ap (λ (n : ℕ). w ++ drop n out) e;
+          p .bytes ∙ sets-eq w out 0 z ∙ ap (λ (n : ℕ). w ++ drop n out) e;
     }
 
 -- what checked names are: at most 32, names, and all different
@@ -124,7 +113,7 @@ module _ (names tree : List ℕ) (sort : Sort) (room : ℕ) where
   comes-names made r x = names-refused (r .number) (r .place) x
 
   comes-ten : Named names → (Accepted (countOf names) sort tree → ⊥)
-      → Comes (order names tree sort room) (done names tree) (Refused (record { number = 10; place = 0 }))
+      → Comes (order names tree sort room) (done names tree) (Refused (refusal 10 0))
   unfolding Comes RefusedWith Passed order
   comes-ten h f = inr (h .passed .0, inr (h .passed .1 .0, inl (refl, record { given = f; there = refl })))
 
@@ -145,7 +134,7 @@ refused-names {names} {tree} {sort} {out} made {r} x e =
 
 pub refused-tree : {names tree : List ℕ} {sort : Sort} {out : List ℕ} {o : Outcome}
     → Named names → (Accepted (countOf names) sort tree → ⊥)
-    → o ≡ Refused (record { number = 10; place = 0 })
+    → o ≡ Refused (refusal 10 0)
     → Writes names tree sort out out o
 unfolding after
 refused-tree {names} {tree} {sort} {out} h f e =

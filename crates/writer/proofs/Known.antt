@@ -1,13 +1,14 @@
--- The tokens that are written for an expression over the names are names of the list and signs.
--- Main names: TreeKnown, tree-known, written-known, written-short, nodes-bytes. Assumes nothing.
-use Prim.Native.Nat.{ℕ, suc, pred, _+_, _*_, _/_, _<_, _≤_}
+-- The tokens that are written for an expression over the names are names of the list and signs, and few.
+--   TreeKnown, tree-known, written-known   tokens that can be written: a tree, an expression, what is written of it
+--   written-short, nodes-bytes             at most four tokens for each node, and as many nodes as bytes
+use Prim.Native.Nat.{ℕ, pred, _+_, _*_, _/_, _<_, _≤_}
 use native.Mathlib.Omega.{arith}
-use mathlib.Core.Path.{_≡_, refl, sym, ap, _∙_}
+use mathlib.Core.Path.{_≡_, refl}
 use mathlib.Core.Bool.{Bool, true, false}
 use mathlib.Core.List.{List, [], _∷_, _++_}
 use lib.Dec.{leb, lit≤}
 use lib.ListN.{length, length-append}
-use Rattle.alf.specs.Words.{if_then_else_}
+use Rattle.basics.specs.Words.{if_then_else_}
 use Rattle.alf.specs.Names.{isName, nameAt}
 use Rattle.alf.specs.Expressions.{Boolean, name, literal, negated, binary, choice, Vector, edge, join, while}
 use Rattle.alf.specs.Expressions.{Binary, and, or, xor, xnor, equals, differs, above, below, at-least, at-most}
@@ -20,10 +21,10 @@ use Rattle.grammar.specs.declared.Token.{Token}
 use Rattle.grammar.specs.Tokens.{kindOf}
 use Rattle.grammar.specs.Grammar.{Tree, leaf, one, two, three, nodes}
 use Rattle.grammar.specs.Written.{made, levelOf, fitted, written}
-use Rattle.writer.specs.Trees.{named, joinCode, booleanTree, vectorTree, treeOf}
-use Rattle.writer.proofs.Signs.{Sign, low, high}
-use Rattle.writer.proofs.Words.{Known, a-name, a-sign}
-use Rattle.writer.proofs.Reading.{AllKnown, none, more}
+use Rattle.writer.specs.Trees.{joinCode, booleanTree, vectorTree, treeOf}
+use Rattle.spelling.proofs.LongestSigns.{Sign, low, high}
+use Rattle.spelling.proofs.LongestWords.{Known, a-name, a-sign}
+use Rattle.spelling.proofs.Reading.{AllKnown, none, more}
 
 -- a tree of tokens that can be written
 pub data TreeKnown (names : List ℕ) : Tree → Type 0 where

@@ -1,6 +1,7 @@
 -- The signs of a tree, part by part, where the functions over the tree's bytes look for them.
--- Main names: leaf-signs, one-signs, two-signs, three-signs. Assumes nothing.
-use Prim.Native.Nat.{ℕ, zero, suc, pred, _+_, _-_, _<_, _≤_}
+--   leaf-signs, one-signs, Two, Three        the signs of a node, from those of its operands
+--   one-start, two-start, three-start        where the writing of a node's parts begins
+use Prim.Native.Nat.{ℕ, zero, suc, _+_, _-_, _<_, _≤_}
 use native.Mathlib.Omega.{arith}
 use native.Mathlib.Numerals.{sub-one}
 use mathlib.Core.Path.{_≡_, refl, sym, ap, _∙_}
@@ -9,26 +10,26 @@ use mathlib.Core.Logic.{_⊎_, inl, inr}
 use mathlib.Core.List.{List, [], _∷_, _++_, map, map-append, append-assoc, append-nil}
 use lib.Dec.{eqb, ltb, leb}
 use lib.ListN.{getD, length}
-use borrow.Author.Tests.{ne-eqb, eqb-true, le-leb, lt-leb}
-use Rattle.alf.specs.Words.{if_then_else_}
+use borrow.Author.Tests.{ne-eqb}
+use Rattle.basics.specs.Words.{if_then_else_}
 use Rattle.alf.specs.Bytes.{stackAt}
-use Rattle.alf.proofs.Bools.{never}
-use Rattle.alf.proofs.Choices.{if-all}
+use Rattle.basics.proofs.Choices.{if-all}
 use Rattle.alf.proofs.Parts.{made-last}
 use Rattle.grammar.specs.declared.Token.{Token}
-use Rattle.grammar.specs.Tokens.{Kind, operand, prefix, question, colon, opening, closing, other, binary}
-use Rattle.grammar.specs.Tokens.{table, kindIn, kind, kindOf}
-use Rattle.grammar.specs.Grammar.{Tree, leaf, one, two, three}
-use Rattle.grammar.specs.Written.{made, levelOf, fitted, written}
+use Rattle.grammar.specs.Tokens.{binary}
+use Rattle.grammar.specs.Tokens.{kind, kindOf}
+use Rattle.grammar.specs.Grammar.{Tree, leaf, two, three}
+use Rattle.grammar.specs.Written.{made, fitted, written}
 use Rattle.grammar.proofs.Table.{binary-level}
 use Rattle.grammar.proofs.Written.{written-leaf, written-one, written-two, written-three}
-use Rattle.alf.proofs.Ranges.{all-from, all-from-law}
-use Rattle.trees.specs.Parts.{Ends, Start, isWhole, top}
+use Rattle.trees.specs.Parts.{Ends, Start, top}
 use Rattle.trees.proofs.Starts.{ends-pos}
 use Rattle.writer.specs.Trees.{named, treeOf}
-use Rattle.writer.specs.Signs.{sign, signs, treeAt, codeAt, levelAt, opener, closer}
-use Rattle.writer.specs.Inner.{Emitting, EmittingTwo, EmittingThree}
-use Rattle.writer.proofs.Going.{flat, Going, going-start}
+use Rattle.spelling.specs.Signs.{sign}
+use Rattle.writer.specs.Layout.{signs, treeAt, codeAt, levelAt, bracket, opener, closer}
+use Rattle.writer.specs.Layout.{Emitting, EmittingTwo, EmittingThree}
+use Rattle.basics.proofs.PartByPart.{flat, Going, going-start}
+use Rattle.writer.proofs.TokenKinds.{code-binary}
 use Rattle.writer.proofs.Nodes.{leaf-node, OneNode, one-node, TwoNode, two-node, ThreeNode, three-node}
 
 sign-made : (c : ℕ) → 0 < c → sign (made c) ≡ c
@@ -40,46 +41,13 @@ unfolding sign
 sign-named i = refl
 
 fitted-signs : (l m : ℕ) (ts : List Token) → map sign (fitted l m ts) ≡ opener l m ++ (map sign ts ++ closer l m)
-unfolding fitted opener closer sign
+unfolding fitted bracket sign
 fitted-signs l m ts = go (leb m l)
   where
     go : (b : Bool) → map sign (if b then ts else made 62 ∷ (ts ++ (made 63 ∷ [])))
         ≡ (if b then [] else 62 ∷ []) ++ (map sign ts ++ (if b then [] else 63 ∷ []))
     go true = sym (append-nil (map sign ts))
     go false = ap (λ (l : List ℕ). 62 ∷ l) (map-append sign ts (made 63 ∷ []))
-
--- the levels of operators between two operands
-isBinary : Kind → Bool
-isBinary operand = false
-isBinary prefix = false
-isBinary question = false
-isBinary colon = false
-isBinary opening = false
-isBinary closing = false
-isBinary other = false
-isBinary (binary l) = true
-
-binary-kind : (k : Kind) → isBinary k ≡ true → k ≡ binary (levelOf k)
-unfolding isBinary
-binary-kind operand h = never h
-binary-kind prefix h = never h
-binary-kind question h = never h
-binary-kind colon h = never h
-binary-kind opening h = never h
-binary-kind closing h = never h
-binary-kind other h = never h
-binary-kind (binary l) h = refl
-
-tested : ℕ → Bool
-tested b = isBinary (kind (codeAt b))
-
-codes-binary : all-from tested 40 20 ≡ true
-unfolding tested isBinary kind kindIn table codeAt
-codes-binary = refl
-
-code-binary : (b : ℕ) → 40 ≤ b → b < 60 → kind (codeAt b) ≡ binary (levelAt b)
-unfolding levelAt tested
-code-binary b l u = binary-kind (kind (codeAt b)) (all-from-law tested 40 20 b codes-binary l (omega arith))
 
 pub level-bounds : (b : ℕ) → 40 ≤ b → b < 60 → (1 < levelAt b) × (levelAt b < 6)
 level-bounds b l u = binary-level (codeAt b) (levelAt b) (code-binary b l u)
@@ -214,14 +182,14 @@ module _ (t : List ℕ) (names end : ℕ) (h : Ends t names end) where
 
 -- where the writing of an operator and its operands, or of a choice, begins
 pub two-start :
-    {t : List ℕ} {names end l k m c : ℕ} {out : List ℕ} {at : ℕ} →
+    {t : List ℕ} {names end l k m : ℕ} {out : List ℕ} {at : ℕ} →
     EmittingTwo t names end l out at →
     Start t names (end - 1) k →
     m ≡ levelAt (getD t (end - 1) 0) →
-    c ≡ codeAt (getD t (end - 1) 0) →
-    Going out at (signs l (treeAt t names end)) (twoParts l m c (treeAt t names k) (treeAt t names (end - 1))) out at
-two-start {t} {names} {end} {l} h s d e =
-    rw (d, e)
+    Going out at (signs l (treeAt t names end))
+    (twoParts l m (codeAt (getD t (end - 1) 0)) (treeAt t names k) (treeAt t names (end - 1))) out at
+two-start {t} {names} {end} {l} h s d =
+    rw d
     (going-start _ (two-parts t names end (h .whole .ends) (h .low) (h .high) l s .is) (h .whole .room))
 
 pub three-start :

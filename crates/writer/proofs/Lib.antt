@@ -1,14 +1,11 @@
 -- The laws of written texts.
-pub mod Signs
-pub mod Words
-pub mod Reading
-pub mod Going
+--   TokenKinds, Nodes, Layouts, Tables   the signs of a tree, from its bytes, as the functions write them
+--   Known, Calls                         what is written is known tokens, and what the call is proved by
+--   Theorems                             to cite
+pub mod TokenKinds
 pub mod Nodes
 pub mod Layouts
 pub mod Tables
-pub mod Spelling
-pub mod Steps
 pub mod Known
-pub mod Lines
 pub mod Calls
 pub mod Theorems

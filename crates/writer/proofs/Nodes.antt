@@ -1,26 +1,23 @@
 -- The tree of the expression on top of a stack, from the byte that made it.
--- Main names: leaf-node, one-node, two-node, three-node. Assumes nothing.
-use Prim.Native.Nat.{ℕ, _+_, _-_, _<_, _≤_}
+--   leaf-node, one-node, two-node, three-node   by how many operands the byte takes
+use Prim.Native.Nat.{ℕ, _-_, _<_, _≤_}
 use native.Mathlib.Omega.{arith}
 use mathlib.Core.Path.{_≡_, refl, sym, ap, _∙_}
-use mathlib.Core.Bool.{Bool, true, false}
+use mathlib.Core.Bool.{true}
 use mathlib.Core.Logic.{_⊎_, inl, inr}
-use lib.Dec.{eqb, ltb}
-use lib.ListN.{getD}
+use lib.Dec.{eqb}
 use borrow.Author.Tests.{eqb-true, lt-ltb}
-use Rattle.alf.specs.Words.{if_then_else_}
-use Rattle.alf.specs.Expressions.{Expression, boolean, vector}
-use Rattle.alf.specs.Bytes.{Stack, empty, broken, push, under, joinAt, binaryAt, binaryByte, edgeAt, edgeNumber}
-use Rattle.alf.proofs.Bools.{never}
-use Rattle.alf.proofs.Codes.{binary-byte, edge-byte}
+use Rattle.alf.specs.Bytes.{Stack, under, joinAt, binaryAt, binaryByte}
+use Rattle.basics.proofs.Bools.{never}
+use Rattle.alf.proofs.OperatorBytes.{binary-byte, edge-byte}
 use Rattle.alf.proofs.Made.{Made, a-name, a-literal, a-negation, a-binary, a-choice, an-edge, a-join}
 use Rattle.alf.proofs.Made.{a-condition, a-condition-before, nothing}
-use Rattle.grammar.specs.Grammar.{Tree, leaf, one, two, three}
+use Rattle.grammar.specs.Grammar.{leaf, one, two, three}
 use Rattle.grammar.specs.Written.{made}
-use Rattle.alf.proofs.Ranges.{all-from, all-from-law}
+use Rattle.basics.proofs.Ranges.{all-from-law}
 use Rattle.trees.specs.Parts.{isWhole, top}
 use Rattle.writer.specs.Trees.{named, joinCode, booleanTree, vectorTree, treeOf}
-use Rattle.writer.specs.Signs.{codeAt}
+use Rattle.writer.specs.Layout.{codeAt}
 
 pub record OneNode (b : ℕ) (s s′ : Stack) : Type 0 where
   pub is : treeOf (top s′) ≡ one (made b) (treeOf (top s))

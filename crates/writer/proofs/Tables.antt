@@ -1,16 +1,17 @@
--- The tables in the code: an operator's token and level; and the brackets that are needed.
--- Main names: code-table, level-table, opener-none, opener-some, closer-none, closer-some. Assumes nothing.
+-- The tables in the code, and the brackets that are needed.
+--   code-table, level-table        an operator's token and level
+--   bracket-none, bracket-some     a bracket is written exactly where it is needed
 use Prim.Native.Nat.{ℕ, _+_, _-_, _<_, _≤_}
 use native.Mathlib.Omega.{arith}
 use mathlib.Core.Path.{_≡_, refl}
-use mathlib.Core.Bool.{Bool, true}
+use mathlib.Core.Bool.{true}
 use mathlib.Core.List.{List, [], _∷_}
-use lib.Dec.{eqb, leb}
+use lib.Dec.{eqb}
 use lib.ListN.{getD}
 use borrow.Author.Tests.{eqb-true, le-leb, lt-leb}
 use Rattle.grammar.specs.Tokens.{table, kindIn, kind}
-use Rattle.alf.proofs.Ranges.{all-from, all-from-law}
-use Rattle.writer.specs.Signs.{codeAt, levelAt, opener, closer}
+use Rattle.basics.proofs.Ranges.{all-from, all-from-law}
+use Rattle.writer.specs.Layout.{codeAt, levelAt, bracket}
 
 -- the tables in the code
 table-law : (xs : List ℕ) (f : ℕ → ℕ) (lo n b : ℕ)
@@ -37,18 +38,10 @@ unfolding levelAt codeAt kind kindIn table
 level-table b l u = table-law levels levelAt 40 20 b refl l (omega arith)
 
 -- a bracket that is not needed is not written
-pub opener-none : {l m : ℕ} → m ≤ l → opener l m ≡ []
-unfolding opener
-opener-none {l} {m} h = rw (le-leb m l h)
+pub bracket-none : (b : ℕ) {l m : ℕ} → m ≤ l → bracket b l m ≡ []
+unfolding bracket
+bracket-none b {l} {m} h = rw (le-leb m l h)
 
-pub opener-some : {l m : ℕ} → l < m → opener l m ≡ 62 ∷ []
-unfolding opener
-opener-some {l} {m} h = rw (lt-leb m l h)
-
-pub closer-none : {l m : ℕ} → m ≤ l → closer l m ≡ []
-unfolding closer
-closer-none {l} {m} h = rw (le-leb m l h)
-
-pub closer-some : {l m : ℕ} → l < m → closer l m ≡ 63 ∷ []
-unfolding closer
-closer-some {l} {m} h = rw (lt-leb m l h)
+pub bracket-some : (b : ℕ) {l m : ℕ} → l < m → bracket b l m ≡ b ∷ []
+unfolding bracket
+bracket-some b {l} {m} h = rw (lt-leb m l h)

@@ -3,42 +3,38 @@
 --   text-tokens      the written text reads as the tokens that were written, with their places
 --   text-parses      these tokens are the expression's tree
 --   text-fewest      no tokens of that tree have fewer brackets, so one written pair less gives another tree or none
--- Assumes nothing.
-use Prim.Native.Nat.{ℕ, suc, _+_, _/_, _≤_, _<_}
+use Prim.Native.Nat.{ℕ, _+_, _/_, _≤_}
 use native.Mathlib.Omega.{arith}
-use mathlib.Core.Path.{_≡_, refl, sym, ap, _∙_}
-use mathlib.Core.Bool.{Bool, true, false}
-use mathlib.Core.List.{List, [], _∷_}
-use lib.Dec.{eqb, ltb}
+use mathlib.Core.Path.{_≡_, refl, sym, _∙_}
+use mathlib.Core.List.{List, []}
 use lib.ListN.{length}
 use Rattle.alf.specs.declared.Sort.{Sort}
-use Rattle.alf.specs.declared.Outcome.{Outcome}
+use Rattle.basics.specs.declared.Outcome.{Outcome}
 use Rattle.alf.specs.Expressions.{Boolean, name, literal, negated, binary, choice, Vector, edge, join, while}
 use Rattle.alf.specs.Expressions.{Binary, and, or, xor, xnor, equals, differs, above, below, at-least, at-most}
 use Rattle.alf.specs.Expressions.{Join, followed-by, either-order, with-or-then, any-order, with, or-else}
 use Rattle.alf.specs.Expressions.{Edge, EdgeKnown, Over, VectorOver, ExpressionOver}
 use Rattle.alf.specs.Expressions.{on-right, on-left, Expression, boolean, vector}
 use Rattle.alf.specs.Bytes.{binaryByte, edgeNumber}
-use Rattle.alf.proofs.Bools.{never}
 use Rattle.alf.proofs.Outcomes.{AllFixed, at-fixed, first-fixed, comes-unique}
 use Rattle.tokens.specs.Texts.{Reads}
-use Rattle.alf.proofs.Ranges.{all-from, all-from-law}
 use Rattle.grammar.specs.declared.Token.{Token}
 use Rattle.grammar.specs.Tokens as grammar
-use Rattle.grammar.specs.Tokens.{Kind, operand, prefix, question, colon, opening, closing, other, table, kindIn, kind}
-use Rattle.grammar.specs.Grammar.{Tree, leaf, one, two, three}
+use Rattle.grammar.specs.Tokens.{prefix, table, kindIn, kind}
+use Rattle.grammar.specs.Grammar.{Tree, leaf, two, three}
 use Rattle.grammar.specs.Grammar as tree
 use Rattle.grammar.specs.Written.{made, written, brackets, Formed, leaf-is, one-is, two-is, three-is}
 use Rattle.grammar.proofs.Written.{written-expression}
 use Rattle.grammar.proofs.Fewest.{written-fewest}
 use Rattle.writer.specs.Trees.{named, joinCode, booleanTree, vectorTree, treeOf}
-use Rattle.writer.specs.Spelled.{text}
-use Rattle.writer.specs.Placed.{placed}
-use Rattle.writer.specs.Writing.{textAt, order, after, Writes, Named}
-use Rattle.writer.proofs.Signs.{Sign, low, high}
-use Rattle.writer.proofs.Reading.{text-reads}
+use Rattle.writer.specs.Trees.{text}
+use Rattle.spelling.specs.Placed.{placed}
+use Rattle.writer.specs.Writing.{order, Writes, Named}
+use Rattle.spelling.proofs.Reading.{text-reads}
 use Rattle.writer.proofs.Known.{written-known, tree-known, edge-small}
+use Rattle.writer.proofs.TokenKinds.{literal-kind, prefix-kind}
 use Rattle.writer.proofs.Calls.{names-named}
+use Rattle.basics.proofs.Memory.{after-unique}
 
 -- outcome and buffer
 pub writes-unique : {names tree : List ℕ} {sort : Sort} {out a b : List ℕ} {r s : Outcome}
@@ -49,73 +45,9 @@ writes-unique {names} {tree} {sort} {out} {r = r} {s = s} w v =
     (at-fixed _ _, (first-fixed _, (at-fixed _ _, (at-fixed _ _, (at-fixed _ _, tt))))) in
     let e : r ≡ s =
     comes-unique (order names tree sort (length out)) _ fixed (λ k l p q. p ∙ sym q) r s (w .outcome) (v .outcome) in
-    (e, w .memory ∙ ap (after (textAt names tree) out) e ∙ sym (v .memory))
+    (e, after-unique _ out e (w .memory) (v .memory))
 
 -- an expression's tree has tokens of as many operands
-isOperand : Kind → Bool
-isOperand operand = true
-isOperand prefix = false
-isOperand question = false
-isOperand colon = false
-isOperand opening = false
-isOperand closing = false
-isOperand other = false
-isOperand (grammar.binary l) = false
-
-isPrefix : Kind → Bool
-isPrefix operand = false
-isPrefix prefix = true
-isPrefix question = false
-isPrefix colon = false
-isPrefix opening = false
-isPrefix closing = false
-isPrefix other = false
-isPrefix (grammar.binary l) = false
-
-operand-is : (k : Kind) → isOperand k ≡ true → k ≡ operand
-unfolding isOperand
-operand-is operand h = refl
-operand-is prefix h = never h
-operand-is question h = never h
-operand-is colon h = never h
-operand-is opening h = never h
-operand-is closing h = never h
-operand-is other h = never h
-operand-is (grammar.binary l) h = never h
-
-prefix-is : (k : Kind) → isPrefix k ≡ true → k ≡ prefix
-unfolding isPrefix
-prefix-is operand h = never h
-prefix-is prefix h = refl
-prefix-is question h = never h
-prefix-is colon h = never h
-prefix-is opening h = never h
-prefix-is closing h = never h
-prefix-is other h = never h
-prefix-is (grammar.binary l) h = never h
-
-literal-test : ℕ → Bool
-literal-test c = isOperand (kind c)
-
-literals : all-from literal-test 32 8 ≡ true
-unfolding literal-test isOperand kind kindIn table
-literals = refl
-
-literal-kind : (s : ℕ) → s < 8 → kind (32 + s) ≡ operand
-unfolding literal-test
-literal-kind s h = operand-is _ (all-from-law literal-test 32 8 (32 + s) literals (omega arith) (omega arith))
-
-prefix-test : ℕ → Bool
-prefix-test c = isPrefix (kind c)
-
-prefixes : all-from prefix-test 64 84 ≡ true
-unfolding prefix-test isPrefix kind kindIn table
-prefixes = refl
-
-prefix-kind : (c : ℕ) → 64 ≤ c → c < 148 → kind c ≡ prefix
-unfolding prefix-test
-prefix-kind c l u = prefix-is _ (all-from-law prefix-test 64 84 c prefixes l (omega arith))
-
 edge-kind : (e : Edge) → EdgeKnown e → kind (64 + edgeNumber e) ≡ prefix
 edge-kind e k = let u = edge-small e k in prefix-kind _ (omega arith) (omega arith)
 

@@ -1,13 +1,18 @@
--- Document 01, "Text": an expression as the grammar's tree of tokens. Which brackets its text needs is the grammar's
--- to say (`written`, in its Written.antt); here is which token stands for each node. Main name: treeOf.
+-- Document 01, "Text" and "Writing out": an expression as the grammar's tree of tokens, and its text.
+--   named, joinCode                   a name's token; the code of a vector's operator
+--   booleanTree, vectorTree, treeOf   which token stands for each node
+--   text                              what is written for an expression
+-- Which brackets the text needs is the grammar's to say (`written`, in its Written.antt).
 use Prim.Native.Nat.{ℕ, _+_}
+use mathlib.Core.List.{List}
 use Rattle.alf.specs.Expressions.{Boolean, name, literal, negated, binary, choice, Vector, edge, join, while}
 use Rattle.alf.specs.Expressions.{Join, followed-by, either-order, with-or-then, any-order, with, or-else}
 use Rattle.alf.specs.Expressions.{on-right, on-left, Expression, boolean, vector}
 use Rattle.alf.specs.Bytes.{binaryByte, edgeNumber}
 use Rattle.grammar.specs.declared.Token.{Token}
 use Rattle.grammar.specs.Grammar.{Tree, leaf, one, two, three}
-use Rattle.grammar.specs.Written.{made}
+use Rattle.grammar.specs.Written.{made, written}
+use Rattle.spelling.specs.Spelled.{textOf}
 
 -- A token that is not written yet has no byte; where the grammar keeps it, a name's token keeps the name's number.
 abbrev pub named : ℕ → Token
@@ -38,3 +43,7 @@ vectorTree (while on-left p c) = two (made 40) (booleanTree c) (vectorTree p)
 unfoldable pub treeOf : Expression → Tree
 treeOf (boolean c) = booleanTree c
 treeOf (vector p) = vectorTree p
+
+-- the text of an expression
+unfoldable pub text : List ℕ → Expression → List ℕ
+text names e = textOf names (written 6 (treeOf e))

@@ -1,20 +1,25 @@
 -- Document 01, "Writing" and rows 18, 12, 10, 1, 9 of "Numbers for refused work": what `write_expression` comes to.
--- Row 10 is what limits' `Accepted` refuses: no tree of the sort, over 256 nodes, brackets over 32 deep, over limit 8.
+--   countOf            how many names a list has
+--   textAt             the text of the expression that a tree is
+--   order, Writes      what is refused, in its order; the outcome and the lent buffer
+--   Named, Layable, Laid, Linable, endOrder, Delivers   what the functions inside ask and give
+-- Row 10 is what `Accepted`, of acceptance, refuses: no tree of the sort, over 256 nodes, over 32 deep, over limit 8.
 use Prim.Native.Nat.{ℕ, _/_, _≤_, _<_}
 use mathlib.Core.Path.{_≡_}
-use mathlib.Core.List.{List, [], _∷_, _++_}
-use lib.ListN.{length, drop, take, getD}
+use mathlib.Core.List.{List, [], _∷_}
+use lib.ListN.{length, take, getD}
 use Rattle.alf.specs.declared.Sort.{Sort}
-use Rattle.alf.specs.declared.Outcome.{Outcome}
-use Rattle.alf.specs.declared.Outcome.the-variants.{Done, Refused}
+use Rattle.basics.specs.declared.Outcome.{Outcome}
 use Rattle.alf.specs.Refusals.{Order, check, bad-lists, bad-slot, cannot-be, too-long, no-room}
 use Rattle.alf.specs.Refusals.{Passed, Comes}
 use Rattle.names.specs.Check.{Slots, namesOrder}
 use Rattle.trees.specs.Parts.{Ends, expressionAt}
-use Rattle.limits.specs.Accepted.{Accepted}
-use Rattle.writer.specs.Spelled.{text}
-use Rattle.writer.specs.Signs.{signs, treeAt, lineFrom}
-use Rattle.writer.specs.Inner.{Spellable}
+use Rattle.acceptance.specs.Accepted.{Accepted}
+use Rattle.writer.specs.Trees.{text}
+use Rattle.spelling.specs.Signs.{lineFrom}
+use Rattle.writer.specs.Layout.{signs, treeAt}
+use Rattle.spelling.specs.Inner.{Spellable}
+use Rattle.basics.specs.Memory.{Holds, after, front}
 
 abbrev pub countOf : List ℕ → ℕ
 countOf names = length names / 32
@@ -33,14 +38,9 @@ order names tree sort room =
     check 9 (no-room (length (textAt names tree)) room) ∷
     []
 
--- the buffer afterwards: the text is at its front, and past the text it is as before; refused, all of it is as before
-unfoldable pub after : List ℕ → List ℕ → Outcome → List ℕ
-after w out (Done k) = w ++ drop (length w) out
-after w out (Refused r) = out
-
 pub record Writes (names tree : List ℕ) (sort : Sort) (out out′ : List ℕ) (r : Outcome) : Type 0 where
   pub outcome : Comes (order names tree sort (length out)) (λ k. k ≡ length (textAt names tree)) r
-  pub memory : out′ ≡ after (textAt names tree) out r
+  pub memory : out′ ≡ after (front (textAt names tree) out) out r
 
 -- What the functions inside ask and give. The names are checked.
 pub record Named (names : List ℕ) : Type 0 where
@@ -50,11 +50,6 @@ pub record Named (names : List ℕ) : Type 0 where
 pub record Layable (tree : List ℕ) (names : ℕ) : Type 0 where
   pub ends : Ends tree names (length tree)
   pub few : length (signs 6 (treeAt tree names (length tree))) ≤ 1024
-
--- the first r entries of a list are these
-pub record Holds (list : List ℕ) (r : ℕ) (w : List ℕ) : Type 0 where
-  pub front : take r list ≡ w
-  pub size : r ≡ length w
 
 abbrev pub Laid : List ℕ → ℕ → List ℕ → ℕ → Type 0
 Laid tree names list r = Holds list r (signs 6 (treeAt tree names (length tree)))
@@ -70,4 +65,4 @@ endOrder w room = check 1 (too-long (length w)) ∷ check 9 (no-room (length w) 
 
 pub record Delivers (w out out′ : List ℕ) (r : Outcome) : Type 0 where
   pub outcome : Comes (endOrder w (length out)) (λ k. k ≡ length w) r
-  pub memory : out′ ≡ after w out r
+  pub memory : out′ ≡ after (front w out) out r

@@ -1,12 +1,11 @@
 // A tree's signs in the order of its text, with only needed brackets.
-use crate::puts::close;
-use crate::puts::open;
-use crate::puts::push;
+use basics::puts::push;
 use trees::parts::start_of;
 ghost use mathlib.Core.Path.{_≡_};
+ghost use Rattle.basics.specs.Memory.{Put, Room};
 ghost use Prim.Native.Nat.{_≤_, _<_};
-ghost use Rattle.writer.specs.Signs.{codeAt, levelAt};
-ghost use Rattle.writer.specs.Inner.{Emitting, EmittingTwo, EmittingThree, Emitted};
+ghost use Rattle.writer.specs.Layout.{codeAt, levelAt, bracket};
+ghost use Rattle.writer.specs.Layout.{Emitting, EmittingTwo, EmittingThree, Emitted};
 
 // The token of an operator between two operands, from byte 40 on, and its level.
 const CODES: [u8; 20] = [
@@ -48,6 +47,17 @@ fn level_of(b: u8) -> u8
     LEVELS[(b - 40) as usize]
 }
 
+// A bracket where what is of level m is weaker than the level asked for.
+fn put_bracket(out: &mut [u8], at: usize, b: u8, level: u8, m: u8) -> usize
+    requires { ⌜ Room (now out) at (bracket b level m) ⌝ }
+    ensures { λ r. ⌜ Put (now (out .entry)) at (bracket b level m) (now (out .exit)) r ⌝ }
+{
+    if m <= level {
+        return at;
+    }
+    push(out, at, b)
+}
+
 // An operator between its operands.
 fn emit_two(tree: &[u8], end: usize, names: usize, level: u8, out: &mut [u8], at: usize) -> usize
     requires { ⌜ EmittingTwo (now tree) names end level (now out) at ⌝ }
@@ -57,11 +67,11 @@ fn emit_two(tree: &[u8], end: usize, names: usize, level: u8, out: &mut [u8], at
     let b = tree[last];
     let m = level_of(b);
     let mid = start_of(tree, last, names);
-    let p = open(out, at, level, m);
+    let p = put_bracket(out, at, 62, level, m);
     let q = emit(tree, mid, names, m, out, p);
     let r = push(out, q, code_of(b));
     let s = emit(tree, last, names, m - 1, out, r);
-    close(out, s, level, m)
+    put_bracket(out, s, 63, level, m)
 }
 
 // A choice.
@@ -72,13 +82,13 @@ fn emit_three(tree: &[u8], end: usize, names: usize, level: u8, out: &mut [u8], 
     let last = end - 1;
     let mid = start_of(tree, last, names);
     let first = start_of(tree, mid, names);
-    let p = open(out, at, level, 6);
+    let p = put_bracket(out, at, 62, level, 6);
     let q = emit(tree, first, names, 5, out, p);
     let r = push(out, q, 60);
     let s = emit(tree, mid, names, 6, out, r);
     let u = push(out, s, 61);
     let v = emit(tree, last, names, 6, out, u);
-    close(out, v, level, 6)
+    put_bracket(out, v, 63, level, 6)
 }
 
 // The signs of the expression that ends at `end`, where a level is asked for, from `at` on; the place behind them.

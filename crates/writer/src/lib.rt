@@ -1,20 +1,18 @@
 // An expression's tree as text: one blank between all tokens, only needed brackets.
-mod halves;
 mod layout;
-mod puts;
-mod spells;
 
 ghost use lib.ListN.{take};
-ghost use Rattle.writer.specs.Signs.{lineFrom};
-ghost use Rattle.writer.specs.Writing.{Writes, Named, Layable, Laid, Holds, Linable, Delivers};
-use alf::Outcome;
+ghost use Rattle.spelling.specs.Signs.{lineFrom};
+ghost use Rattle.writer.specs.Writing.{Writes, Named, Layable, Laid, Linable, Delivers};
+ghost use Rattle.basics.specs.Memory.{Holds};
+use crate::layout::emit;
+use acceptance::accepting::accepts;
 use alf::Sort;
-use layout::emit;
-use limits::accepting::accepts;
+use basics::Outcome;
+use basics::puts::put;
+use basics::refusing::refuse;
 use names::check_names;
-use names::refuse;
-use spells::put_bytes;
-use spells::put_line;
+use spelling::spells::put_line;
 
 // The signs of a whole tree; how many.
 fn lay_out(tree: &[u8], names: usize, list: &mut [u8; 1024]) -> usize
@@ -44,7 +42,7 @@ fn deliver(text: &[u8], out: &mut [u8]) -> Outcome
     if out.len() < size {
         return refuse(9, size);
     }
-    put_bytes(text, size, out, 0);
+    put(text, out, 0);
     Outcome::Done(size)
 }
 

@@ -1,6 +1,6 @@
 -- `deliver` meets its contract.
 use borrow.Author.Needs.{needs}
-use Rattle.alternative_lines.proofs.Returns.{lines-short, lines-done}
+use Rattle.alternative_lines.proofs.WritingCases.{lines-short, lines-done}
 use Rattle.alternative_lines.proofs.deliver.Statement.{statement}
 use Rattle.alternative_lines.proofs.deliver.Tie as tie
 

@@ -1,6 +1,6 @@
 -- `list_all` meets its contract.
 use borrow.Author.Needs.{needs}
-use Rattle.alternative_lines.proofs.Returns.{reportable, noted-all, own-notes}
+use Rattle.alternative_lines.proofs.WritingCases.{reportable, noted-all, own-notes}
 use Rattle.alternative_lines.proofs.list_all.Statement.{statement}
 use Rattle.alternative_lines.proofs.list_all.Tie as tie
 

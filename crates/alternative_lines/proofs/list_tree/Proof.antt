@@ -3,7 +3,7 @@ use borrow.Author.Needs.{needs}
 use mathlib.Core.Path.{sym}
 use lib.Seq.{length-take-le}
 use Rattle.rewriting.proofs.Holding.{steps-within, tests-within, edges-within, operands-within}
-use Rattle.alternative_lines.proofs.Returns.{own-lists, lists-fit}
+use Rattle.alternative_lines.proofs.WritingCases.{own-lists, lists-fit}
 use Rattle.alternative_lines.proofs.list_tree.Statement.{statement}
 use Rattle.alternative_lines.proofs.list_tree.Tie as tie
 

@@ -1,7 +1,7 @@
 -- `write_alternatives` meets its contract.
 use borrow.Author.Needs.{needs}
 use Rattle.writer.proofs.Calls.{names-passed}
-use Rattle.alternative_lines.proofs.Returns.{refused-names}
+use Rattle.alternative_lines.proofs.WritingCases.{refused-names}
 use Rattle.alternative_lines.proofs.write_alternatives.Statement.{statement}
 use Rattle.alternative_lines.proofs.write_alternatives.Tie as tie
 

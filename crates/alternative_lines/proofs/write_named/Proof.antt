@@ -1,7 +1,7 @@
 -- `write_named` meets its contract.
 use borrow.Author.Needs.{needs}
-use Rattle.limits.proofs.Deciding.{decided-no, decided-yes}
-use Rattle.alternative_lines.proofs.Returns.{refused-tree, listed}
+use Rattle.basics.proofs.Deciding.{decided-no, decided-yes}
+use Rattle.alternative_lines.proofs.WritingCases.{refused-tree, listed}
 use Rattle.alternative_lines.proofs.write_named.Statement.{statement}
 use Rattle.alternative_lines.proofs.write_named.Tie as tie
 

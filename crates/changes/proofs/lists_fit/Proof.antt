@@ -1,8 +1,8 @@
--- `lists_fit` meets its contract. Assumes nothing.
+-- `lists_fit` meets its contract.
 use native.Mathlib.Omega.{arith}
 use borrow.Author.Needs.{needs}
-use Rattle.names.specs.Check.{holds, fails}
-use Rattle.changes.proofs.Rows.{bound}
+use Rattle.basics.proofs.Deciding.{holds, fails}
+use native.Mathlib.Nat.{mul-le-mul}
 use Rattle.changes.proofs.lists_fit.Statement.{statement}
 use Rattle.changes.proofs.lists_fit.Tie as tie
 
@@ -19,7 +19,7 @@ returns-4 : tie.Need-returns-4
 returns-4 c = fails (λ s. omega (arith, s .row-count .1, c .if4 .taken))
 
 mul-if5 : tie.Need-mul-if5
-mul-if5 c = omega (arith, bound _ _ (c .if4 .left) (c .before .before .if2 .left))
+mul-if5 c = omega (arith, mul-le-mul (c .if4 .left) (c .before .before .if2 .left))
 
 returns-5 : tie.Need-returns-5
 returns-5 c = fails (λ s. c .if5 .taken (s .all))

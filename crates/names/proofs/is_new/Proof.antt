@@ -1,12 +1,12 @@
--- `is_new` meets its contract: no slot passed holds the name. Assumes nothing.
+-- `is_new` meets its contract: no slot passed holds the name.
 use borrow.Author.Needs.{needs}
 use borrow.Author.Count.{below-none, below-more}
 use mathlib.Core.Path.{_≡_}
 use Prim.Native.Nat.{ℕ, _≤_, _<_, _-_}
+use Rattle.basics.proofs.Deciding.{told, not-told, holds, fails}
 use Rattle.alf.specs.Names.{nameAt}
 use native.Mathlib.Omega.{arith}
-use Rattle.names.specs.Check.{holds, fails}
-use Rattle.names.proofs.Slots.{part-told, told-true, told-false}
+use Rattle.names.proofs.Slots.{part-told}
 use Rattle.names.proofs.is_new.Statement.{statement}
 use Rattle.names.proofs.is_new.Tie as tie
 
@@ -16,58 +16,24 @@ Inv-loop names k at end j₀ j = (j ≤ k) × ((i : ℕ) → i < j → nameAt na
 abbrev μ-loop : tie.MeasureT-loop
 μ-loop names k at end j₀ j = k - j
 
-mul-at : tie.Need-mul-at Inv-loop μ-loop
-mul-at c = search needs
-
-add-end : tie.Need-add-end Inv-loop μ-loop
-add-end c = search needs
-
 loop-holds : tie.Need-loop-holds Inv-loop μ-loop
 loop-holds c = (search needs, below-none _)
 
-mul-from : tie.Need-mul-from Inv-loop μ-loop
-mul-from c = search needs
-
-add-to : tie.Need-add-to Inv-loop μ-loop
-add-to c = search needs
-
-sub-same-name : tie.Need-sub-same-name Inv-loop μ-loop
-sub-same-name c = search needs
-
-part-same-name-start : tie.Need-part-same-name-start Inv-loop μ-loop
-part-same-name-start c = search needs
-
-part-same-name-end : tie.Need-part-same-name-end Inv-loop μ-loop
-part-same-name-end c = search needs
-
-sub-same-name-2 : tie.Need-sub-same-name-2 Inv-loop μ-loop
-sub-same-name-2 c = search needs
-
-part-same-name-start-2 : tie.Need-part-same-name-start-2 Inv-loop μ-loop
-part-same-name-start-2 c = search needs
-
-part-same-name-end-2 : tie.Need-part-same-name-end-2 Inv-loop μ-loop
-part-same-name-end-2 c = search needs
-
-same-name-requires : tie.Need-same-name-requires Inv-loop μ-loop
-same-name-requires c κs = search needs
-
 returns : tie.Need-returns Inv-loop μ-loop
-returns c = fails (λ new. new _ (c .before .before .before .before .loop-test .taken)
-    (told-true (part-told _ _ _ (c .before .same-name .ensures)) (c .if1 .taken)))
-
-add-j : tie.Need-add-j Inv-loop μ-loop
-add-j c = search needs
-
-loop-less : tie.Need-loop-less Inv-loop μ-loop
-loop-less c = search needs
+returns c =
+    let after-same-name = c .before in
+    let entered = after-same-name .before .before .before in
+    fails (λ new. new _ (entered .loop-test .taken)
+    (told _ (part-told _ _ _ _ (after-same-name .same-name .ensures)) (c .if1 .taken)))
 
 loop-again : tie.Need-loop-again Inv-loop μ-loop
-loop-again c = (
-  search needs,
-  below-more _ _ (c .before .before .before .before .before .loop .inv .1)
-      (told-false (part-told _ _ _ (c .before .same-name .ensures)) (c .if1 .left)),
-)
+loop-again c =
+    let after-same-name = c .before in
+    let turn = after-same-name .before .before .before .before in (
+      search needs,
+      below-more _ _ (turn .loop .inv .1)
+          (not-told _ (part-told _ _ _ _ (after-same-name .same-name .ensures)) (c .if1 .left)),
+    )
 
 returns-2 : tie.Need-returns-2 Inv-loop μ-loop
 returns-2 c = holds (λ j l. c .before .loop .inv .1 j (omega (arith, c .loop-test .left)))
@@ -78,20 +44,20 @@ is-new-spec =
     (tie.spec
     Inv-loop
     μ-loop
-    mul-at
-    add-end
+    (λ c. search needs)  -- mul-at
+    (λ c. search needs)  -- add-end
     loop-holds
-    mul-from
-    add-to
-    sub-same-name
-    part-same-name-start
-    part-same-name-end
-    sub-same-name-2
-    part-same-name-start-2
-    part-same-name-end-2
-    same-name-requires
+    (λ c. search needs)  -- mul-from
+    (λ c. search needs)  -- add-to
+    (λ c. search needs)  -- sub-same-name
+    (λ c. search needs)  -- part-same-name-start
+    (λ c. search needs)  -- part-same-name-end
+    (λ c. search needs)  -- sub-same-name-2
+    (λ c. search needs)  -- part-same-name-start-2
+    (λ c. search needs)  -- part-same-name-end-2
+    (λ c κs. search needs)  -- same-name-requires
     returns
-    add-j
-    loop-less
+    (λ c. search needs)  -- add-j
+    (λ c. search needs)  -- loop-less
     loop-again
     returns-2)

@@ -1,9 +1,9 @@
--- `starts_name` meets its contract: on each range of bytes the test is one value. Assumes nothing.
+-- `starts_name` meets its contract: on each range of bytes the test is one value.
 use mathlib.Core.Path.{refl}
 use mathlib.Core.Bool.{true, false}
 use native.Mathlib.Omega.{arith}
 use Rattle.alf.specs.Names.{startsName, isLetter}
-use Rattle.names.proofs.Ranges.{ranged, keyed}
+use Rattle.basics.proofs.ByteTests.{ranged, keyed}
 use Rattle.names.proofs.starts_name.Statement.{statement}
 use Rattle.names.proofs.starts_name.Tie as tie
 
@@ -19,7 +19,8 @@ returns-2 c =
 returns-3 : tie.Need-returns-3
 unfolding startsName isLetter
 returns-3 c =
-    ranged startsName false 95 123 133 refl _ (c .before .before .before .before .match .rest .1) (omega arith)
+    let after-match = c .before .before .before .before in
+    ranged startsName false 95 123 133 refl _ (after-match .match .rest .1) (omega arith)
     (omega arith)
 
 returns-4 : tie.Need-returns-4
@@ -33,7 +34,8 @@ returns-5 c = ranged startsName true 95 65 26 refl _ (c .before .before .match .
 returns-6 : tie.Need-returns-6
 unfolding startsName isLetter
 returns-6 c =
-    ranged startsName true 95 97 26 refl _ (c .before .before .before .before .match .rest .1) (omega arith)
+    let after-match = c .before .before .before .before in
+    ranged startsName true 95 97 26 refl _ (after-match .match .rest .1) (omega arith)
     (omega arith)
 
 pub starts-name-spec : {M : Type 1} → statement M

@@ -1,4 +1,4 @@
--- `has_sort` meets its contract. Assumes nothing.
+-- `has_sort` meets its contract.
 use borrow.Author.Needs.{needs}
 use Rattle.reader.specs.Reads.{hasSort}
 use Rattle.reader.proofs.has_sort.Statement.{statement}

@@ -1,4 +1,4 @@
--- `is_over` meets its contract. Assumes nothing.
+-- `is_over` meets its contract.
 use borrow.Author.Needs.{needs}
 use Rattle.reader.proofs.Limiting.{over-told, within-told}
 use Rattle.reader.proofs.is_over.Statement.{statement}

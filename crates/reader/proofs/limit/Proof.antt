@@ -1,4 +1,4 @@
--- `limit` meets its contract. Assumes nothing.
+-- `limit` meets its contract.
 use borrow.Author.Needs.{needs}
 use mathlib.Core.Path.{sym, _∙_}
 use Rattle.reader.proofs.Limiting.{limit-refused, left-over, limit-boolean, limit-asks}
@@ -11,26 +11,30 @@ returns c = limit-refused (c .before .before .before .pre) (c .if1 .taken)
 
 returns-2 : tie.Need-returns-2
 returns-2 c =
-    limit-boolean (left-over (c .before .before .before .before .before .pre) (c .before .before .if1 .left))
+    let start = c .before .before .before .before .before in
+    limit-boolean (left-over (start .pre) (c .before .before .if1 .left))
     (sym (c .before .has-sort .ensures) ∙ c .if2 .taken)
 
 is-over-requires : tie.Need-is-over-requires
 is-over-requires c κs =
+    let start = c .before .before .before .before .before .before .before in
     let b = c .before .before in
-    limit-asks (left-over (c .before .before .before .before .before .before .before .pre)
+    limit-asks (left-over (start .pre)
     (b .before .before .if1 .left)) (sym (b .before .has-sort .ensures) ∙ b .if2 .left)
 
 returns-3 : tie.Need-returns-3
 returns-3 c =
+    let start = c .before .before .before .before .before .before .before .before .before .before in
     let b = c .before .before .before .before .before in
-    limit-over (left-over (c .before .before .before .before .before .before .before .before .before .before .pre)
+    limit-over (left-over (start .pre)
     (b .before .before .if1 .left)) (sym (b .before .has-sort .ensures) ∙ b .if2 .left)
-    (c .before .before .is-over .ensures) (c .before .if3 .taken) (c .refuse .ensures)
+    (c .before .before .is-over .ensures) (c .before .if3 .taken) (c .refuse-text .ensures)
 
 returns-4 : tie.Need-returns-4
 returns-4 c =
+    let start = c .before .before .before .before .before .before .before .before .before in
     let b = c .before .before .before .before in
-    limit-within (left-over (c .before .before .before .before .before .before .before .before .before .pre)
+    limit-within (left-over (start .pre)
     (b .before .before .if1 .left)) (sym (b .before .has-sort .ensures) ∙ b .if2 .left)
     (c .before .is-over .ensures) (c .if3 .left)
 
@@ -43,6 +47,6 @@ limit-spec =
     returns-2
     (λ c. search needs)  -- slice-aggregate-is-over
     is-over-requires
-    (λ c κs. search needs)  -- refuse-requires
+    (λ c κs. search needs)  -- refuse-text-requires
     returns-3
     returns-4)

@@ -1,14 +1,16 @@
--- `read_nodes` meets its contract: the pass over the nodes comes to what the tree is sorted as. Assumes nothing.
+-- `read_nodes` meets its contract: the pass over the nodes comes to what the tree is sorted as.
 use borrow.Author.Needs.{needs}
 use borrow.Author.Tests.{not-true, not-false}
 use mathlib.Core.Path.{sym, _∙_}
-use Rattle.reader.specs.Sorts.{sortedFor}
+use Rattle.sorting.specs.Sorts.{sortedFor}
 use Rattle.reader.proofs.Trees.{nodes-handed, pass-tree, answer-stopped, answer-wrong, answer-read}
 use Rattle.reader.proofs.read_nodes.Statement.{statement}
 use Rattle.reader.proofs.read_nodes.Tie as tie
 
 sort-nodes-requires : tie.Need-sort-nodes-requires
-sort-nodes-requires c κs = nodes-handed (c .before .before .before .before .before .before .pre)
+sort-nodes-requires c κs =
+    let start = c .before .before .before .before .before .before in
+    nodes-handed (start .pre)
 
 returns : tie.Need-returns
 unfolding sortedFor
@@ -16,7 +18,8 @@ returns c =
     let n = c .before .before .sort-nodes in
     record {
       given = λ e f q.
-          answer-stopped _ _ _ (pass-tree e f q (n .ensures)) (not-true _ (c .before .if1 .taken)) (c .refuse .ensures);
+          answer-stopped _ _ _ (pass-tree e f q (n .ensures)) (not-true _ (c .before .if1 .taken))
+          (c .refuse-text .ensures);
     }
 
 returns-2 : tie.Need-returns-2
@@ -26,17 +29,19 @@ returns-2 c =
     record {
       given = λ e f q.
           answer-wrong _ _ _ (pass-tree e f q (b .before .sort-nodes .ensures)) (not-false _ (b .if1 .left))
-          (sym (c .before .before .has-sort .ensures) ∙ not-true _ (c .before .if2 .taken)) (c .refuse2 .ensures);
+          (sym (c .before .before .has-sort .ensures) ∙ not-true _ (c .before .if2 .taken)) (c .refuse-text2 .ensures);
     }
 
 returns-3 : tie.Need-returns-3
 unfolding sortedFor
 returns-3 c =
-    let b = c .before .before .before .before in
+    let sorted = c .before .before in
+    let b = sorted .before .before .before in
     record {
       given = λ e f q.
-          answer-read _ _ _ (pass-tree e f q (b .before .sort-nodes .ensures)) (not-false _ (b .if1 .left))
-          (sym (c .before .before .has-sort .ensures) ∙ not-false _ (c .before .if2 .left));
+          rw (c .refusal-of .ensures)
+          (answer-read _ _ _ (pass-tree e f q (b .before .sort-nodes .ensures)) (not-false _ (b .if1 .left))
+          (sym (sorted .before .has-sort .ensures) ∙ not-false _ (sorted .if2 .left)));
     }
 
 pub read-nodes-spec : {M : Type 1} → statement M
@@ -46,10 +51,11 @@ read-nodes-spec =
     (λ c. search needs)  -- slice-aggregate-sort-nodes
     (λ c. search needs)  -- slice-aggregate-sort-nodes-2
     sort-nodes-requires
-    (λ c κs. search needs)  -- refuse-requires
+    (λ c κs. search needs)  -- refuse-text-requires
     returns
     (λ c. search needs)  -- element-copy-out-has-sort
     (λ c κs. search needs)  -- has-sort-requires
-    (λ c κs. search needs)  -- refuse-requires-2
+    (λ c κs. search needs)  -- refuse-text-requires-2
     returns-2
+    (λ c κs. search needs)  -- refusal-of-requires
     returns-3)

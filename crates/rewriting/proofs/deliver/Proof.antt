@@ -1,22 +1,13 @@
--- `deliver` meets its contract. Assumes nothing.
+-- `deliver` meets its contract.
 use Rattle.rewriting.proofs.Calls.{short-steps, short-tests, short-edges, short-operands, delivered}
 use borrow.Author.Needs.{needs}
 use Rattle.rewriting.proofs.deliver.Statement.{statement}
 use Rattle.rewriting.proofs.deliver.Tie as tie
 
-lengths-of-requires : tie.Need-lengths-of-requires
-lengths-of-requires c κs = search needs
-
-refuse-requires : tie.Need-refuse-requires
-refuse-requires c κs = search needs
-
 returns : tie.Need-returns
 returns c =
     let c1 = c .before in
     short-steps _ _ _ _ (c1 .before .before .lengths-of .ensures) (c1 .if1 .taken) (c .refuse .ensures)
-
-refuse-requires-2 : tie.Need-refuse-requires-2
-refuse-requires-2 c κs = search needs
 
 returns-2 : tie.Need-returns-2
 returns-2 c =
@@ -24,9 +15,6 @@ returns-2 c =
     let c3 = c1 .before .before in
     short-tests _ _ _ _ (c3 .before .before .lengths-of .ensures) (c3 .if1 .left) (c1 .if2 .taken)
     (c .refuse2 .ensures)
-
-refuse-requires-3 : tie.Need-refuse-requires-3
-refuse-requires-3 c κs = search needs
 
 returns-3 : tie.Need-returns-3
 returns-3 c =
@@ -36,9 +24,6 @@ returns-3 c =
     short-edges _ _ _ _ (c5 .before .before .lengths-of .ensures) (c5 .if1 .left) (c3 .if2 .left) (c1 .if3 .taken)
     (c .refuse3 .ensures)
 
-refuse-requires-4 : tie.Need-refuse-requires-4
-refuse-requires-4 c κs = search needs
-
 returns-4 : tie.Need-returns-4
 returns-4 c =
     let c1 = c .before in
@@ -47,21 +32,6 @@ returns-4 c =
     let c7 = c5 .before .before in
     short-operands _ _ _ _ (c7 .before .before .lengths-of .ensures) (c7 .if1 .left) (c5 .if2 .left) (c3 .if3 .left)
     (c1 .if4 .taken) (c .refuse4 .ensures)
-
-fill-requires : tie.Need-fill-requires
-fill-requires c κs = search needs
-
-same-length : tie.Need-same-length
-same-length c = search needs
-
-same-length-2 : tie.Need-same-length-2
-same-length-2 c = search needs
-
-same-length-3 : tie.Need-same-length-3
-same-length-3 c = search needs
-
-same-length-4 : tie.Need-same-length-4
-same-length-4 c = search needs
 
 returns-5 : tie.Need-returns-5
 returns-5 c =
@@ -77,18 +47,18 @@ pub deliver-spec : {M : Type 1} → statement M
 deliver-spec =
     tie.close
     (tie.spec
-    lengths-of-requires
-    refuse-requires
+    (λ c κs. search needs)  -- lengths-of-requires
+    (λ c κs. search needs)  -- refuse-requires
     returns
-    refuse-requires-2
+    (λ c κs. search needs)  -- refuse-requires-2
     returns-2
-    refuse-requires-3
+    (λ c κs. search needs)  -- refuse-requires-3
     returns-3
-    refuse-requires-4
+    (λ c κs. search needs)  -- refuse-requires-4
     returns-4
-    fill-requires
-    same-length
-    same-length-2
-    same-length-3
-    same-length-4
+    (λ c κs. search needs)  -- fill-requires
+    (λ c. search needs)  -- same-length
+    (λ c. search needs)  -- same-length-2
+    (λ c. search needs)  -- same-length-3
+    (λ c. search needs)  -- same-length-4
     returns-5)

@@ -1,4 +1,4 @@
--- `names_fit` meets its contract. Assumes nothing.
+-- `names_fit` meets its contract.
 use Rattle.rewriting.proofs.Calls.{no-names, some-names}
 use Rattle.rewriting.proofs.names_fit.Statement.{statement}
 use Rattle.rewriting.proofs.names_fit.Tie as tie

@@ -1,26 +1,14 @@
--- `rewrite` meets its contract. Assumes nothing.
-use Rattle.limits.proofs.Deciding.{decided-no, decided-yes}
+-- `rewrite` meets its contract.
+use Rattle.basics.proofs.Deciding.{decided-no, decided-yes}
 use Rattle.rewriting.proofs.Calls.{refused-18, refused-10, passed-on}
 use borrow.Author.Needs.{needs}
 use Rattle.rewriting.proofs.rewrite.Statement.{statement}
 use Rattle.rewriting.proofs.rewrite.Tie as tie
 
-names-fit-requires : tie.Need-names-fit-requires
-names-fit-requires c κs = search needs
-
-refuse-requires : tie.Need-refuse-requires
-refuse-requires c κs = search needs
-
 returns : tie.Need-returns
 returns c =
     refused-18 _ _ _ _ _ _ (decided-no _ (c .before .before .names-fit .ensures) (c .before .if1 .taken))
     (c .refuse .ensures)
-
-accepts-requires : tie.Need-accepts-requires
-accepts-requires c κs = search needs
-
-refuse-requires-2 : tie.Need-refuse-requires-2
-refuse-requires-2 c κs = search needs
 
 returns-2 : tie.Need-returns-2
 returns-2 c =
@@ -32,18 +20,6 @@ deliver-requires : tie.Need-deliver-requires
 deliver-requires c κs =
     let c4 = c .before .before .before .before in
     decided-yes _ (c4 .before .accepts .ensures) (c4 .if2 .left)
-
-same-length : tie.Need-same-length
-same-length c = search needs
-
-same-length-2 : tie.Need-same-length-2
-same-length-2 c = search needs
-
-same-length-3 : tie.Need-same-length-3
-same-length-3 c = search needs
-
-same-length-4 : tie.Need-same-length-4
-same-length-4 c = search needs
 
 returns-3 : tie.Need-returns-3
 returns-3 c =
@@ -57,15 +33,15 @@ pub rewrite-spec : {M : Type 1} → statement M
 rewrite-spec =
     tie.close
     (tie.spec
-    names-fit-requires
-    refuse-requires
+    (λ c κs. search needs)  -- names-fit-requires
+    (λ c κs. search needs)  -- refuse-requires
     returns
-    accepts-requires
-    refuse-requires-2
+    (λ c κs. search needs)  -- accepts-requires
+    (λ c κs. search needs)  -- refuse-requires-2
     returns-2
     deliver-requires
-    same-length
-    same-length-2
-    same-length-3
-    same-length-4
+    (λ c. search needs)  -- same-length
+    (λ c. search needs)  -- same-length-2
+    (λ c. search needs)  -- same-length-3
+    (λ c. search needs)  -- same-length-4
     returns-3)

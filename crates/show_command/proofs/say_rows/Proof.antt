@@ -13,45 +13,18 @@ Inv-loop out₀ times states k at₀ r₀ out at r = (r ≤ length times) × (le
 abbrev μ-loop : tie.MeasureT-loop
 μ-loop out₀ times states k at₀ r₀ out at r = length times - r
 
-loop-holds : tie.Need-loop-holds Inv-loop μ-loop
-loop-holds c = (omega arith, refl)
-
-mul-say-at : tie.Need-mul-say-at Inv-loop μ-loop
-mul-say-at c = omega arith
-
-shared-slice-read-say-at : tie.Need-shared-slice-read-say-at Inv-loop μ-loop
-shared-slice-read-say-at c = omega arith
-
-say-at-requires : tie.Need-say-at-requires Inv-loop μ-loop
-say-at-requires c κs = search needs
-
-add-r : tie.Need-add-r Inv-loop μ-loop
-add-r c = omega arith
-
-loop-less : tie.Need-loop-less Inv-loop μ-loop
-loop-less c = omega arith
-
-loop-again : tie.Need-loop-again Inv-loop μ-loop
-loop-again c = (omega arith, omega arith)
-
-same-length : tie.Need-same-length Inv-loop μ-loop
-same-length c = c .before .loop .inv .1
-
-returns : tie.Need-returns Inv-loop μ-loop
-returns c = search needs
-
 pub say-rows-spec : {M : Type 1} → statement M
 say-rows-spec =
     tie.close
     (tie.spec
     Inv-loop
     μ-loop
-    loop-holds
-    mul-say-at
-    shared-slice-read-say-at
-    say-at-requires
-    add-r
-    loop-less
-    loop-again
-    same-length
-    returns)
+    (λ c. (omega arith, refl))  -- loop-holds
+    (λ c. omega arith)  -- mul-say-at
+    (λ c. omega arith)  -- shared-slice-read-say-at
+    (λ c κs. search needs)  -- say-at-requires
+    (λ c. omega arith)  -- add-r
+    (λ c. omega arith)  -- loop-less
+    (λ c. (omega arith, omega arith))  -- loop-again
+    (λ c. c .before .loop .inv .1)  -- same-length
+    (λ c. search needs))  -- returns

@@ -1,4 +1,4 @@
--- `no_codes` gives 4,096 zeros. Assumes nothing.
+-- `no_codes` gives 4,096 zeros.
 use mathlib.Core.Path.{refl}
 use Rattle.tokens.specs.Reading.{zeros}
 use Rattle.tokens.proofs.no_codes.Statement.{statement}

@@ -1,4 +1,4 @@
--- `no_places` gives 4,096 zeros. Assumes nothing.
+-- `no_places` gives 4,096 zeros.
 use mathlib.Core.Path.{refl}
 use Rattle.tokens.specs.Reading.{zeros}
 use Rattle.tokens.proofs.no_places.Statement.{statement}

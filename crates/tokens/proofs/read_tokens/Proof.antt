@@ -1,4 +1,4 @@
--- `read_tokens` reads a text into its tokens, or refuses it as document 01 says. Assumes nothing.
+-- `read_tokens` reads a text into its tokens, or refuses it as document 01 says.
 use borrow.Author.Needs.{needs}
 use native.Mathlib.Omega.{arith}
 use mathlib.Core.Bool.{true, false}
@@ -18,7 +18,7 @@ whole : (c : tie.Else2) → Whole (c .before .before .before .before .args .text
 whole c = whole-of (c .before .scan .ensures) (c .if2 .left)
 
 returns : tie.Need-returns
-returns c = rw (c .refuse .ensures) (read-long _ (c .before .if1 .taken))
+returns c = rw (c .refuse-text .ensures) (read-long _ (c .before .if1 .taken))
 
 returns-2 : tie.Need-returns-2
 returns-2 c = stopped-reading (c .before .before .if1 .left) (c .before .scan .ensures) (c .if2 .taken)
@@ -27,14 +27,14 @@ first-over-requires : tie.Need-first-over-requires
 first-over-requires c κs =
     counting (short (c .before .before .before)) (whole (c .before .before .before)) 32 (omega arith)
 
-mul-refuse : tie.Need-mul-refuse
-mul-refuse c =
+mul-refuse-text : tie.Need-mul-refuse-text
+mul-refuse-text c =
     let e = c .before .before .before .before .before in
     let inside = found-inside (short e) (whole e) true 32 (c .before .first-over .ensures) (c .if3 .taken) in
     omega arith
 
-array-read-refuse : tie.Need-array-read-refuse
-array-read-refuse c =
+array-read-refuse-text : tie.Need-array-read-refuse-text
+array-read-refuse-text c =
     let e = c .before .before .before .before .before in
     found-inside (short e) (whole e) true 32 (c .before .first-over .ensures) (c .if3 .taken)
 
@@ -42,34 +42,36 @@ returns-3 : tie.Need-returns-3
 returns-3 c =
     let e = c .before .before .before .before .before .before in
     deep-reading (short e) (whole e) (c .before .before .first-over .ensures) (c .before .if3 .taken)
-    (c .refuse2 .ensures)
+    (c .refuse-text2 .ensures)
 
 first-over-requires-2 : tie.Need-first-over-requires-2
 first-over-requires-2 c κs =
     let e = c .before .before .before .before .before .before in counting (short e) (whole e) 256 (omega arith)
 
-mul-refuse-2 : tie.Need-mul-refuse-2
-mul-refuse-2 c =
+mul-refuse-text-2 : tie.Need-mul-refuse-text-2
+mul-refuse-text-2 c =
     let e = c .before .before .before .before .before .before .before .before in
     let inside = found-inside (short e) (whole e) false 256 (c .before .first-over2 .ensures) (c .if4 .taken) in
     omega arith
 
-array-read-refuse-2 : tie.Need-array-read-refuse-2
-array-read-refuse-2 c =
+array-read-refuse-text-2 : tie.Need-array-read-refuse-text-2
+array-read-refuse-text-2 c =
     let e = c .before .before .before .before .before .before .before .before in
     found-inside (short e) (whole e) false 256 (c .before .first-over2 .ensures) (c .if4 .taken)
 
 returns-4 : tie.Need-returns-4
 returns-4 c =
+    let at-if3 = c .before .before .before .before in
     let e = c .before .before .before .before .before .before .before .before .before in
-    many-reading (short e) (whole e) (c .before .before .before .before .before .first-over .ensures)
-    (c .before .before .before .before .if3 .left)
-    (c .before .before .first-over2 .ensures) (c .before .if4 .taken) (c .refuse3 .ensures)
+    many-reading (short e) (whole e) (at-if3 .before .first-over .ensures)
+    (at-if3 .if3 .left)
+    (c .before .before .first-over2 .ensures) (c .before .if4 .taken) (c .refuse-text3 .ensures)
 
 returns-5 : tie.Need-returns-5
 returns-5 c =
+    let at-first-over = c .before .before .before .before in
     let e = c .before .before .before .before .before .before .before .before in
-    whole-reading (short e) (whole e) (c .before .before .before .before .first-over .ensures)
+    whole-reading (short e) (whole e) (at-first-over .first-over .ensures)
     (c .before .before .before .if3 .left)
     (c .before .first-over2 .ensures) (c .if4 .left)
 
@@ -77,20 +79,20 @@ pub read-tokens-spec : {M : Type 1} → statement M
 read-tokens-spec =
     tie.close
     (tie.spec
-    (λ c κs. search needs)  -- refuse-requires
+    (λ c κs. search needs)  -- refuse-text-requires
     returns
     (λ c κs. search needs)  -- scan-requires
     returns-2
     first-over-requires
-    mul-refuse
-    array-read-refuse
-    (λ c. search needs)  -- cast-refuse
-    (λ c κs. search needs)  -- refuse-requires-2
+    mul-refuse-text
+    array-read-refuse-text
+    (λ c. search needs)  -- cast-refuse-text
+    (λ c κs. search needs)  -- refuse-text-requires-2
     returns-3
     first-over-requires-2
-    mul-refuse-2
-    array-read-refuse-2
-    (λ c. search needs)  -- cast-refuse-2
-    (λ c κs. search needs)  -- refuse-requires-3
+    mul-refuse-text-2
+    array-read-refuse-text-2
+    (λ c. search needs)  -- cast-refuse-text-2
+    (λ c κs. search needs)  -- refuse-text-requires-3
     returns-4
     returns-5)

@@ -1,5 +1,5 @@
 -- `scan` reads a text token by token. The invariant: what was read so far, and that the text comes to what its rest
--- comes to (Scanned); the measure is what is left of the text. Assumes nothing.
+-- comes to (Scanned); the measure is what is left of the text.
 use borrow.Author.Needs.{needs}
 use native.Mathlib.Omega.{arith}
 use mathlib.Core.Path.{sym, _∙_}
@@ -26,19 +26,20 @@ loop-again c =
     scan-blank _ _ (turn .loop-test .taken) (turn .before .loop .inv)
     (sym (c .before .is-blank .ensures) ∙ c .if1 .taken)
 
-add-refuse : tie.Need-add-refuse Inv-loop μ-loop
-add-refuse c =
+add-refuse-text : tie.Need-add-refuse-text Inv-loop μ-loop
+add-refuse-text c =
     let turn = c .before .before .before .before .before in
     let step = c .before .take-token .ensures in
     let small = stop-fits _ _ (turn .loop-test .taken) (turn .before .loop .inv) step (c .if2 .taken) in omega arith
 
 returns : tie.Need-returns Inv-loop μ-loop
 returns c =
+    let at-is-blank = c .before .before .before .before in
     let turn = c .before .before .before .before .before .before in
     let step = c .before .before .take-token .ensures in
-    let unblank = sym (c .before .before .before .before .is-blank .ensures) ∙ c .before .before .before .if1 .left in
+    let unblank = sym (at-is-blank .is-blank .ensures) ∙ c .before .before .before .if1 .left in
     let stuck = scan-stop _ _ (turn .loop-test .taken) (turn .before .loop .inv) step unblank (c .before .if2 .taken) in
-    rw (c .refuse .ensures) (stopped _ stuck)
+    rw (c .refuse-text .ensures) (stopped _ stuck)
 
 -- where a token was taken: it has a byte, and ends in the text
 fits :
@@ -65,7 +66,7 @@ loop-again-2 c =
     scan-token _ _ (turn .loop-test .taken) (turn .before .loop .inv) step (c .if2 .left) unblank (start .pre)
 
 returns-2 : tie.Need-returns-2 Inv-loop μ-loop
-returns-2 c = scan-end _ (c .loop-test .left) (c .before .loop .inv)
+returns-2 c = rw (c .refusal-of .ensures) (scan-end _ (c .before .loop-test .left) (c .before .before .loop .inv))
 
 pub scan-spec : {M : Type 1} → statement M
 scan-spec =
@@ -82,8 +83,8 @@ scan-spec =
     (λ c. search needs)  -- loop-less
     loop-again
     (λ c κs. search needs)  -- take-token-requires
-    add-refuse
-    (λ c κs. search needs)  -- refuse-requires
+    add-refuse-text
+    (λ c κs. search needs)  -- refuse-text-requires
     returns
     (λ c. search needs)  -- array-write-codes
     (λ c. search needs)  -- cast-places
@@ -93,4 +94,5 @@ scan-spec =
     add-at-2
     loop-less-2
     loop-again-2
+    (λ c κs. search needs)  -- refusal-of-requires
     returns-2)

@@ -1,4 +1,4 @@
--- `read_cut` meets its contract. Assumes nothing.
+-- `read_cut` meets its contract.
 use native.Mathlib.Omega.{arith}
 use borrow.Author.Needs.{needs}
 use mathlib.Core.Path.{sym}
@@ -14,37 +14,16 @@ Inv-loop file n₀ n = n ≤ length file
 abbrev μ-loop : tie.MeasureT-loop
 μ-loop file n₀ n = length file - n
 
-loop-holds : tie.Need-loop-holds Inv-loop μ-loop
-loop-holds c = search needs
-
-slice-aggregate-read : tie.Need-slice-aggregate-read Inv-loop μ-loop
-slice-aggregate-read c = sym (length-take-le _ _ (omega arith))
-
-read-requires : tie.Need-read-requires Inv-loop μ-loop
-read-requires c κs = search needs
-
-add-n : tie.Need-add-n Inv-loop μ-loop
-add-n c = search needs
-
-loop-less : tie.Need-loop-less Inv-loop μ-loop
-loop-less c = search needs
-
-loop-again : tie.Need-loop-again Inv-loop μ-loop
-loop-again c = search needs
-
-returns : tie.Need-returns Inv-loop μ-loop
-returns c = search needs
-
 pub read-cut-spec : {M : Type 1} → statement M
 read-cut-spec =
     tie.close
     (tie.spec
     Inv-loop
     μ-loop
-    loop-holds
-    slice-aggregate-read
-    read-requires
-    add-n
-    loop-less
-    loop-again
-    returns)
+    (λ c. search needs)  -- loop-holds
+    (λ c. sym (length-take-le _ _ (omega arith)))  -- slice-aggregate-read
+    (λ c κs. search needs)  -- read-requires
+    (λ c. search needs)  -- add-n
+    (λ c. search needs)  -- loop-less
+    (λ c. search needs)  -- loop-again
+    (λ c. search needs))  -- returns

@@ -18,12 +18,9 @@ show-lines-spec =
     Inv-loop
     μ-loop
     (λ c. search needs)  -- loop-holds
-    (λ c κs. search needs)  -- find-requires
-    (λ c. search needs)  -- sub-show-line
-    (λ c. search needs)  -- part-show-line-start
-    (λ c. search needs)  -- part-show-line-end
+    (λ c κs. search needs)  -- line-at-requires
     (λ c κs. search needs)  -- show-line-requires
-    (λ c. search needs)  -- add-at
+    (λ c κs. search needs)  -- behind-line-requires
     (λ c. search needs)  -- loop-less
     (λ c. search needs)  -- loop-again
     (λ c. search needs))  -- returns

@@ -1,4 +1,4 @@
--- `deliver` meets its contract. Assumes nothing.
+-- `deliver` meets its contract: 1, 9, or the text at the front.
 use borrow.Author.Needs.{needs}
 use Rattle.writer.proofs.Calls.{delivered-long, delivered-short, delivered}
 use Rattle.writer.proofs.deliver.Statement.{statement}
@@ -17,17 +17,18 @@ returns-2 : tie.Need-returns-2
 returns-2 c =
     rw (c .refuse2 .ensures) (delivered-short (c .before .before .if1 .left) (c .before .if2 .taken))
 
-put-bytes-requires : tie.Need-put-bytes-requires
-put-bytes-requires c κs = search needs
+put-requires : tie.Need-put-requires
+put-requires c κs = search needs
 
 same-length : tie.Need-same-length
 same-length c = search needs
 
 returns-3 : tie.Need-returns-3
 returns-3 c =
-    delivered (c .before .before .before .before .before .if1 .left) (c .before .before .before .before .if2 .left)
-    (c .before .before .put-bytes .ensures)
+    let written = c .before .before in
+    let room = written .before .before in
+    delivered (room .before .if1 .left) (room .if2 .left) (written .put .ensures)
 
 pub deliver-spec : {M : Type 1} → statement M
-deliver-spec = tie.close (tie.spec refuse-requires returns refuse-requires-2 returns-2 put-bytes-requires
+deliver-spec = tie.close (tie.spec refuse-requires returns refuse-requires-2 returns-2 put-requires
     same-length returns-3)

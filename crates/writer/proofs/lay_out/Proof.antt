@@ -1,6 +1,6 @@
--- `lay_out` meets its contract: what is written at the front stands there. Assumes nothing.
+-- `lay_out` meets its contract: what is written at the front stands there.
 use borrow.Author.Needs.{needs}
-use Rattle.writer.proofs.Calls.{held}
+use Rattle.basics.proofs.PartByPart.{held}
 use Rattle.writer.proofs.lay_out.Statement.{statement}
 use Rattle.writer.proofs.lay_out.Tie as tie
 

@@ -1,6 +1,6 @@
--- `spell_out` meets its contract: what is written at the front stands there. Assumes nothing.
+-- `spell_out` meets its contract: what is written at the front stands there.
 use borrow.Author.Needs.{needs}
-use Rattle.writer.proofs.Calls.{held}
+use Rattle.basics.proofs.PartByPart.{held}
 use Rattle.writer.proofs.spell_out.Statement.{statement}
 use Rattle.writer.proofs.spell_out.Tie as tie
 

@@ -1,4 +1,4 @@
--- `write_expression` meets its contract. Assumes nothing.
+-- `write_expression` meets its contract: the names are checked, then the tree.
 use borrow.Author.Needs.{needs}
 use Rattle.writer.proofs.Calls.{refused-names, names-passed}
 use Rattle.writer.proofs.write_expression.Statement.{statement}
@@ -27,5 +27,6 @@ returns-2 : tie.Need-returns-2
 returns-2 c = search needs
 
 pub write-expression-spec : {M : Type 1} → statement M
-write-expression-spec = tie.close
+write-expression-spec =
+    tie.close
     (tie.spec check-names-requires enum-known-checked enum-told write-tree-requires returns same-length returns-2)

@@ -1,7 +1,7 @@
 -- `lay_number` meets its contract.
 use native.Mathlib.Omega.{arith}
-use Rattle.writer.proofs.Calls.{held}
-use Rattle.listing.proofs.Sizes.{decimal-short}
+use Rattle.basics.proofs.PartByPart.{held}
+use Rattle.figures.proofs.Digits.{decimal-short}
 use Rattle.alternative_lines.proofs.numbered.lay_number.Statement.{statement}
 use Rattle.alternative_lines.proofs.numbered.lay_number.Tie as tie
 

@@ -2,7 +2,7 @@
 use native.Mathlib.Omega.{arith}
 use Prim.Native.Nat.{_-_, _≤_}
 use lib.ListN.{length, getD}
-use Rattle.writer.proofs.Going.{put-length}
+use Rattle.basics.proofs.PartByPart.{put-length}
 use Rattle.alternative_texts.specs.Inner.{allTests}
 use Rattle.alternative_lines.proofs.LineParts.{LinesSoFar, lines-first, lines-asked, lines-next, lines-last}
 use Rattle.alternative_lines.proofs.numbered.put_lines.Statement.{statement}

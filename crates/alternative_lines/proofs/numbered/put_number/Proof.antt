@@ -1,6 +1,6 @@
 -- `put_number` meets its contract.
 use borrow.Author.Needs.{needs}
-use Rattle.writer.proofs.Calls.{holds-within, holds-count}
+use Rattle.basics.proofs.PartByPart.{holds-within, holds-count}
 use Rattle.alternative_lines.proofs.LineParts.{number-countable, number-put}
 use Rattle.alternative_lines.proofs.numbered.put_number.Statement.{statement}
 use Rattle.alternative_lines.proofs.numbered.put_number.Tie as tie

@@ -2,8 +2,8 @@
 use Prim.Native.Nat.{_-_, _≤_}
 use native.Mathlib.Omega.{arith}
 use lib.ListN.{length, take}
-use Rattle.writer.specs.Inner.{Put}
-use Rattle.writer.proofs.Going.{put-length}
+use Rattle.basics.specs.Memory.{Put}
+use Rattle.basics.proofs.PartByPart.{put-length}
 use Rattle.alternative_texts.proofs.Clipped.{put-none, put-countable, put-more, put-all}
 use Rattle.alternative_texts.proofs.puts.put.Statement.{statement}
 use Rattle.alternative_texts.proofs.puts.put.Tie as tie

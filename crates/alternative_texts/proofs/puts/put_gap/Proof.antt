@@ -1,6 +1,6 @@
 -- `put_gap` meets its contract.
 use borrow.Author.Needs.{needs}
-use Rattle.writer.proofs.Spelling.{put-as}
+use Rattle.basics.proofs.PartByPart.{put-as}
 use mathlib.Core.Path.{sym}
 use Rattle.alternative_texts.proofs.Clipped.{put-none, lead-none, lead-some}
 use Rattle.alternative_texts.proofs.puts.put_gap.Statement.{statement}

@@ -1,8 +1,8 @@
 -- `lay_dots` meets its contract.
 use borrow.Author.Needs.{needs}
 use native.Mathlib.Omega.{arith}
-use Rattle.writer.proofs.Calls.{held}
-use Rattle.listing.specs.Text.{bytes}
+use Rattle.basics.proofs.PartByPart.{held}
+use Rattle.figures.specs.Text.{bytes}
 use Rattle.alternative_texts.proofs.showing.lay_dots.Statement.{statement}
 use Rattle.alternative_texts.proofs.showing.lay_dots.Tie as tie
 

@@ -2,7 +2,7 @@
 use borrow.Author.Needs.{needs}
 use mathlib.Core.Path.{_≡_}
 use lib.ListN.{length}
-use Rattle.writer.proofs.Calls.{holds-within, holds-count}
+use Rattle.basics.proofs.PartByPart.{holds-within, holds-count}
 use Rattle.alternative_texts.proofs.Telling.{tellable, test-told}
 use Rattle.alternative_texts.proofs.showing.show_test.Statement.{statement}
 use Rattle.alternative_texts.proofs.showing.show_test.Tie as tie

@@ -2,7 +2,7 @@
 use native.Mathlib.Omega.{arith}
 use Prim.Native.Nat.{_+_, _-_, _≤_}
 use lib.ListN.{getD}
-use Rattle.writer.proofs.Going.{put-length}
+use Rattle.basics.proofs.PartByPart.{put-length}
 use Rattle.alternative_texts.specs.Inner.{allTests}
 use Rattle.alternative_texts.proofs.AlternativeWalks.{AlternativeSoFar, alternative-first, alternative-there}
 use Rattle.alternative_texts.proofs.AlternativeWalks.{alternative-asked, alternative-next, alternative-last}

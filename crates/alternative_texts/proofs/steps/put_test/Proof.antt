@@ -2,8 +2,8 @@
 use borrow.Author.Needs.{needs}
 use mathlib.Core.Path.{refl}
 use native.Mathlib.Omega.{arith}
-use Rattle.writer.proofs.Calls.{holds-within, holds-count}
-use Rattle.listing.specs.Text.{bytes}
+use Rattle.basics.proofs.PartByPart.{holds-within, holds-count}
+use Rattle.figures.specs.Text.{bytes}
 use Rattle.alternative_texts.proofs.StepWalks.{test-asked, test-countable, test-put}
 use Rattle.alternative_texts.proofs.steps.put_test.Statement.{statement}
 use Rattle.alternative_texts.proofs.steps.put_test.Tie as tie

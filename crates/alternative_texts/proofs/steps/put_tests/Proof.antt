@@ -1,7 +1,7 @@
 -- `put_tests` meets its contract: the first i tests are written.
 use native.Mathlib.Omega.{arith}
 use Prim.Native.Nat.{_-_}
-use Rattle.writer.proofs.Going.{put-length}
+use Rattle.basics.proofs.PartByPart.{put-length}
 use Rattle.alternative_texts.specs.Inner.{allTests}
 use Rattle.alternative_texts.proofs.StepWalks.{StepSoFar, step-first, step-asked, step-next, step-last}
 use Rattle.alternative_texts.proofs.steps.put_tests.Statement.{statement}

@@ -1,4 +1,4 @@
--- `operators::choose` meets its contract. Assumes nothing.
+-- `operators::choose` meets its contract.
 use borrow.Author.Needs.{needs}
 use Rattle.evaluator.proofs.Operating.{chosen-unknown, chosen-first, chosen-second}
 use Rattle.evaluator.proofs.operators.choose.Statement.{statement}

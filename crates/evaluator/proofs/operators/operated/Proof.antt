@@ -1,4 +1,4 @@
--- `operators::operated` meets its contract: each byte's function is the definition's. Assumes nothing.
+-- `operators::operated` meets its contract: each byte's function is the definition's.
 use borrow.Author.Needs.{needs}
 use Rattle.alf.specs.Values.{operate}
 use Rattle.alf.specs.Bytes.{binaryAt}

@@ -1,4 +1,4 @@
--- `operators::settle` meets its contract. Assumes nothing.
+-- `operators::settle` meets its contract.
 use borrow.Author.Needs.{needs}
 use native.Mathlib.Omega.{arith}
 use Rattle.evaluator.proofs.Operating.{settled-name, settled-other}

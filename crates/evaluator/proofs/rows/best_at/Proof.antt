@@ -1,12 +1,12 @@
 -- `rows::best_at` meets its contract. The loop's invariant: `best` is the greatest over the windows passed; the window
--- of the row alone answers no. Assumes nothing.
+-- of the row alone answers no.
 use Prim.Native.Nat.{_-_, _≤_}
 use native.Mathlib.Omega.{arith}
 use mathlib.Core.Path.{_≡_, sym, _∙_}
-use Rattle.alf.specs.Words.{greatest}
+use Rattle.basics.specs.Words.{greatest}
 use Rattle.alf.proofs.RowsAreAlternatives.{best-short}
 use Rattle.evaluator.specs.Spans.{answerOn}
-use Rattle.evaluator.proofs.Lists.{all-passed}
+use Rattle.basics.proofs.Listed.{all-passed}
 use Rattle.evaluator.proofs.Spans.{greatest-step}
 use Rattle.evaluator.proofs.Joining.{greatest-none}
 use Rattle.evaluator.proofs.rows.best_at.Statement.{statement}

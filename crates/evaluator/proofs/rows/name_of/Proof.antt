@@ -1,4 +1,4 @@
--- `rows::name_of` meets its contract. Assumes nothing.
+-- `rows::name_of` meets its contract.
 use mathlib.Core.Path.{refl}
 use Rattle.alf.specs.Windows.{named}
 use Rattle.evaluator.proofs.RowAnswers.{named-yes}

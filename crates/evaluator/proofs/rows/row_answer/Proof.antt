@@ -1,4 +1,4 @@
--- `rows::row_answer` meets its contract. Assumes nothing.
+-- `rows::row_answer` meets its contract.
 use Rattle.evaluator.proofs.RowAnswers.{row-first, row-later}
 use Rattle.evaluator.proofs.rows.row_answer.Statement.{statement}
 use Rattle.evaluator.proofs.rows.row_answer.Tie as tie

@@ -1,4 +1,4 @@
--- `values::state` and `values::value` meet their contracts, by recursion on the bytes before `end`. Assumes nothing.
+-- `values::state` and `values::value` meet their contracts, by recursion on the bytes before `end`.
 use borrow.Author.Needs.{needs}
 use native.Mathlib.Omega.{arith}
 use Rattle.trees.proofs.Starts.{of-boolean}
@@ -14,7 +14,7 @@ use Rattle.evaluator.proofs.values.+state+value.Lts-state as state-lts
 use Rattle.evaluator.proofs.values.value.Reads as value
 use Rattle.evaluator.proofs.values.value.Kinds as value-kinds
 use Rattle.evaluator.proofs.values.+state+value.Lts-value as value-lts
-use Rattle.alf.proofs.states.not_of.Reads as not-of-reads
+use Rattle.states.proofs.states.not_of.Reads as not-of-reads
 use Rattle.evaluator.proofs.operators.choose.Reads as choose-reads
 use Rattle.evaluator.proofs.operators.operated.Reads as operated-reads
 use Rattle.evaluator.proofs.operators.settle.Reads as settle-reads

@@ -1,37 +1,40 @@
--- `values::values` meets its contract. The loop's invariant: the list is filled up to `i`, and as long as it was.
--- Assumes nothing.
-use Prim.Native.Nat.{_-_, _<_, _≤_}
+-- `values::values` meets its contract. The loop's invariant is Writing: the values at the rows before `i` are stored.
+use Prim.Native.Nat.{_-_, _<_}
 use native.Mathlib.Omega.{arith}
-use mathlib.Core.Path.{_≡_, refl}
-use lib.ListN.{length, length-set}
-use Rattle.evaluator.specs.Rows.{valueOf, filled}
-use Rattle.evaluator.proofs.Lists.{fill-none, fill-step, fill-all}
+use lib.ListN.{length}
+use Rattle.basics.specs.Words.{listed}
+use Rattle.basics.proofs.Stores.{Writing, writing-first, writing-length}
+use Rattle.basics.proofs.Listed.{ruling-next-front, ruling-front}
+use Rattle.evaluator.specs.Rows.{valueOf}
 use Rattle.evaluator.proofs.values.values.Statement.{statement}
 use Rattle.evaluator.proofs.values.values.Tie as tie
 
 abbrev Inv-loop : tie.InvT-loop
-Inv-loop tree end states names n out₀ i₀ out i =
-    (i ≤ n) × (out ≡ filled i (valueOf tree names states end) out₀) × (length out ≡ length out₀)
+Inv-loop tree end states names n out₀ i₀ out i = Writing out₀ 0 (listed 0 n (valueOf tree names states end)) out i
 
 abbrev μ-loop : tie.MeasureT-loop
 μ-loop tree end states names n out₀ i₀ out i = n - i
 
 loop-holds : tie.Need-loop-holds Inv-loop μ-loop
-loop-holds c = (omega arith, fill-none _ _, refl)
+loop-holds c = writing-first
 
 value-requires : tie.Need-value-requires Inv-loop μ-loop
 value-requires c κs =
-    let s = c .before .before .before .before .before .pre in
-    (s .0, s .1 .rows _ (omega arith))
+    let start = c .before .before .before .before .before in
+    (start .pre .0, start .pre .1 .rows _ (omega arith))
 
 inside : (c : tie.After-value Inv-loop μ-loop) → c .before .before .loop .i < length (c .before .before .loop .out)
-inside c = omega (arith, c .before .before .before .before .before .before .pre .1 .room)
+inside c =
+    let turn = c .before .before in
+    omega (arith, writing-length (turn .loop .inv), turn .before .before .before .before .pre .1 .room)
 
 loop-again : tie.Need-loop-again Inv-loop μ-loop
-loop-again c =
-    let inv = c .before .before .loop .inv in
-    let room = inside c in
-    (omega arith, fill-step _ _ (omega arith) (inv .1) (c .value .ensures .is), simp length-set (inv .2))
+loop-again c = ruling-next-front _ (c .before .before .loop .inv) (c .before .loop-test .taken) (c .value .ensures .is)
+
+returns : tie.Need-returns Inv-loop μ-loop
+returns c =
+    let end = c .before in
+    ruling-front _ (end .loop .inv) (c .loop-test .left) (end .before .before .before .before .pre .1 .room)
 
 pub values-spec : {M : Type 1} → statement M
 values-spec =
@@ -45,5 +48,5 @@ values-spec =
     (λ c. let room = inside c in omega arith)
     (λ c. omega arith)
     loop-again
-    (λ c. c .before .loop .inv .2)
-    (λ c. fill-all _ _ (c .before .loop .inv .0) (c .loop-test .left) (c .before .loop .inv .1)))
+    (λ c. writing-length (c .before .loop .inv))
+    returns)

@@ -1,12 +1,12 @@
 -- `windows::answer` and the functions of its cycle meet their contracts, by recursion: where the operands end falls at
--- each call. The loops' invariants: `best` is the greatest over the entries passed. Assumes nothing.
+-- each call. The loops' invariants: `best` is the greatest over the entries passed.
 use Prim.Native.Nat.{ℕ, _+_, _-_, _*_, _<_, _≤_, max}
 use borrow.Author.Needs.{needs}
 use native.Mathlib.Omega.{arith}
 use mathlib.Core.Path.{_≡_, sym}
 use borrow.Fn.Kinds.{In}
 use borrow.Fn.PlainCycle.{Measures, is, falls, and}
-use Rattle.alf.specs.Words.{greatest}
+use Rattle.basics.specs.Words.{greatest}
 use Rattle.alf.specs.Windows.{joined, either}
 use Rattle.alf.specs.Bytes.{joinAt}
 use Rattle.evaluator.specs.Spans.{answerOn}
@@ -30,8 +30,8 @@ use Rattle.evaluator.proofs.windows.+answer+join+overlap+restrict+seque
 use Rattle.evaluator.proofs.windows.sequence.Reads as sequence
 use Rattle.evaluator.proofs.windows.sequence.Kinds as sequence-kinds
 use Rattle.evaluator.proofs.windows.+answer+join+overlap+restrict+sequence.Lts-sequence as sequence-lts
-use Rattle.alf.proofs.edges.greater.Reads as greater
-use Rattle.alf.proofs.edges.lesser.Reads as lesser
+use Rattle.states.proofs.edges.greater.Reads as greater
+use Rattle.states.proofs.edges.lesser.Reads as lesser
 use Rattle.evaluator.proofs.windows.edge_over.Reads as edge-over
 use Rattle.evaluator.proofs.windows.held_over.Reads as held-over
 use Rattle.trees.proofs.parts.start_of.Reads as start-of

@@ -1,4 +1,4 @@
--- `windows::edge_over` meets its contract. Assumes nothing.
+-- `windows::edge_over` meets its contract.
 use mathlib.Core.Path.{refl}
 use native.Mathlib.Omega.{arith}
 use borrow.Author.Needs.{needs}

@@ -1,12 +1,11 @@
 -- `windows::held_over` meets its contract. The loop's invariant: `least` is the least over the rows passed.
--- Assumes nothing.
 use Prim.Native.Nat.{_+_, _-_, _≤_}
 use native.Mathlib.Omega.{arith}
 use mathlib.Core.Path.{_≡_, refl, ap, _∙_}
-use Rattle.alf.specs.Words.{least}
+use Rattle.basics.specs.Words.{least}
 use Rattle.alf.specs.Windows.{certainty, held}
 use Rattle.evaluator.specs.Rows.{stateOf}
-use Rattle.evaluator.proofs.Lists.{all-passed}
+use Rattle.basics.proofs.Listed.{all-passed}
 use Rattle.evaluator.proofs.Spans.{row-inside, least-step}
 use Rattle.evaluator.proofs.windows.held_over.Statement.{statement}
 use Rattle.evaluator.proofs.windows.held_over.Tie as tie

@@ -1,6 +1,6 @@
 -- `alternatives_text` meets its contract.
 use borrow.Author.Needs.{needs}
-use Rattle.exactness.proofs.ReadTrees.{read-found, found-within, found-count}
+use Rattle.text_laws.proofs.ReadTrees.{read-found, found-within, found-count}
 use Rattle.jobs.proofs.AlternativesLaws.{refused-text, rewritten-text}
 use Rattle.jobs.proofs.alternatives.alternatives_text.Statement.{statement}
 use Rattle.jobs.proofs.alternatives.alternatives_text.Tie as tie
@@ -8,11 +8,13 @@ use Rattle.jobs.proofs.alternatives.alternatives_text.Tie as tie
 read-expression-requires : tie.Need-read-expression-requires
 read-expression-requires c κs = search needs
 
+refused-lines-requires : tie.Need-refused-lines-requires
+refused-lines-requires c κs = search needs
+
 returns : tie.Need-returns
 returns c =
-    let c1 = c .before in
-    let c2 = c1 .before in
-    refused-text (c2 .read-expression .ensures) (c1 .if1 .taken)
+    let test = c .before .before in
+    rw (c .refused-lines .ensures) (refused-text (test .before .read-expression .ensures) (test .if1 .taken))
 
 array-share-prefix-tree : tie.Need-array-share-prefix-tree
 array-share-prefix-tree c =
@@ -42,6 +44,7 @@ alternatives-text-spec =
     tie.close
     (tie.spec
     read-expression-requires
+    refused-lines-requires
     returns
     array-share-prefix-tree
     slice-aggregate-write-alternatives

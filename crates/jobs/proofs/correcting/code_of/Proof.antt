@@ -4,8 +4,8 @@ use mathlib.Core.Path.{refl}
 use mathlib.Core.List.{List, [], _∷_}
 use Prim.Native.Nat.{ℕ}
 use Rattle.alf.specs.States.{among}
-use Rattle.listing.specs.Text.{bytes}
-use Rattle.tokens.proofs.Ranges.{ranged, keyed}
+use Rattle.figures.specs.Text.{bytes}
+use Rattle.basics.proofs.ByteMatches.{ranged, keyed}
 use Rattle.jobs.specs.Letters.{stateOf}
 use Rattle.jobs.proofs.correcting.code_of.Statement.{statement}
 use Rattle.jobs.proofs.correcting.code_of.Tie as tie

@@ -1,5 +1,5 @@
 -- `correcting::correct_letters` meets its contract.
-use Rattle.limits.proofs.Deciding.{decided-no, decided-yes}
+use Rattle.basics.proofs.Deciding.{decided-no, decided-yes}
 use Rattle.jobs.proofs.LetterCorrections.{letters-18, letters-stored}
 use borrow.Author.Needs.{needs}
 use Rattle.jobs.proofs.correcting.correct_letters.Statement.{statement}

@@ -1,7 +1,7 @@
 -- `correcting::lay_codes` meets its contract.
 use native.Mathlib.Omega.{arith}
 use lib.ListN.{length-map}
-use Rattle.writer.proofs.Calls.{held}
+use Rattle.basics.proofs.PartByPart.{held}
 use Rattle.jobs.specs.Letters.{stateOf}
 use Rattle.jobs.proofs.correcting.lay_codes.Statement.{statement}
 use Rattle.jobs.proofs.correcting.lay_codes.Tie as tie

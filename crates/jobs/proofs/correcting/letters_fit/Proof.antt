@@ -1,6 +1,6 @@
 -- `correcting::letters_fit` meets its contract.
-use Rattle.limits.specs.Accepted.{Decides}
-use Rattle.limits.proofs.Deciding.{same-decided}
+use Rattle.basics.specs.Deciding.{Decides}
+use Rattle.basics.proofs.Deciding.{same-decided}
 use borrow.Author.Needs.{needs}
 use Rattle.jobs.proofs.correcting.letters_fit.Statement.{statement}
 use Rattle.jobs.proofs.correcting.letters_fit.Tie as tie

@@ -4,8 +4,8 @@ use Prim.Native.Nat.{_-_, _≤_}
 use mathlib.Core.Path.{refl}
 use mathlib.Core.List.{map}
 use lib.ListN.{length, take, length-map}
-use Rattle.writer.specs.Inner.{Put}
-use Rattle.writer.proofs.Going.{put-length}
+use Rattle.basics.specs.Memory.{Put}
+use Rattle.basics.proofs.PartByPart.{put-length}
 use Rattle.jobs.specs.Letters.{stateOf}
 use Rattle.jobs.proofs.LetterCodes.{codes-more, codes-all}
 use borrow.Author.Needs.{needs}

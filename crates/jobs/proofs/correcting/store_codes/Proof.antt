@@ -17,15 +17,15 @@ enum-known-v c = search needs
 enum-told : tie.Need-enum-told
 enum-told c = search needs
 
-mul-copy : tie.Need-mul-copy
-mul-copy c =
+mul-put : tie.Need-mul-put
+mul-put c =
     let c3 = c .before .before .before in
     let c8 = c3 .before .before .before .before .before in
     let f = row-fits (c8 .pre) (c3 .judge-correction .ensures) (c .before .enum-told .given .1) in
     omega (arith, c8 .good)
 
-copy-requires : tie.Need-copy-requires
-copy-requires c κs =
+put-requires : tie.Need-put-requires
+put-requires c κs =
     let c3 = c .before .before .before in
     let c8 = c3 .before .before .before .before .before in
     let f = row-fits (c8 .pre) (c3 .judge-correction .ensures) (c .before .enum-told .given .1) in
@@ -49,7 +49,7 @@ returns-2 c =
     let c6 = c2 .before .before .before .before in
     let c11 = c6 .before .before .before .before .before in
     stored-told (c11 .pre) (c6 .judge-correction .ensures) (c2 .before .before .enum-told .given .1)
-    (c2 .copy .ensures)
+    (c2 .put .ensures)
 
 pub store-codes-spec : {M : Type 1} → statement M
 store-codes-spec =
@@ -59,8 +59,8 @@ store-codes-spec =
     judge-correction-requires
     enum-known-v
     enum-told
-    mul-copy
-    copy-requires
+    mul-put
+    put-requires
     same-length
     returns
     same-length-2

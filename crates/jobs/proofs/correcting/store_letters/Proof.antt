@@ -1,5 +1,5 @@
 -- `correcting::store_letters` meets its contract.
-use Rattle.writer.proofs.Calls.{holds-within, holds-count}
+use Rattle.basics.proofs.PartByPart.{holds-within, holds-count}
 use Rattle.jobs.proofs.LetterCorrections.{codes-fit, codes-stored}
 use borrow.Author.Needs.{needs}
 use Rattle.jobs.proofs.correcting.store_letters.Statement.{statement}

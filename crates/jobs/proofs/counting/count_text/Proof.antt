@@ -1,6 +1,6 @@
 -- `counting::count_text` meets its contract.
 use borrow.Author.Needs.{needs}
-use Rattle.exactness.proofs.ReadTrees.{read-found, found-within, found-count}
+use Rattle.text_laws.proofs.ReadTrees.{read-found, found-within, found-count}
 use Rattle.jobs.proofs.TextCounts.{text-refused, tree-counted}
 use Rattle.jobs.proofs.counting.count_text.Statement.{statement}
 use Rattle.jobs.proofs.counting.count_text.Tie as tie

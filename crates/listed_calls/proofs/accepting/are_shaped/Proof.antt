@@ -1,8 +1,8 @@
--- `accepting::are_shaped` meets its contract. Assumes nothing.
+-- `accepting::are_shaped` meets its contract.
 use native.Mathlib.Omega.{arith}
 use borrow.Author.Needs.{needs}
-use Rattle.limits.specs.Accepted.{Decides}
-use Rattle.limits.proofs.Deciding.{said, decided-no, told, same-decided}
+use Rattle.basics.specs.Deciding.{Decides}
+use Rattle.basics.proofs.Deciding.{said, decided-no, told, same-decided}
 use Rattle.listed_calls.proofs.accepting.are_shaped.Statement.{statement}
 use Rattle.listed_calls.proofs.accepting.are_shaped.Tie as tie
 
@@ -18,24 +18,15 @@ returns-3 : tie.Need-returns-3
 unfolding Decides
 returns-3 c = λ s. c .if3 .taken (s .all-operands)
 
-are-stepped-requires : tie.Need-are-stepped-requires
-are-stepped-requires c κs = search needs
-
 returns-4 : tie.Need-returns-4
 unfolding Decides
 returns-4 c = λ s.
     decided-no (c .before .are-stepped .result) (c .before .are-stepped .ensures) (c .if4 .taken) (s .stepped)
 
-sums-to-requires : tie.Need-sums-to-requires
-sums-to-requires c κs = search needs
-
 returns-5 : tie.Need-returns-5
 unfolding Decides
 returns-5 c = λ s.
     decided-no (c .before .sums-to .result) (c .before .sums-to .ensures) (c .if5 .taken) (s .all-steps)
-
-sums-to-requires-2 : tie.Need-sums-to-requires-2
-sums-to-requires-2 c κs = search needs
 
 returns-6 : tie.Need-returns-6
 unfolding Decides
@@ -75,11 +66,11 @@ are-shaped-spec =
     returns
     returns-2
     returns-3
-    are-stepped-requires
+    (λ c κs. search needs)  -- are-stepped-requires
     returns-4
-    sums-to-requires
+    (λ c κs. search needs)  -- sums-to-requires
     returns-5
-    sums-to-requires-2
+    (λ c κs. search needs)  -- sums-to-requires-2
     returns-6
     are-light-requires
     returns-7)

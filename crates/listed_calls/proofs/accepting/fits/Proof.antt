@@ -1,13 +1,10 @@
--- `accepting::fits` meets its contract. Assumes nothing.
+-- `accepting::fits` meets its contract.
 use borrow.Author.Needs.{needs}
-use Rattle.limits.specs.Accepted.{Decides}
-use Rattle.limits.proofs.Deciding.{said, decided-no, told, same-decided}
+use Rattle.basics.specs.Deciding.{Decides}
+use Rattle.basics.proofs.Deciding.{said, decided-no, told, same-decided}
 use Rattle.listed_calls.proofs.Acceptance.{accepted-shaped, shaped-accepted}
 use Rattle.listed_calls.proofs.accepting.fits.Statement.{statement}
 use Rattle.listed_calls.proofs.accepting.fits.Tie as tie
-
-are-shaped-requires : tie.Need-are-shaped-requires
-are-shaped-requires c κs = search needs
 
 returns : tie.Need-returns
 unfolding Decides
@@ -15,16 +12,10 @@ returns c = λ a.
     decided-no (c .before .are-shaped .result) (c .before .are-shaped .ensures) (c .if1 .taken)
     (accepted-shaped _ _ _ _ _ _ a)
 
-are-known-requires : tie.Need-are-known-requires
-are-known-requires c κs = search needs
-
 returns-2 : tie.Need-returns-2
 unfolding Decides
 returns-2 c = λ a.
     decided-no (c .before .are-known .result) (c .before .are-known .ensures) (c .if2 .taken) (a .known)
-
-are-operands-requires : tie.Need-are-operands-requires
-are-operands-requires c κs = search needs
 
 returns-3 : tie.Need-returns-3
 returns-3 c =
@@ -38,9 +29,9 @@ pub fits-spec : {M : Type 1} → statement M
 fits-spec =
     tie.close
     (tie.spec
-    are-shaped-requires
+    (λ c κs. search needs)  -- are-shaped-requires
     returns
-    are-known-requires
+    (λ c κs. search needs)  -- are-known-requires
     returns-2
-    are-operands-requires
+    (λ c κs. search needs)  -- are-operands-requires
     returns-3)

@@ -1,11 +1,9 @@
--- `counting::are_light` meets its contract. Assumes nothing.
-use mathlib.Core.Path.{_≡_, refl}
-use Prim.Native.Nat.{_≤_, _+_, _-_}
+-- `counting::are_light` meets its contract.
+use Prim.Native.Nat.{_-_}
 use native.Mathlib.Omega.{arith}
-use borrow.Author.Needs.{needs}
-use lib.ListN.{length, drop, take}
-use Rattle.limits.specs.Accepted.{Decides}
-use Rattle.limits.proofs.Deciding.{said, decided-no, told}
+use lib.ListN.{length}
+use Rattle.basics.specs.Deciding.{Decides}
+use Rattle.basics.proofs.Deciding.{said, decided-no, told}
 use Rattle.listed_calls.proofs.Sums.{Lighting, lighting-first, lighting-room, lighting-over, lighting-next}
 use Rattle.listed_calls.proofs.Sums.{lighting-end}
 use Rattle.listed_calls.proofs.counting.are_light.Statement.{statement}
@@ -19,9 +17,6 @@ abbrev μ-loop : tie.MeasureT-loop
 
 loop-holds : tie.Need-loop-holds Inv-loop μ-loop
 loop-holds c = lighting-first _ _
-
-shared-slice-read-n : tie.Need-shared-slice-read-n Inv-loop μ-loop
-shared-slice-read-n c = omega arith
 
 cast-n : tie.Need-cast-n Inv-loop μ-loop
 cast-n c = omega (arith, c .shared-slice-known3 .given (c .before .before .loop .i))
@@ -43,12 +38,6 @@ add-s c =
     let c4 = c .before .before .before .before in
     omega (arith, lighting-room (c4 .loop .inv) (omega arith) (c4 .before .before .before .pre))
 
-add-i : tie.Need-add-i Inv-loop μ-loop
-add-i c = omega arith
-
-loop-less : tie.Need-loop-less Inv-loop μ-loop
-loop-less c = omega arith
-
 loop-again : tie.Need-loop-again Inv-loop μ-loop
 loop-again c =
     let c4 = c .before .before .before .before in
@@ -66,12 +55,12 @@ are-light-spec =
     Inv-loop
     μ-loop
     loop-holds
-    shared-slice-read-n
+    (λ c. omega arith)  -- shared-slice-read-n
     cast-n
     few-tests-requires
     returns
     add-s
-    add-i
-    loop-less
+    (λ c. omega arith)  -- add-i
+    (λ c. omega arith)  -- loop-less
     loop-again
     returns-2)

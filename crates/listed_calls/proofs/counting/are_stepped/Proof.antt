@@ -1,10 +1,8 @@
--- `counting::are_stepped` meets its contract. Assumes nothing.
-use mathlib.Core.Path.{_≡_, refl}
-use Prim.Native.Nat.{_≤_, _+_, _-_}
+-- `counting::are_stepped` meets its contract.
+use Prim.Native.Nat.{_≤_, _-_}
 use native.Mathlib.Omega.{arith}
-use borrow.Author.Needs.{needs}
-use lib.ListN.{length, drop, take}
-use Rattle.limits.specs.Accepted.{Decides}
+use lib.ListN.{length}
+use Rattle.basics.specs.Deciding.{Decides}
 use Rattle.listed_calls.specs.Lists.{Stepped}
 use Rattle.listed_calls.proofs.Each.{Upto, upto-more, upto-all}
 use Rattle.listed_calls.proofs.counting.are_stepped.Statement.{statement}
@@ -19,22 +17,15 @@ abbrev μ-loop : tie.MeasureT-loop
 loop-holds : tie.Need-loop-holds Inv-loop μ-loop
 loop-holds c = (omega arith, λ j h. absurd (omega arith))
 
-shared-slice-read-x : tie.Need-shared-slice-read-x Inv-loop μ-loop
-shared-slice-read-x c = omega arith
-
 returns : tie.Need-returns Inv-loop μ-loop
 unfolding Decides
 returns c = λ h. omega (arith, h (c .before .before .before .loop .i) (omega arith) .some, c .if1 .taken)
 
 returns-2 : tie.Need-returns-2 Inv-loop μ-loop
 unfolding Decides
-returns-2 c = λ h. omega (arith, h (c .before .before .before .before .loop .i) (omega arith) .few, c .if2 .taken)
-
-add-i : tie.Need-add-i Inv-loop μ-loop
-add-i c = omega arith
-
-loop-less : tie.Need-loop-less Inv-loop μ-loop
-loop-less c = omega arith
+returns-2 c = λ h.
+    let turn = c .before .before .before .before in
+    omega (arith, h (turn .loop .i) (omega arith) .few, c .if2 .taken)
 
 loop-again : tie.Need-loop-again Inv-loop μ-loop
 loop-again c =
@@ -58,10 +49,10 @@ are-stepped-spec =
     Inv-loop
     μ-loop
     loop-holds
-    shared-slice-read-x
+    (λ c. omega arith)  -- shared-slice-read-x
     returns
     returns-2
-    add-i
-    loop-less
+    (λ c. omega arith)  -- add-i
+    (λ c. omega arith)  -- loop-less
     loop-again
     returns-3)

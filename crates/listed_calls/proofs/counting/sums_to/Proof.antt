@@ -1,12 +1,11 @@
--- `counting::sums_to` meets its contract. Assumes nothing.
+-- `counting::sums_to` meets its contract.
 use mathlib.Core.Path.{_≡_, refl}
 use Prim.Native.Nat.{_≤_, _+_, _-_}
 use native.Mathlib.Omega.{arith}
-use borrow.Author.Needs.{needs}
-use lib.ListN.{length, drop, take}
-use Rattle.limits.specs.Accepted.{Decides}
-use Rattle.matcher.specs.Shapes.{sum}
-use Rattle.matcher.proofs.Cuts.{sum-next}
+use lib.ListN.{length, drop}
+use Rattle.basics.specs.Deciding.{Decides}
+use Rattle.alternatives.specs.InMemory.{sum}
+use Rattle.alternatives.proofs.Cuts.{sum-next}
 use Rattle.listed_calls.proofs.Sums.{sum-end}
 use Rattle.listed_calls.proofs.counting.sums_to.Statement.{statement}
 use Rattle.listed_calls.proofs.counting.sums_to.Tie as tie
@@ -20,9 +19,6 @@ abbrev μ-loop : tie.MeasureT-loop
 loop-holds : tie.Need-loop-holds Inv-loop μ-loop
 loop-holds c = (omega arith, refl)
 
-shared-slice-read-x : tie.Need-shared-slice-read-x Inv-loop μ-loop
-shared-slice-read-x c = omega arith
-
 cast-x : tie.Need-cast-x Inv-loop μ-loop
 cast-x c = omega (arith, c .shared-slice-known .given (c .before .before .loop .i))
 
@@ -32,12 +28,6 @@ returns c = λ w.
     let c3 = c .before .before .before in
     let e = sum-next (c3 .before .args .list .now) (c3 .loop .i) (omega arith) in
     omega (arith, w)
-
-add-i : tie.Need-add-i Inv-loop μ-loop
-add-i c = omega arith
-
-loop-less : tie.Need-loop-less Inv-loop μ-loop
-loop-less c = omega arith
 
 loop-again : tie.Need-loop-again Inv-loop μ-loop
 loop-again c =
@@ -56,10 +46,10 @@ sums-to-spec =
     Inv-loop
     μ-loop
     loop-holds
-    shared-slice-read-x
+    (λ c. omega arith)  -- shared-slice-read-x
     cast-x
     returns
-    add-i
-    loop-less
+    (λ c. omega arith)  -- add-i
+    (λ c. omega arith)  -- loop-less
     loop-again
     returns-2)

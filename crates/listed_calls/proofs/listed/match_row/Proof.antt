@@ -1,20 +1,8 @@
--- `listed::match_row` meets its contract. Assumes nothing.
+-- `listed::match_row` meets its contract.
 use Rattle.listed_calls.proofs.Calls.{match-asked, match-refused, match-told}
 use borrow.Author.Needs.{needs}
 use Rattle.listed_calls.proofs.listed.match_row.Statement.{statement}
 use Rattle.listed_calls.proofs.listed.match_row.Tie as tie
-
-rows-fit-requires : tie.Need-rows-fit-requires
-rows-fit-requires c κs = search needs
-
-fits-requires : tie.Need-fits-requires
-fits-requires c κs = search needs
-
-judge-row-requires : tie.Need-judge-row-requires
-judge-row-requires c κs = search needs
-
-enum-known-v : tie.Need-enum-known-v
-enum-known-v c = search needs
 
 enum-told : tie.Need-enum-told
 enum-told c = search needs
@@ -44,10 +32,10 @@ pub match-row-spec : {M : Type 1} → statement M
 match-row-spec =
     tie.close
     (tie.spec
-    rows-fit-requires
-    fits-requires
-    judge-row-requires
-    enum-known-v
+    (λ c κs. search needs)  -- rows-fit-requires
+    (λ c κs. search needs)  -- fits-requires
+    (λ c κs. search needs)  -- judge-row-requires
+    (λ c. search needs)  -- enum-known-v
     enum-told
     match-row-requires
     returns

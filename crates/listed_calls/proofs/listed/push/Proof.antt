@@ -1,20 +1,8 @@
--- `listed::push` meets its contract. Assumes nothing.
+-- `listed::push` meets its contract.
 use Rattle.listed_calls.proofs.Calls.{push-asked, push-refused, push-told}
 use borrow.Author.Needs.{needs}
 use Rattle.listed_calls.proofs.listed.push.Statement.{statement}
 use Rattle.listed_calls.proofs.listed.push.Tie as tie
-
-row-fits-requires : tie.Need-row-fits-requires
-row-fits-requires c κs = search needs
-
-queue-good-requires : tie.Need-queue-good-requires
-queue-good-requires c κs = search needs
-
-judge-requires : tie.Need-judge-requires
-judge-requires c κs = search needs
-
-enum-known-v : tie.Need-enum-known-v
-enum-known-v c = search needs
 
 enum-told : tie.Need-enum-told
 enum-told c = search needs
@@ -44,10 +32,10 @@ pub push-spec : {M : Type 1} → statement M
 push-spec =
     tie.close
     (tie.spec
-    row-fits-requires
-    queue-good-requires
-    judge-requires
-    enum-known-v
+    (λ c κs. search needs)  -- row-fits-requires
+    (λ c κs. search needs)  -- queue-good-requires
+    (λ c κs. search needs)  -- judge-requires
+    (λ c. search needs)  -- enum-known-v
     enum-told
     push-requires
     returns

@@ -1,6 +1,6 @@
--- `listed::queue_good` meets its contract. Assumes nothing.
+-- `listed::queue_good` meets its contract.
 use native.Mathlib.Omega.{arith}
-use Rattle.limits.proofs.Deciding.{said, decided-no, told}
+use Rattle.basics.proofs.Deciding.{said, decided-no, told}
 use Rattle.listed_calls.proofs.Acceptance.{accepted-short}
 use Rattle.listed_calls.proofs.Calls.{queue-many, queue-lists, longest-here, queue-kept}
 use borrow.Author.Needs.{needs}
@@ -10,17 +10,8 @@ use Rattle.listed_calls.proofs.listed.queue_good.Tie as tie
 returns : tie.Need-returns
 returns c = queue-many _ _ _ _ _ _ _ (c .if1 .taken)
 
-fits-requires : tie.Need-fits-requires
-fits-requires c κs = search needs
-
 returns-2 : tie.Need-returns-2
 returns-2 c = queue-lists _ _ _ _ _ _ _ (decided-no _ (c .before .fits2 .ensures) (c .if2 .taken))
-
-longest-requires : tie.Need-longest-requires
-longest-requires c κs = search needs
-
-cast-keeps : tie.Need-cast-keeps
-cast-keeps c = search needs
 
 keeps-requires : tie.Need-keeps-requires
 keeps-requires c κs =
@@ -41,9 +32,9 @@ queue-good-spec =
     tie.close
     (tie.spec
     returns
-    fits-requires
+    (λ c κs. search needs)  -- fits-requires
     returns-2
-    longest-requires
-    cast-keeps
+    (λ c κs. search needs)  -- longest-requires
+    (λ c. search needs)  -- cast-keeps
     keeps-requires
     returns-3)

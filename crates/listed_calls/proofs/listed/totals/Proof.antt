@@ -1,20 +1,8 @@
--- `listed::totals` meets its contract. Assumes nothing.
+-- `listed::totals` meets its contract.
 use Rattle.listed_calls.proofs.Calls.{totals-asked, totals-refused, totals-told}
 use borrow.Author.Needs.{needs}
 use Rattle.listed_calls.proofs.listed.totals.Statement.{statement}
 use Rattle.listed_calls.proofs.listed.totals.Tie as tie
-
-rows-fit-requires : tie.Need-rows-fit-requires
-rows-fit-requires c κs = search needs
-
-fits-requires : tie.Need-fits-requires
-fits-requires c κs = search needs
-
-judge-requires : tie.Need-judge-requires
-judge-requires c κs = search needs
-
-enum-known-v : tie.Need-enum-known-v
-enum-known-v c = search needs
 
 enum-told : tie.Need-enum-told
 enum-told c = search needs
@@ -43,10 +31,10 @@ pub totals-spec : {M : Type 1} → statement M
 totals-spec =
     tie.close
     (tie.spec
-    rows-fit-requires
-    fits-requires
-    judge-requires
-    enum-known-v
+    (λ c κs. search needs)  -- rows-fit-requires
+    (λ c κs. search needs)  -- fits-requires
+    (λ c κs. search needs)  -- judge-requires
+    (λ c. search needs)  -- enum-known-v
     enum-told
     totals-requires
     returns

@@ -1,13 +1,12 @@
--- `operands::are_operands` meets its contract. Assumes nothing.
-use mathlib.Core.Path.{_≡_, refl}
-use Prim.Native.Nat.{_≤_, _+_, _-_}
+-- `operands::are_operands` meets its contract.
+use Prim.Native.Nat.{_≤_, _-_}
 use native.Mathlib.Omega.{arith}
 use borrow.Author.Needs.{needs}
-use lib.ListN.{length, drop, take}
-use Rattle.limits.specs.Accepted.{Decides}
+use lib.ListN.{length}
+use Rattle.basics.specs.Deciding.{Decides}
 use Rattle.listed_calls.specs.Lists.{Operand}
 use Rattle.listed_calls.proofs.Each.{Upto, upto-more, upto-all}
-use Rattle.limits.proofs.Deciding.{said, decided-no, told}
+use Rattle.basics.proofs.Deciding.{said, decided-no, told}
 use Rattle.listed_calls.proofs.operands.are_operands.Statement.{statement}
 use Rattle.listed_calls.proofs.operands.are_operands.Tie as tie
 
@@ -20,29 +19,15 @@ abbrev μ-loop : tie.MeasureT-loop
 loop-holds : tie.Need-loop-holds Inv-loop μ-loop
 loop-holds c = (omega arith, λ j h. absurd (omega arith))
 
-mul-is-operand : tie.Need-mul-is-operand Inv-loop μ-loop
-mul-is-operand c = omega arith
-
-shared-slice-read-is-operand : tie.Need-shared-slice-read-is-operand Inv-loop μ-loop
-shared-slice-read-is-operand c = omega arith
-
 cast-is-operand : tie.Need-cast-is-operand Inv-loop μ-loop
 cast-is-operand c = omega (arith, c .shared-slice-known3 .given (c .before .before .loop .i))
-
-is-operand-requires : tie.Need-is-operand-requires Inv-loop μ-loop
-is-operand-requires c κs = search needs
 
 returns : tie.Need-returns Inv-loop μ-loop
 unfolding Decides
 returns c = λ h.
+    let turn = c .before .before .before .before in
     decided-no (c .before .is-operand .result) (c .before .is-operand .ensures) (c .if1 .taken)
-    (h (c .before .before .before .before .loop .i) (omega arith))
-
-add-i : tie.Need-add-i Inv-loop μ-loop
-add-i c = omega arith
-
-loop-less : tie.Need-loop-less Inv-loop μ-loop
-loop-less c = omega arith
+    (h (turn .loop .i) (omega arith))
 
 loop-again : tie.Need-loop-again Inv-loop μ-loop
 loop-again c =
@@ -65,12 +50,12 @@ are-operands-spec =
     Inv-loop
     μ-loop
     loop-holds
-    mul-is-operand
-    shared-slice-read-is-operand
+    (λ c. omega arith)  -- mul-is-operand
+    (λ c. omega arith)  -- shared-slice-read-is-operand
     cast-is-operand
-    is-operand-requires
+    (λ c κs. search needs)  -- is-operand-requires
     returns
-    add-i
-    loop-less
+    (λ c. omega arith)  -- add-i
+    (λ c. omega arith)  -- loop-less
     loop-again
     returns-2)

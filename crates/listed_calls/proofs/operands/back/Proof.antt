@@ -1,4 +1,4 @@
--- `operands::back` meets its contract. Assumes nothing.
+-- `operands::back` meets its contract.
 use native.Mathlib.Omega.{arith}
 use Rattle.listed_calls.proofs.operands.back.Statement.{statement}
 use Rattle.listed_calls.proofs.operands.back.Tie as tie

@@ -1,4 +1,4 @@
--- `operands::is_operand` meets its contract. Assumes nothing.
+-- `operands::is_operand` meets its contract.
 use native.Mathlib.Omega.{arith}
 use borrow.Author.Needs.{needs}
 use Rattle.listed_calls.proofs.Acceptance.{operand-long, operand-no, operand-start, operand-is}
@@ -8,23 +8,14 @@ use Rattle.listed_calls.proofs.operands.is_operand.Tie as tie
 returns : tie.Need-returns
 returns c = operand-long _ _ _ (c .if1 .taken)
 
-back-requires : tie.Need-back-requires
-back-requires c κs = search needs
-
 sub-part-of : tie.Need-sub-part-of
 sub-part-of c = omega (arith, c .back .ensures)
 
 part-part-of-start : tie.Need-part-part-of-start
 part-part-of-start c = let e = c .back .ensures in search needs
 
-part-part-of-end : tie.Need-part-part-of-end
-part-part-of-end c = search needs
-
 sub-part-of-2 : tie.Need-sub-part-of-2
 sub-part-of-2 c = omega (arith, c .before .back .ensures)
-
-part-of-requires : tie.Need-part-of-requires
-part-of-requires c κs = search needs
 
 returns-2 : tie.Need-returns-2
 returns-2 c =
@@ -43,12 +34,6 @@ part-accepts-start c =
     let l = operand-start (c .before .before .before .part-of .ensures) (c .before .if2 .left) in
     search needs
 
-part-accepts-end : tie.Need-part-accepts-end
-part-accepts-end c = search needs
-
-accepts-requires : tie.Need-accepts-requires
-accepts-requires c κs = search needs
-
 returns-3 : tie.Need-returns-3
 returns-3 c =
     let c3 = c .before .before .before in
@@ -62,16 +47,16 @@ is-operand-spec =
     tie.close
     (tie.spec
     returns
-    back-requires
+    (λ c κs. search needs)  -- back-requires
     sub-part-of
     part-part-of-start
-    part-part-of-end
+    (λ c. search needs)  -- part-part-of-end
     sub-part-of-2
-    part-of-requires
+    (λ c κs. search needs)  -- part-of-requires
     returns-2
     add-start
     sub-accepts
     part-accepts-start
-    part-accepts-end
-    accepts-requires
+    (λ c. search needs)  -- part-accepts-end
+    (λ c κs. search needs)  -- accepts-requires
     returns-3)

@@ -1,7 +1,6 @@
 -- `code_size` meets its contract.
-use native.Mathlib.Omega.{arith}
 use borrow.Author.Needs.{needs}
-use Rattle.listing.proofs.Starts.{answer-known, answer-sized, value-sized}
+use Rattle.listing.proofs.ColumnWords.{answer-known, answer-sized, value-sized}
 use Rattle.listing.proofs.lines.code_size.Statement.{statement}
 use Rattle.listing.proofs.lines.code_size.Tie as tie
 

@@ -1,6 +1,6 @@
 -- `line_size` meets its contract.
 use borrow.Author.Needs.{needs}
-use Rattle.listing.proofs.Sizes.{line-size}
+use Rattle.listing.proofs.RowByRow.{line-size}
 use Rattle.listing.proofs.lines.line_size.Statement.{statement}
 use Rattle.listing.proofs.lines.line_size.Tie as tie
 

@@ -3,7 +3,7 @@ use native.Mathlib.Omega.{arith}
 use Prim.Native.Nat.{_-_}
 use mathlib.Core.Path.{refl}
 use lib.ListN.{length}
-use Rattle.listing.proofs.Sizes.{Sizing, sizing-first, sizing-next, sizing-end}
+use Rattle.listing.proofs.RowByRow.{Sizing, sizing-first, sizing-next, sizing-end}
 use Rattle.listing.proofs.lines.lines_size.Statement.{statement}
 use Rattle.listing.proofs.lines.lines_size.Tie as tie
 

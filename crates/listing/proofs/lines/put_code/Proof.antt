@@ -1,7 +1,6 @@
 -- `put_code` meets its contract.
-use native.Mathlib.Omega.{arith}
 use borrow.Author.Needs.{needs}
-use Rattle.listing.proofs.Starts.{answer-wording, answer-put, value-known, value-room, value-put}
+use Rattle.listing.proofs.ColumnWords.{answer-wording, answer-put, value-known, value-room, value-put}
 use Rattle.listing.proofs.lines.put_code.Statement.{statement}
 use Rattle.listing.proofs.lines.put_code.Tie as tie
 

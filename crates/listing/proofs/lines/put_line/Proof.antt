@@ -1,58 +1,58 @@
--- `put_line` meets its contract.
-use native.Mathlib.Omega.{arith}
+-- `put_line` meets its contract: the time and a blank, the word, the line's end.
 use borrow.Author.Needs.{needs}
-use Rattle.writer.proofs.Going.{going-room, going-on, going-end}
-use Rattle.listing.specs.Text.{bytes}
-use Rattle.listing.proofs.Starts.{line-start}
+use Prim.Native.Nat.{ℕ}
+use mathlib.Core.List.{List, [], _∷_, _++_}
+use Rattle.basics.proofs.PartByPart.{Going, going-room, going-byte, going-on, going-two, going-end}
+use Rattle.figures.specs.Text.{bytes}
+use Rattle.figures.specs.Numbers.{decimal}
+use Rattle.listing.specs.Listing.{wordOf, line}
+use Rattle.listing.proofs.RowByRow.{line-start}
 use Rattle.listing.proofs.lines.put_line.Statement.{statement}
 use Rattle.listing.proofs.lines.put_line.Tie as tie
 
-cast-put-decimal : tie.Need-cast-put-decimal
-cast-put-decimal c = search needs
+-- of the line, what is left
+abbrev Left : tie.Start → List (List ℕ) → List ℕ → ℕ → Type 0
+Left s = Going (s .args .out .now) (s .args .at) (line (s .args .column) (s .args .time .0) (s .args .a))
 
-put-decimal-requires : tie.Need-put-decimal-requires
+abbrev entry : tie.After-put-decimal-then → tie.Start
+entry c = c .before .before .before .before
+
+begun : (s : tie.Start)
+    → Left s ((decimal (s .args .time .0) ++ bytes " ") ∷ wordOf (s .args .column) (s .args .a) ∷ bytes "\n" ∷ [])
+    (s .args .out .now) (s .args .at)
+begun s =
+    going-two (line-start (s .args .column) (s .args .time .0) (s .args .a) (s .args .out .now) (s .args .at)
+    (s .pre .room))
+
+timed : (c : tie.After-put-decimal-then)
+    → Left (entry c) (wordOf (entry c .args .column) (entry c .args .a) ∷ bytes "\n" ∷ [])
+    (c .put-decimal-then .last .1 .1 .0) (c .put-decimal-then .result)
 unfolding bytes
-put-decimal-requires c κs =
-    let c2 = c .before .before in
-    let g = line-start (c2 .args .column) (c2 .args .time .0) (c2 .args .a) (c2 .args .out .now) (c2 .args .at)
-    (c2 .pre .room) in
-    going-room g
+timed c = going-on (begun (entry c)) (c .put-decimal-then .ensures)
+
+worded : (c : tie.After-put-code)
+    → Left (entry (c .before .before .before .before)) (bytes "\n" ∷ []) (c .put-code .last .1 .1 .0)
+    (c .put-code .result)
+worded c = going-on (timed (c .before .before .before .before)) (c .put-code .ensures)
+
+cast-put-decimal-then : tie.Need-cast-put-decimal-then
+cast-put-decimal-then c = search needs
+
+slice-aggregate-put-decimal-then : tie.Need-slice-aggregate-put-decimal-then
+slice-aggregate-put-decimal-then c = search needs
+
+put-decimal-then-requires : tie.Need-put-decimal-then-requires
+unfolding bytes
+put-decimal-then-requires c κs = going-room (begun (c .before .before .before))
+
+put-code-requires : tie.Need-put-code-requires
+put-code-requires c κs =
+    let before-word = c .before .before .before in
+    record { known = entry before-word .pre .known; room = going-room (timed before-word) }
 
 push-requires : tie.Need-push-requires
 unfolding bytes
-push-requires c κs =
-    let c3 = c .before .before .before in
-    let c6 = c3 .before .before .before in
-    let g = line-start (c6 .args .column) (c6 .args .time .0) (c6 .args .a) (c6 .args .out .now) (c6 .args .at)
-    (c6 .pre .room) in
-    let g1 = going-on g (c3 .put-decimal .ensures) in
-    let r = going-room g1 in omega arith
-
-put-code-requires : tie.Need-put-code-requires
-unfolding bytes
-put-code-requires c κs =
-    let c3 = c .before .before .before in
-    let c7 = c3 .before .before .before .before in
-    let c10 = c7 .before .before .before in
-    let g = line-start (c10 .args .column) (c10 .args .time .0) (c10 .args .a) (c10 .args .out .now) (c10 .args .at)
-    (c10 .pre .room) in
-    let g1 = going-on g (c7 .put-decimal .ensures) in
-    let g2 = going-on g1 (c3 .push .ensures) in
-    record { known = c10 .pre .known; room = going-room g2 }
-
-push-requires-2 : tie.Need-push-requires-2
-unfolding bytes
-push-requires-2 c κs =
-    let c3 = c .before .before .before in
-    let c7 = c3 .before .before .before .before in
-    let c11 = c7 .before .before .before .before in
-    let c14 = c11 .before .before .before in
-    let g = line-start (c14 .args .column) (c14 .args .time .0) (c14 .args .a) (c14 .args .out .now) (c14 .args .at)
-    (c14 .pre .room) in
-    let g1 = going-on g (c11 .put-decimal .ensures) in
-    let g2 = going-on g1 (c7 .push .ensures) in
-    let g3 = going-on g2 (c3 .put-code .ensures) in
-    let r = going-room g3 in omega arith
+push-requires c κs = going-byte (worded (c .before .before .before))
 
 same-length : tie.Need-same-length
 same-length c = search needs
@@ -60,27 +60,17 @@ same-length c = search needs
 returns : tie.Need-returns
 unfolding bytes
 returns c =
-    let c2 = c .before .before in
-    let c6 = c2 .before .before .before .before in
-    let c10 = c6 .before .before .before .before in
-    let c14 = c10 .before .before .before .before in
-    let c17 = c14 .before .before .before in
-    let g = line-start (c17 .args .column) (c17 .args .time .0) (c17 .args .a) (c17 .args .out .now) (c17 .args .at)
-    (c17 .pre .room) in
-    let g1 = going-on g (c14 .put-decimal .ensures) in
-    let g2 = going-on g1 (c10 .push .ensures) in
-    let g3 = going-on g2 (c6 .put-code .ensures) in
-    let g4 = going-on g3 (c2 .push2 .ensures) in
-    going-end g4
+    let ended = c .before .before in
+    going-end (going-on (worded (ended .before .before .before .before)) (ended .push .ensures))
 
 pub put-line-spec : {M : Type 1} → statement M
 put-line-spec =
     tie.close
     (tie.spec
-    cast-put-decimal
-    put-decimal-requires
-    push-requires
+    cast-put-decimal-then
+    slice-aggregate-put-decimal-then
+    put-decimal-then-requires
     put-code-requires
-    push-requires-2
+    push-requires
     same-length
     returns)

@@ -3,9 +3,9 @@ use native.Mathlib.Omega.{arith}
 use Prim.Native.Nat.{_-_, _≤_}
 use mathlib.Core.List.{[], _∷_}
 use lib.ListN.{length, getD, drop}
-use Rattle.writer.proofs.Going.{Going, going-on, going-length}
+use Rattle.basics.proofs.PartByPart.{Going, going-on, going-length}
 use Rattle.listing.specs.Listing.{lines}
-use Rattle.listing.proofs.Starts.{rows-start, rows-going, rows-done, row-asked, row-put}
+use Rattle.listing.proofs.RowByRow.{rows-start, rows-going, rows-done, row-asked, row-put}
 use Rattle.listing.proofs.lines.put_lines.Statement.{statement}
 use Rattle.listing.proofs.lines.put_lines.Tie as tie
 

@@ -1,10 +1,8 @@
--- `put_word` meets its contract. Assumes nothing.
+-- `put_word` meets its contract.
 use borrow.Author.Needs.{needs}
-use mathlib.Core.Path.{sym}
-use Rattle.writer.proofs.Spelling.{put-as}
-use Rattle.listing.specs.Text.{bytes}
-use Rattle.listing.proofs.Parts.{last-number}
-use Rattle.listing.proofs.Starts.{word-0, word-1, word-2, word-3, room-as}
+use Rattle.figures.specs.Text.{bytes}
+use Rattle.listing.proofs.ColumnWords.{last-number}
+use Rattle.listing.proofs.ColumnWords.{word-0, word-1, word-2, word-3}
 use Rattle.listing.proofs.lines.put_word.Statement.{statement}
 use Rattle.listing.proofs.lines.put_word.Tie as tie
 
@@ -16,7 +14,7 @@ unfolding bytes
 put-requires c κs =
     let c2 = c .before .before in
     let c4 = c2 .before .before in
-    room-as (c4 .args .out .now) (c4 .args .at) (word-0 (c2 .if1 .taken)) (c4 .pre .room)
+    rw (word-0 (c2 .if1 .taken)) at (c4 .pre .room)
 
 same-length : tie.Need-same-length
 same-length c = search needs
@@ -26,7 +24,7 @@ unfolding bytes
 returns c =
     let c2 = c .before .before in
     let c5 = c2 .before .before .before in
-    put-as (sym (word-0 (c5 .if1 .taken))) (c2 .put .ensures)
+    rw (word-0 (c5 .if1 .taken)) (c2 .put .ensures)
 
 slice-aggregate-put-2 : tie.Need-slice-aggregate-put-2
 slice-aggregate-put-2 c = search needs
@@ -36,7 +34,7 @@ unfolding bytes
 put-requires-2 c κs =
     let c2 = c .before .before in
     let c5 = c2 .before .before .before in
-    room-as (c5 .args .out .now) (c5 .args .at) (word-1 (c2 .if2 .taken)) (c5 .pre .room)
+    rw (word-1 (c2 .if2 .taken)) at (c5 .pre .room)
 
 same-length-2 : tie.Need-same-length-2
 same-length-2 c = search needs
@@ -46,7 +44,7 @@ unfolding bytes
 returns-2 c =
     let c2 = c .before .before in
     let c5 = c2 .before .before .before in
-    put-as (sym (word-1 (c5 .if2 .taken))) (c2 .put2 .ensures)
+    rw (word-1 (c5 .if2 .taken)) (c2 .put2 .ensures)
 
 slice-aggregate-put-3 : tie.Need-slice-aggregate-put-3
 slice-aggregate-put-3 c = search needs
@@ -56,7 +54,7 @@ unfolding bytes
 put-requires-3 c κs =
     let c2 = c .before .before in
     let c6 = c2 .before .before .before .before in
-    room-as (c6 .args .out .now) (c6 .args .at) (word-2 (c2 .if3 .taken)) (c6 .pre .room)
+    rw (word-2 (c2 .if3 .taken)) at (c6 .pre .room)
 
 same-length-3 : tie.Need-same-length-3
 same-length-3 c = search needs
@@ -66,7 +64,7 @@ unfolding bytes
 returns-3 c =
     let c2 = c .before .before in
     let c5 = c2 .before .before .before in
-    put-as (sym (word-2 (c5 .if3 .taken))) (c2 .put3 .ensures)
+    rw (word-2 (c5 .if3 .taken)) (c2 .put3 .ensures)
 
 slice-aggregate-put-4 : tie.Need-slice-aggregate-put-4
 slice-aggregate-put-4 c = search needs
@@ -78,8 +76,8 @@ put-requires-4 c κs =
     let c3 = c2 .before in
     let c4 = c3 .before in
     let c6 = c4 .before .before in
-    room-as (c6 .args .out .now) (c6 .args .at) (word-3 (last-number (c6 .pre .known) (c4 .if1 .left)
-    (c3 .if2 .left) (c2 .if3 .left))) (c6 .pre .room)
+    rw (word-3 (last-number (c6 .pre .known) (c4 .if1 .left)
+    (c3 .if2 .left) (c2 .if3 .left))) at (c6 .pre .room)
 
 same-length-4 : tie.Need-same-length-4
 same-length-4 c = search needs
@@ -92,7 +90,7 @@ returns-4 c =
     let c6 = c5 .before in
     let c7 = c6 .before in
     let c9 = c7 .before .before in
-    put-as (sym (word-3 (last-number (c9 .pre .known) (c7 .if1 .left) (c6 .if2 .left) (c5 .if3 .left))))
+    rw (word-3 (last-number (c9 .pre .known) (c7 .if1 .left) (c6 .if2 .left) (c5 .if3 .left)))
     (c2 .put4 .ensures)
 
 pub put-word-spec : {M : Type 1} → statement M

@@ -1,9 +1,9 @@
--- `word_size` meets its contract. Assumes nothing.
+-- `word_size` meets its contract.
 use native.Mathlib.Omega.{arith}
 use mathlib.Core.Path.{refl}
-use Rattle.listing.specs.Text.{bytes}
+use Rattle.figures.specs.Text.{bytes}
 use Rattle.listing.specs.Listing.{word}
-use Rattle.listing.proofs.Parts.{last-number}
+use Rattle.listing.proofs.ColumnWords.{last-number}
 use Rattle.listing.proofs.lines.word_size.Statement.{statement}
 use Rattle.listing.proofs.lines.word_size.Tie as tie
 

@@ -2,7 +2,7 @@
 use native.Mathlib.Omega.{arith}
 use Prim.Native.Nat.{ℕ, _-_, _<_, _≤_}
 use lib.ListN.{length, getD}
-use Rattle.listing.proofs.Parts.{good-more}
+use Rattle.listing.proofs.ListOrder.{good-more}
 use Rattle.listing.proofs.listings.first_bad.Statement.{statement}
 use Rattle.listing.proofs.listings.first_bad.Tie as tie
 

@@ -1,160 +1,121 @@
--- `write_listing` meets its contract.
+-- `write_listing` meets its contract: heading, lines and totals are written, and their length is the one measured.
 use native.Mathlib.Omega.{arith}
 use borrow.Author.Needs.{needs}
-use Rattle.writer.proofs.Going.{going-room, going-on, going-end}
-use Rattle.listing.specs.Text.{bytes}
-use Rattle.listing.specs.Listing.{highest}
-use Rattle.listing.proofs.Returns.{short, delivered, listed, listing-size, listing-start}
+use Prim.Native.Nat.{ℕ, _+_, _≤_}
+use mathlib.Core.Path.{_≡_}
+use mathlib.Core.List.{List, [], _∷_}
+use lib.ListN.{length}
+use Rattle.basics.proofs.PartByPart.{Going, going-room, going-on, going-end}
+use Rattle.figures.specs.Text.{bytes}
+use Rattle.figures.proofs.Delivering.{short, delivered}
+use Rattle.listing.specs.declared.lines.Column.the-variants.{Answers}
+use Rattle.listing.specs.Listing.{highest, lines, listing}
+use Rattle.listing.proofs.WholeListings.{lastOf, listing-size, listing-start}
 use Rattle.listing.proofs.listings.write_listing.Statement.{statement}
 use Rattle.listing.proofs.listings.write_listing.Tie as tie
 
-count-of-requires : tie.Need-count-of-requires
-unfolding bytes
-count-of-requires c κs =
-    let c3 = c .before .before .before in
-    omega (arith, c3 .pre .lists .same, c3 .pre .lists .rows .1)
+abbrev entry : tie.After-last-size → tie.Start
+entry c = let counted = c .before .before in counted .before .before .before .before
 
-count-of-requires-2 : tie.Need-count-of-requires-2
-unfolding bytes
-count-of-requires-2 c κs =
-    let c4 = c .before .before .before .before in
-    omega (arith, c4 .pre .lists .same, c4 .pre .lists .rows .1)
+abbrev text : tie.After-last-size → List ℕ
+text c = listing (entry c .args .times .now) (entry c .args .answers .now)
 
-count-of-requires-3 : tie.Need-count-of-requires-3
+abbrev last : tie.After-last-size → List ℕ
+last c = lastOf (c .before .before .count-answers .result)
+
+-- of the listing, what is left
+abbrev Left : tie.After-last-size → List (List ℕ) → List ℕ → ℕ → Type 0
+Left c = Going (entry c .args .out .now) 0 (text c)
+
+measured : (c : tie.After-last-size)
+    → c .before .lines-size .result + c .last-size .result + 12 ≡ length (text c)
+measured c =
+    listing-size (entry c .args .times .now) (entry c .args .answers .now) (c .before .before .count-answers .ensures)
+    (c .before .lines-size .ensures) (c .last-size .ensures)
+
+begun : (c : tie.After-last-size)
+    → c .before .lines-size .result + c .last-size .result + 12 ≤ length (entry c .args .out .now)
+    → Left c (bytes "time answer\n" ∷ lines Answers (entry c .args .times .now)
+    (entry c .args .answers .now) ∷ last c ∷ [])
+    (entry c .args .out .now) 0
+begun c =
+    listing-start (entry c .args .times .now) (entry c .args .answers .now)
+    (c .before .before .count-answers .ensures) (entry c .args .out .now) (measured c)
+
+abbrev sized : tie.After-put → tie.After-last-size
+sized c = c .before .before .before .before
+
+headed : (c : tie.After-put)
+    → Left (sized c)
+    (lines Answers (entry (sized c) .args .times .now) (entry (sized c) .args .answers .now) ∷ last (sized c) ∷ [])
+    (c .put .last .1 .0) (c .put .result)
 unfolding bytes
-count-of-requires-3 c κs =
-    let c5 = c .before .before .before .before .before in
-    omega (arith, c5 .pre .lists .same, c5 .pre .lists .rows .1)
+headed c = going-on (begun (sized c) (c .before .before .before .if1 .left)) (c .put .ensures)
+
+abbrev heading : tie.After-put-lines → tie.After-put
+heading c = c .before .before .before .before
+
+lined : (c : tie.After-put-lines)
+    → Left (sized (heading c)) (last (sized (heading c)) ∷ []) (c .put-lines .last .1 .1 .1 .0)
+    (c .put-lines .result)
+lined c = going-on (headed (heading c)) (c .put-lines .ensures)
+
+count-answers-requires : tie.Need-count-answers-requires
+count-answers-requires c κs =
+    let s = c .before .before .before in
+    omega (arith, s .pre .lists .same, s .pre .lists .rows .1)
 
 lines-size-requires : tie.Need-lines-size-requires
-unfolding bytes highest
-lines-size-requires c κs =
-    let c6 = c .before .before .before .before .before .before in
-    c6 .pre
+unfolding highest
+lines-size-requires c κs = let counting = c .before in counting .before .before .before .pre
 
 last-size-requires : tie.Need-last-size-requires
 last-size-requires c κs = search needs
 
 add-size : tie.Need-add-size
-unfolding bytes
-add-size c =
-    let c1 = c .before in
-    omega (arith, c1 .lines-size .ensures .few, c .last-size .ensures .few)
+add-size c = omega (arith, c .before .lines-size .ensures .few, c .last-size .ensures .few)
 
 add-size-2 : tie.Need-add-size-2
-unfolding bytes
-add-size-2 c =
-    let c1 = c .before in
-    omega (arith, c1 .lines-size .ensures .few, c .last-size .ensures .few)
+add-size-2 c = omega (arith, c .before .lines-size .ensures .few, c .last-size .ensures .few)
 
 refuse-requires : tie.Need-refuse-requires
 refuse-requires c κs = search needs
 
 returns : tie.Need-returns
-unfolding bytes
-returns c =
-    let c1 = c .before in
-    let c2 = c1 .before in
-    let c3 = c2 .before in
-    let c4 = c3 .before in
-    let c5 = c4 .before in
-    let c6 = c5 .before in
-    let c10 = c6 .before .before .before .before in
-    listed (c10 .pre) (short (listing-size (c10 .args .times .now) (c10 .args .answers .now)
-    (c6 .count-of .ensures) (c5 .count-of2 .ensures) (c4 .count-of3 .ensures) (c3 .lines-size .ensures)
-    (c2 .last-size .ensures)) (c1 .if1 .taken) (c .refuse .ensures))
+returns c = short (measured (c .before .before)) (c .before .if1 .taken) (c .refuse .ensures)
 
 slice-aggregate-put : tie.Need-slice-aggregate-put
 slice-aggregate-put c = search needs
 
 put-requires : tie.Need-put-requires
 unfolding bytes
-put-requires c κs =
-    let c2 = c .before .before in
-    let c3 = c2 .before in
-    let c4 = c3 .before in
-    let c5 = c4 .before in
-    let c6 = c5 .before in
-    let c7 = c6 .before in
-    let c11 = c7 .before .before .before .before in
-    let g = listing-start (c11 .args .times .now) (c11 .args .answers .now) (c7 .count-of .ensures)
-    (c6 .count-of2 .ensures) (c5 .count-of3 .ensures) (c11 .args .out .now) (listing-size
-    (c11 .args .times .now) (c11 .args .answers .now) (c7 .count-of .ensures) (c6 .count-of2 .ensures)
-    (c5 .count-of3 .ensures) (c4 .lines-size .ensures) (c3 .last-size .ensures)) (c2 .if1 .left) in
-    going-room g
+put-requires c κs = let test = c .before .before in going-room (begun (test .before) (test .if1 .left))
 
 put-lines-requires : tie.Need-put-lines-requires
-unfolding bytes highest
+unfolding highest
 put-lines-requires c κs =
-    let c3 = c .before .before .before in
-    let c6 = c3 .before .before .before in
-    let c7 = c6 .before in
-    let c8 = c7 .before in
-    let c9 = c8 .before in
-    let c10 = c9 .before in
-    let c11 = c10 .before in
-    let c15 = c11 .before .before .before .before in
-    let g = listing-start (c15 .args .times .now) (c15 .args .answers .now) (c11 .count-of .ensures)
-    (c10 .count-of2 .ensures) (c9 .count-of3 .ensures) (c15 .args .out .now) (listing-size
-    (c15 .args .times .now) (c15 .args .answers .now) (c11 .count-of .ensures) (c10 .count-of2 .ensures)
-    (c9 .count-of3 .ensures) (c8 .lines-size .ensures) (c7 .last-size .ensures)) (c6 .if1 .left) in
-    let g1 = going-on g (c3 .put .ensures) in
-    record { listable = c15 .pre; room = going-room g1 }
+    let written = c .before .before .before in
+    record { listable = entry (sized written) .pre; room = going-room (headed written) }
 
 put-last-requires : tie.Need-put-last-requires
-unfolding bytes
-put-last-requires c κs =
-    let c3 = c .before .before .before in
-    let c7 = c3 .before .before .before .before in
-    let c10 = c7 .before .before .before in
-    let c11 = c10 .before in
-    let c12 = c11 .before in
-    let c13 = c12 .before in
-    let c14 = c13 .before in
-    let c15 = c14 .before in
-    let c19 = c15 .before .before .before .before in
-    let g = listing-start (c19 .args .times .now) (c19 .args .answers .now) (c15 .count-of .ensures)
-    (c14 .count-of2 .ensures) (c13 .count-of3 .ensures) (c19 .args .out .now) (listing-size
-    (c19 .args .times .now) (c19 .args .answers .now) (c15 .count-of .ensures) (c14 .count-of2 .ensures)
-    (c13 .count-of3 .ensures) (c12 .lines-size .ensures) (c11 .last-size .ensures)) (c10 .if1 .left) in
-    let g1 = going-on g (c7 .put .ensures) in
-    let g2 = going-on g1 (c3 .put-lines .ensures) in
-    going-room g2
+put-last-requires c κs = going-room (lined (c .before .before .before))
 
 same-length : tie.Need-same-length
 same-length c = search needs
 
 returns-2 : tie.Need-returns-2
-unfolding bytes
 returns-2 c =
-    let c2 = c .before .before in
-    let c6 = c2 .before .before .before .before in
-    let c10 = c6 .before .before .before .before in
-    let c13 = c10 .before .before .before in
-    let c14 = c13 .before in
-    let c15 = c14 .before in
-    let c16 = c15 .before in
-    let c17 = c16 .before in
-    let c18 = c17 .before in
-    let c22 = c18 .before .before .before .before in
-    let g = listing-start (c22 .args .times .now) (c22 .args .answers .now) (c18 .count-of .ensures)
-    (c17 .count-of2 .ensures) (c16 .count-of3 .ensures) (c22 .args .out .now) (listing-size
-    (c22 .args .times .now) (c22 .args .answers .now) (c18 .count-of .ensures) (c17 .count-of2 .ensures)
-    (c16 .count-of3 .ensures) (c15 .lines-size .ensures) (c14 .last-size .ensures)) (c13 .if1 .left) in
-    let g1 = going-on g (c10 .put .ensures) in
-    let g2 = going-on g1 (c6 .put-lines .ensures) in
-    let g3 = going-on g2 (c2 .put-last .ensures) in
-    listed (c22 .pre) (delivered (listing-size (c22 .args .times .now) (c22 .args .answers .now)
-    (c18 .count-of .ensures) (c17 .count-of2 .ensures) (c16 .count-of3 .ensures) (c15 .lines-size .ensures)
-    (c14 .last-size .ensures)) (c13 .if1 .left) (going-end g3))
+    let ended = c .before .before in
+    let written = ended .before .before .before .before in
+    let fits = heading written .before .before .before .if1 .left in
+    delivered (measured (sized (heading written))) fits
+    (going-end (going-on (lined written) (ended .put-last .ensures)))
 
 pub write-listing-spec : {M : Type 1} → statement M
 write-listing-spec =
     tie.close
     (tie.spec
-    count-of-requires
-    count-of-requires-2
-    count-of-requires-3
+    count-answers-requires
     lines-size-requires
     last-size-requires
     add-size

@@ -1,77 +1,87 @@
--- `write_values` meets its contract.
+-- `write_values` meets its contract: heading and lines are written, and their length is the one measured.
 use native.Mathlib.Omega.{arith}
 use borrow.Author.Needs.{needs}
-use Rattle.writer.proofs.Going.{going-room, going-on, going-end}
-use Rattle.listing.specs.Text.{bytes}
-use Rattle.listing.specs.Listing.{highest}
-use Rattle.listing.proofs.Returns.{short, delivered, listed, values-size, values-start}
+use Prim.Native.Nat.{ℕ, _+_, _≤_}
+use mathlib.Core.Path.{_≡_}
+use mathlib.Core.List.{List, [], _∷_}
+use lib.ListN.{length}
+use Rattle.basics.proofs.PartByPart.{Going, going-room, going-on, going-end}
+use Rattle.figures.specs.Text.{bytes}
+use Rattle.figures.proofs.Delivering.{short, delivered}
+use Rattle.listing.specs.declared.lines.Column.the-variants.{Values}
+use Rattle.listing.specs.Listing.{highest, lines, valuesListing}
+use Rattle.listing.proofs.WholeListings.{values-size, values-start}
 use Rattle.listing.proofs.listings.write_values.Statement.{statement}
 use Rattle.listing.proofs.listings.write_values.Tie as tie
 
+abbrev entry : tie.After-lines-size → tie.Start
+entry c = c .before .before .before .before
+
+abbrev text : tie.After-lines-size → List ℕ
+text c = valuesListing (entry c .args .times .now) (entry c .args .values .now)
+
+measured : (c : tie.After-lines-size) → c .lines-size .result + 11 ≡ length (text c)
+measured c = values-size (entry c .args .times .now) (entry c .args .values .now) (c .lines-size .ensures)
+
+abbrev rows : tie.After-lines-size → List ℕ
+rows c = lines Values (entry c .args .times .now) (entry c .args .values .now)
+
+begun : (c : tie.After-lines-size) → c .lines-size .result + 11 ≤ length (entry c .args .out .now)
+    → Going (entry c .args .out .now) 0 (text c) (bytes "time value\n" ∷ rows c ∷ []) (entry c .args .out .now) 0
+begun c =
+    values-start (entry c .args .times .now) (entry c .args .values .now) (entry c .args .out .now) (measured c)
+
+abbrev sized : tie.After-put → tie.After-lines-size
+sized c = c .before .before .before .before
+
+headed : (c : tie.After-put)
+    → Going (entry (sized c) .args .out .now) 0 (text (sized c)) (rows (sized c) ∷ []) (c .put .last .1 .0)
+    (c .put .result)
+unfolding bytes
+headed c = going-on (begun (sized c) (c .before .before .before .if1 .left)) (c .put .ensures)
+
 lines-size-requires : tie.Need-lines-size-requires
 unfolding highest
-lines-size-requires c κs = let c3 = c .before .before .before in c3 .pre
+lines-size-requires c κs = c .before .before .before .pre
 
-add-needed : tie.Need-add-needed
-add-needed c = omega (arith, c .lines-size .ensures .few)
+add-size : tie.Need-add-size
+add-size c = omega (arith, c .lines-size .ensures .few)
 
 refuse-requires : tie.Need-refuse-requires
 refuse-requires c κs = search needs
 
 returns : tie.Need-returns
-returns c =
-    let c1 = c .before in
-    let c2 = c1 .before in
-    let c6 = c2 .before .before .before .before in
-    listed (c6 .pre) (short (values-size (c6 .args .times .now) (c6 .args .values .now) (c2 .lines-size .ensures))
-    (c1 .if1 .taken) (c .refuse .ensures))
+returns c = short (measured (c .before .before)) (c .before .if1 .taken) (c .refuse .ensures)
 
 slice-aggregate-put : tie.Need-slice-aggregate-put
 slice-aggregate-put c = search needs
 
 put-requires : tie.Need-put-requires
 unfolding bytes
-put-requires c κs =
-    let c2 = c .before .before in
-    let c3 = c2 .before in
-    let c7 = c3 .before .before .before .before in
-    going-room (values-start (c7 .args .times .now) (c7 .args .values .now) (c7 .args .out .now) (values-size
-    (c7 .args .times .now) (c7 .args .values .now) (c3 .lines-size .ensures)) (c2 .if1 .left))
+put-requires c κs = let test = c .before .before in going-room (begun (test .before) (test .if1 .left))
 
 put-lines-requires : tie.Need-put-lines-requires
-unfolding bytes highest
+unfolding highest
 put-lines-requires c κs =
-    let c3 = c .before .before .before in
-    let c6 = c3 .before .before .before in
-    let c7 = c6 .before in
-    let c11 = c7 .before .before .before .before in
-    let g = values-start (c11 .args .times .now) (c11 .args .values .now) (c11 .args .out .now) (values-size
-    (c11 .args .times .now) (c11 .args .values .now) (c7 .lines-size .ensures)) (c6 .if1 .left) in
-    record { listable = c11 .pre; room = going-room (going-on g (c3 .put .ensures)) }
+    let written = c .before .before .before in
+    record { listable = entry (sized written) .pre; room = going-room (headed written) }
 
 same-length : tie.Need-same-length
 same-length c = search needs
 
 returns-2 : tie.Need-returns-2
-unfolding bytes
 returns-2 c =
-    let c2 = c .before .before in
-    let c6 = c2 .before .before .before .before in
-    let c9 = c6 .before .before .before in
-    let c10 = c9 .before in
-    let c14 = c10 .before .before .before .before in
-    let e = values-size (c14 .args .times .now) (c14 .args .values .now) (c10 .lines-size .ensures) in
-    let g = values-start (c14 .args .times .now) (c14 .args .values .now) (c14 .args .out .now) e (c9 .if1 .left) in
-    let g1 = going-on g (c6 .put .ensures) in
-    let g2 = going-on g1 (c2 .put-lines .ensures) in
-    listed (c14 .pre) (delivered e (c9 .if1 .left) (going-end g2))
+    let ended = c .before .before in
+    let written = ended .before .before .before .before in
+    let fits = written .before .before .before .if1 .left in
+    delivered (measured (sized written)) fits (going-end (going-on (headed written) (ended .put-lines .ensures)))
 
 pub write-values-spec : {M : Type 1} → statement M
 write-values-spec =
     tie.close
     (tie.spec
     lines-size-requires
-    add-needed
+    add-size
     refuse-requires
     returns
     slice-aggregate-put

@@ -1,11 +1,11 @@
 -- `matcher::answers::alternative_at` meets its contract. The loop's invariant: with the steps still to be asked,
--- `least` comes to the least of all, and their tests start at `at`. Assumes nothing.
+-- `least` comes to the least of all, and their tests start at `at`.
 use Prim.Native.Nat.{_+_, _-_}
 use mathlib.Core.Path.{refl}
 use native.Mathlib.Omega.{arith}
 use borrow.Author.Needs.{needs}
 use Rattle.alf.specs.Values.{stateAt}
-use Rattle.matcher.specs.Shapes.{testsOf}
+use Rattle.alternatives.specs.InMemory.{testsOf}
 use Rattle.matcher.proofs.Matching.{Stepping, stepping-last}
 use Rattle.matcher.proofs.Asked.{longer-no, stepping-start, step-fits, step-asked, stepping-next}
 use Rattle.matcher.proofs.answers.alternative_at.Statement.{statement}
@@ -28,20 +28,11 @@ loop-holds c =
     let c6 = c .before .before .before .before .before .before in
     stepping-start (c6 .pre)
 
-add-many : tie.Need-add-many Inv-loop μ-loop
-add-many c = omega arith
-
-shared-slice-read-many : tie.Need-shared-slice-read-many Inv-loop μ-loop
-shared-slice-read-many c = omega arith
-
 cast-many : tie.Need-cast-many Inv-loop μ-loop
 cast-many c =
     let c2 = c .before .before in
     let c9 = c2 .before .before .before .before .before .before .before in
     omega (arith, c .shared-slice-known6 .given (c9 .args .s + c2 .loop .j))
-
-add-step-at : tie.Need-add-step-at Inv-loop μ-loop
-add-step-at c = omega arith
 
 step-at-requires : tie.Need-step-at-requires Inv-loop μ-loop
 step-at-requires c κs =
@@ -50,9 +41,6 @@ step-at-requires c κs =
     let c9 = c3 .before .before .before .before .before .before in
     step-asked (c9 .pre) (c2 .loop .inv) (c .before .loop-test .taken) (c3 .if1 .left)
 
-lesser-requires : tie.Need-lesser-requires Inv-loop μ-loop
-lesser-requires c κs = search needs
-
 add-at : tie.Need-add-at Inv-loop μ-loop
 add-at c =
     let c3 = c .before .before .before in
@@ -60,12 +48,6 @@ add-at c =
     let c11 = c4 .before .before .before .before .before .before .before in
     let l = step-fits (c11 .pre) (c4 .loop .inv) (c3 .loop-test .taken) in
     omega (arith, c11 .good)
-
-add-j : tie.Need-add-j Inv-loop μ-loop
-add-j c = omega arith
-
-loop-less : tie.Need-loop-less Inv-loop μ-loop
-loop-less c = omega arith
 
 loop-again : tie.Need-loop-again Inv-loop μ-loop
 loop-again c =
@@ -89,14 +71,14 @@ alternative-at-spec =
     μ-loop
     returns
     loop-holds
-    add-many
-    shared-slice-read-many
+    (λ c. omega arith)  -- add-many
+    (λ c. omega arith)  -- shared-slice-read-many
     cast-many
-    add-step-at
+    (λ c. omega arith)  -- add-step-at
     step-at-requires
-    lesser-requires
+    (λ c κs. search needs)  -- lesser-requires
     add-at
-    add-j
-    loop-less
+    (λ c. omega arith)  -- add-j
+    (λ c. omega arith)  -- loop-less
     loop-again
     returns-2)

@@ -1,12 +1,12 @@
 -- `matcher::answers::match_event` meets its contract. The loop's invariant is Walking: with the alternatives still to
--- be tried, `best` comes to the best of all and k to the number tried. Assumes nothing.
+-- be tried, `best` comes to the best of all and k to the number tried.
 use Prim.Native.Nat.{_-_}
 use mathlib.Core.Path.{_∙_, sym}
 use native.Mathlib.Omega.{arith}
 use borrow.Author.Needs.{needs}
 use lib.ListN.{length}
 use Rattle.alf.specs.Values.{stateAt}
-use Rattle.matcher.specs.Shapes.{testsOf}
+use Rattle.alternatives.specs.InMemory.{testsOf}
 use Rattle.matcher.proofs.Walking.{Walking, walking-first, walking-yes, walking-next}
 use Rattle.matcher.proofs.Walking.{walking-end, alternative-asked}
 use Rattle.matcher.proofs.answers.match_event.Statement.{statement}
@@ -24,9 +24,6 @@ loop-holds c =
     let c6 = c .before .before .before .before .before .before in
     walking-first (c6 .pre .asked)
 
-shared-slice-read-n : tie.Need-shared-slice-read-n Inv-loop μ-loop
-shared-slice-read-n c = omega arith
-
 cast-n : tie.Need-cast-n Inv-loop μ-loop
 cast-n c =
     let c2 = c .before .before in
@@ -38,12 +35,6 @@ alternative-at-requires c κs =
     let c9 = c2 .before .before .before .before .before .before .before in
     alternative-asked (c9 .pre .asked) (c2 .loop .inv) (c .before .loop-test .taken)
 
-add-t20 : tie.Need-add-t20 Inv-loop μ-loop
-add-t20 c = omega arith
-
-cast-t21 : tie.Need-cast-t21 Inv-loop μ-loop
-cast-t21 c = omega arith
-
 returns : tie.Need-returns Inv-loop μ-loop
 returns c =
     let c3 = c .before .before .before in
@@ -51,9 +42,6 @@ returns c =
     let c11 = c4 .before .before .before .before .before .before .before in
     walking-yes (c11 .pre .asked) (c4 .loop .inv) (c3 .loop-test .taken) (c11 .pre .event)
     (sym (c .before .alternative-at .ensures) ∙ c .if1 .taken)
-
-greater-requires : tie.Need-greater-requires Inv-loop μ-loop
-greater-requires c κs = search needs
 
 pass-requires : tie.Need-pass-requires Inv-loop μ-loop
 pass-requires c κs =
@@ -71,12 +59,6 @@ add-s c =
     let w = alternative-asked (c13 .pre .asked) (c6 .loop .inv) (c5 .loop-test .taken) in
     omega (arith, w .there, c13 .good)
 
-add-k : tie.Need-add-k Inv-loop μ-loop
-add-k c = omega arith
-
-loop-less : tie.Need-loop-less Inv-loop μ-loop
-loop-less c = omega arith
-
 loop-again : tie.Need-loop-again Inv-loop μ-loop
 loop-again c =
     let c2 = c .before .before in
@@ -87,12 +69,6 @@ loop-again c =
     rw (c .pass .ensures, c .before .greater .ensures)
     (walking-next (c13 .pre .asked) (c6 .loop .inv) (c5 .loop-test .taken) _
     (c3 .alternative-at .ensures) (c2 .if1 .left))
-
-name-of-requires : tie.Need-name-of-requires Inv-loop μ-loop
-name-of-requires c κs = search needs
-
-cast-t23 : tie.Need-cast-t23 Inv-loop μ-loop
-cast-t23 c = omega arith
 
 returns-2 : tie.Need-returns-2 Inv-loop μ-loop
 returns-2 c =
@@ -108,18 +84,18 @@ match-event-spec =
     Inv-loop
     μ-loop
     loop-holds
-    shared-slice-read-n
+    (λ c. omega arith)  -- shared-slice-read-n
     cast-n
     alternative-at-requires
-    add-t20
-    cast-t21
+    (λ c. omega arith)  -- add-t20
+    (λ c. omega arith)  -- cast-t21
     returns
-    greater-requires
+    (λ c κs. search needs)  -- greater-requires
     pass-requires
     add-s
-    add-k
-    loop-less
+    (λ c. omega arith)  -- add-k
+    (λ c. omega arith)  -- loop-less
     loop-again
-    name-of-requires
-    cast-t23
+    (λ c κs. search needs)  -- name-of-requires
+    (λ c. omega arith)  -- cast-t23
     returns-2)

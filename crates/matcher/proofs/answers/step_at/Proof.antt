@@ -1,10 +1,10 @@
 -- `matcher::answers::step_at` meets its contract. The loop's invariant: with the tests still to be asked, `least` comes
--- to the least of all. Assumes nothing.
+-- to the least of all.
 use Prim.Native.Nat.{_+_, _-_}
 use native.Mathlib.Omega.{arith}
 use borrow.Author.Needs.{needs}
 use Rattle.alf.specs.Values.{stateAt}
-use Rattle.matcher.specs.Shapes.{testsOf}
+use Rattle.alternatives.specs.InMemory.{testsOf}
 use Rattle.matcher.proofs.Matching.{Asking, asking-first, asking-last}
 use Rattle.matcher.proofs.Asked.{test-asked, asking-next}
 use Rattle.matcher.proofs.answers.step_at.Statement.{statement}
@@ -20,21 +20,6 @@ abbrev μ-loop : tie.MeasureT-loop
 loop-holds : tie.Need-loop-holds Inv-loop μ-loop
 loop-holds c = asking-first
 
-add-k : tie.Need-add-k Inv-loop μ-loop
-add-k c = omega arith
-
-shared-slice-read-k : tie.Need-shared-slice-read-k Inv-loop μ-loop
-shared-slice-read-k c = omega arith
-
-add-end : tie.Need-add-end Inv-loop μ-loop
-add-end c = omega arith
-
-mul-end : tie.Need-mul-end Inv-loop μ-loop
-mul-end c = omega arith
-
-shared-slice-read-end : tie.Need-shared-slice-read-end Inv-loop μ-loop
-shared-slice-read-end c = omega arith
-
 cast-end : tie.Need-cast-end Inv-loop μ-loop
 cast-end c =
     let c3 = c .before .before .before in
@@ -46,15 +31,6 @@ test-at-requires : tie.Need-test-at-requires Inv-loop μ-loop
 test-at-requires c κs =
     let c8 = c .before .before .before .before .before .before .before .before in
     test-asked (c8 .pre) (c .before .before .before .loop .i) (omega arith)
-
-lesser-requires : tie.Need-lesser-requires Inv-loop μ-loop
-lesser-requires c κs = search needs
-
-add-i : tie.Need-add-i Inv-loop μ-loop
-add-i c = omega arith
-
-loop-less : tie.Need-loop-less Inv-loop μ-loop
-loop-less c = omega arith
 
 loop-again : tie.Need-loop-again Inv-loop μ-loop
 loop-again c =
@@ -73,15 +49,15 @@ step-at-spec =
     Inv-loop
     μ-loop
     loop-holds
-    add-k
-    shared-slice-read-k
-    add-end
-    mul-end
-    shared-slice-read-end
+    (λ c. omega arith)  -- add-k
+    (λ c. omega arith)  -- shared-slice-read-k
+    (λ c. omega arith)  -- add-end
+    (λ c. omega arith)  -- mul-end
+    (λ c. omega arith)  -- shared-slice-read-end
     cast-end
     test-at-requires
-    lesser-requires
-    add-i
-    loop-less
+    (λ c κs. search needs)  -- lesser-requires
+    (λ c. omega arith)  -- add-i
+    (λ c. omega arith)  -- loop-less
     loop-again
     returns)

@@ -1,10 +1,10 @@
 -- `matcher::tables::match_all` meets its contract. The loop's invariant is Filling: the rows before i are in both
--- lists. Assumes nothing.
+-- lists.
 use Prim.Native.Nat.{_-_}
 use native.Mathlib.Omega.{arith}
 use borrow.Author.Needs.{needs}
 use Rattle.alf.specs.Values.{stateAt}
-use Rattle.matcher.specs.Shapes.{alternativesOf}
+use Rattle.alternatives.specs.InMemory.{alternativesOf}
 use Rattle.matcher.proofs.Filling.{row-asked, Filling, filling-first, filling-next, filling-end}
 use Rattle.matcher.proofs.Filling.{answers-length, tried-length}
 use Rattle.matcher.proofs.tables.match_all.Statement.{statement}
@@ -19,36 +19,24 @@ abbrev μ-loop : tie.MeasureT-loop
 μ-loop tree names states steps tests edges operands n answers₀ tried₀ i₀ answers tried i = n - i
 
 loop-holds : tie.Need-loop-holds Inv-loop μ-loop
-loop-holds c =
-    let c8 = c .before .before .before .before .before .before .before .before in
-    filling-first (c8 .pre .room) (c8 .pre .space)
+loop-holds c = filling-first
 
 match-row-requires : tie.Need-match-row-requires Inv-loop μ-loop
 match-row-requires c κs =
-    let c10 = c .before .before .before .before .before .before .before .before .before .before in
-    row-asked _ (c10 .pre .asked) (c .loop-test .taken)
-
-number-of-requires : tie.Need-number-of-requires Inv-loop μ-loop
-number-of-requires c κs = search needs
+    let start = c .before .before .before .before .before .before .before .before .before .before in
+    row-asked _ (start .pre .asked) (c .loop-test .taken)
 
 slice-write-answers : tie.Need-slice-write-answers Inv-loop μ-loop
 slice-write-answers c =
-    let c3 = c .before .before .before in
-    omega (arith, answers-length (c3 .loop .inv), c3 .loop .inv .room)
-
-mul-tried : tie.Need-mul-tried Inv-loop μ-loop
-mul-tried c = omega arith
+    let turn = c .before .before .before in
+    let start = turn .before .before .before .before .before .before .before .before .before in
+    omega (arith, answers-length (turn .loop .inv), start .pre .room)
 
 slice-write-tried : tie.Need-slice-write-tried Inv-loop μ-loop
 slice-write-tried c =
-    let c3 = c .before .before .before in
-    omega (arith, tried-length (c3 .loop .inv), c3 .loop .inv .space)
-
-add-i : tie.Need-add-i Inv-loop μ-loop
-add-i c = omega arith
-
-loop-less : tie.Need-loop-less Inv-loop μ-loop
-loop-less c = omega arith
+    let turn = c .before .before .before in
+    let start = turn .before .before .before .before .before .before .before .before .before in
+    omega (arith, tried-length (turn .loop .inv), start .pre .space)
 
 loop-again : tie.Need-loop-again Inv-loop μ-loop
 loop-again c =
@@ -63,7 +51,10 @@ same-length-2 : tie.Need-same-length-2 Inv-loop μ-loop
 same-length-2 c = tried-length (c .before .loop .inv)
 
 returns : tie.Need-returns Inv-loop μ-loop
-returns c = filling-end (c .before .loop .inv) (c .loop-test .left)
+returns c =
+    let end = c .before in
+    let start = end .before .before .before .before .before .before .before .before .before in
+    filling-end (end .loop .inv) (c .loop-test .left) (start .pre .room) (start .pre .space)
 
 pub match-all-spec : {M : Type 1} → statement M
 match-all-spec =
@@ -73,12 +64,12 @@ match-all-spec =
     μ-loop
     loop-holds
     match-row-requires
-    number-of-requires
+    (λ c κs. search needs)  -- number-of-requires
     slice-write-answers
-    mul-tried
+    (λ c. omega arith)  -- mul-tried
     slice-write-tried
-    add-i
-    loop-less
+    (λ c. omega arith)  -- add-i
+    (λ c. omega arith)  -- loop-less
     loop-again
     same-length
     same-length-2

@@ -1,18 +1,17 @@
--- `matcher::tables::number_at` meets its contract. Assumes nothing.
+-- `matcher::tables::number_at` meets its contract.
 use mathlib.Core.Path.{ap, _∙_}
 use Rattle.alf.specs.Windows.{numberOf}
 use borrow.Author.Needs.{needs}
 use Rattle.matcher.proofs.tables.number_at.Statement.{statement}
 use Rattle.matcher.proofs.tables.number_at.Tie as tie
 
-match-row-requires : tie.Need-match-row-requires
-match-row-requires c κs = search needs
-
-number-of-requires : tie.Need-number-of-requires
-number-of-requires c κs = search needs
-
 returns : tie.Need-returns
 returns c = c .number-of .ensures ∙ ap numberOf (c .before .match-row .ensures .is)
 
 pub number-at-spec : {M : Type 1} → statement M
-number-at-spec = tie.close (tie.spec match-row-requires number-of-requires returns)
+number-at-spec =
+    tie.close
+    (tie.spec
+    (λ c κs. search needs)  -- match-row-requires
+    (λ c κs. search needs)  -- number-of-requires
+    returns)

@@ -1,21 +1,9 @@
--- `matcher::tables::number_of` meets its contract. Assumes nothing.
+-- `matcher::tables::number_of` meets its contract.
 use mathlib.Core.Path.{ap, sym}
 use Rattle.alf.specs.Windows.{numberOf}
 use borrow.Author.Needs.{needs}
 use Rattle.matcher.proofs.tables.number_of.Statement.{statement}
 use Rattle.matcher.proofs.tables.number_of.Tie as tie
-
-enum-told : tie.Need-enum-told
-enum-told c = search needs
-
-enum-told-2 : tie.Need-enum-told-2
-enum-told-2 c = search needs
-
-enum-told-3 : tie.Need-enum-told-3
-enum-told-3 c = search needs
-
-enum-told-4 : tie.Need-enum-told-4
-enum-told-4 c = search needs
 
 returns : tie.Need-returns
 unfolding numberOf
@@ -36,4 +24,12 @@ returns-4 c = ap numberOf (sym (c .enum-told4 .given .1))
 pub number-of-spec : {M : Type 1} → statement M
 number-of-spec =
     tie.close
-    (tie.spec enum-told enum-told-2 enum-told-3 enum-told-4 returns returns-2 returns-3 returns-4)
+    (tie.spec
+    (λ c. search needs)  -- enum-told
+    (λ c. search needs)  -- enum-told-2
+    (λ c. search needs)  -- enum-told-3
+    (λ c. search needs)  -- enum-told-4
+    returns
+    returns-2
+    returns-3
+    returns-4)

@@ -1,4 +1,4 @@
--- `matcher::tables::same` meets its contract. Assumes nothing.
+-- `matcher::tables::same` meets its contract.
 use mathlib.Core.Path.{refl}
 use borrow.Author.Tests.{eq-eqb, ne-eqb}
 use Rattle.matcher.proofs.tables.same.Statement.{statement}

@@ -1,14 +1,13 @@
 -- `matcher::tables::totals` meets its contract. The loop's invariant is Counting: the totals of the rows before i.
--- Assumes nothing.
 use Prim.Native.Nat.{_-_}
 use native.Mathlib.Omega.{arith}
 use borrow.Author.Needs.{needs}
 use lib.Dec.{eqb}
 use Rattle.alf.specs.Values.{stateAt}
-use Rattle.matcher.specs.Shapes.{alternativesOf}
+use Rattle.alternatives.specs.InMemory.{alternativesOf}
 use Rattle.matcher.proofs.Filling.{row-asked, Counting, counting-first, counting-next}
 use Rattle.matcher.proofs.Filling.{counting-end, counted-small}
-use Rattle.alf.proofs.Counts.{one-small}
+use Rattle.basics.proofs.Counts.{one-small}
 use Rattle.matcher.proofs.tables.totals.Statement.{statement}
 use Rattle.matcher.proofs.tables.totals.Tie as tie
 
@@ -27,18 +26,12 @@ number-at-requires c κs =
     let c8 = c .before .before .before .before .before .before .before .before in
     row-asked _ (c8 .pre) (c .loop-test .taken)
 
-same-requires : tie.Need-same-requires Inv-loop μ-loop
-same-requires c κs = search needs
-
 add-yes : tie.Need-add-yes Inv-loop μ-loop
 add-yes c =
     let c3 = c .before .before .before in
     let c10 = c3 .before .before .before .before .before .before .before in
     let s = counted-small (c3 .loop .inv) in
     omega (arith, c .same .ensures, one-small (eqb (c .before .number-at .result) 1), c10 .pre .rows .few)
-
-same-requires-2 : tie.Need-same-requires-2 Inv-loop μ-loop
-same-requires-2 c κs = search needs
 
 add-no : tie.Need-add-no Inv-loop μ-loop
 add-no c =
@@ -48,9 +41,6 @@ add-no c =
     let s = counted-small (c4 .loop .inv) in
     omega (arith, c .same2 .ensures, one-small (eqb (c2 .number-at .result) 0), c11 .pre .rows .few)
 
-same-requires-3 : tie.Need-same-requires-3 Inv-loop μ-loop
-same-requires-3 c κs = search needs
-
 add-unknown : tie.Need-add-unknown Inv-loop μ-loop
 add-unknown c =
     let c3 = c .before .before .before in
@@ -58,12 +48,6 @@ add-unknown c =
     let c12 = c5 .before .before .before .before .before .before .before in
     let s = counted-small (c5 .loop .inv) in
     omega (arith, c .same3 .ensures, one-small (eqb (c3 .number-at .result) 2), c12 .pre .rows .few)
-
-add-i : tie.Need-add-i Inv-loop μ-loop
-add-i c = omega arith
-
-loop-less : tie.Need-loop-less Inv-loop μ-loop
-loop-less c = omega arith
 
 loop-again : tie.Need-loop-again Inv-loop μ-loop
 loop-again c =
@@ -85,13 +69,13 @@ totals-spec =
     μ-loop
     loop-holds
     number-at-requires
-    same-requires
+    (λ c κs. search needs)  -- same-requires
     add-yes
-    same-requires-2
+    (λ c κs. search needs)  -- same-requires-2
     add-no
-    same-requires-3
+    (λ c κs. search needs)  -- same-requires-3
     add-unknown
-    add-i
-    loop-less
+    (λ c. omega arith)  -- add-i
+    (λ c. omega arith)  -- loop-less
     loop-again
     returns)

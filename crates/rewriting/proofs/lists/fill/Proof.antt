@@ -1,8 +1,7 @@
--- `rewriting::lists::fill` meets its contract. The loop's invariant: the alternatives passed are written. Assumes
--- nothing.
+-- `rewriting::lists::fill` meets its contract. The loop's invariant: the alternatives passed are written.
 use Prim.Native.Nat.{_-_}
 use native.Mathlib.Omega.{arith}
-use Rattle.limits.proofs.Acceptance.{accepted-vector}
+use Rattle.acceptance.proofs.Acceptance.{accepted-vector}
 use Rattle.rewriting.specs.Lists.{alternativesAt}
 use Rattle.rewriting.proofs.Bounds.{count-exact, accepted-chosen}
 use Rattle.rewriting.proofs.Filling.{Filling, filling-first, filling-lengths}
@@ -23,7 +22,8 @@ abbrev μ-loop : tie.MeasureT-loop
 
 count-of-requires : tie.Need-count-of-requires Inv-loop μ-loop
 count-of-requires c κs =
-    accepted-vector _ _ (c .before .before .before .before .before .pre .accepted)
+    let start = c .before .before .before .before .before in
+    accepted-vector _ _ (start .pre .accepted)
 
 loop-holds : tie.Need-loop-holds Inv-loop μ-loop
 loop-holds c =
@@ -73,14 +73,6 @@ add-s c =
     in
     omega arith
 
-add-t : tie.Need-add-t Inv-loop μ-loop
-add-t c =
-    omega arith
-
-loop-less : tie.Need-loop-less Inv-loop μ-loop
-loop-less c =
-    omega arith
-
 loop-again : tie.Need-loop-again Inv-loop μ-loop
 loop-again c =
     let w = c .before .before .before .before .before .before in
@@ -126,8 +118,8 @@ fill-spec =
     slice-write-steps
     put-alternative-requires
     add-s
-    add-t
-    loop-less
+    (λ c. omega arith)  -- add-t
+    (λ c. omega arith)  -- loop-less
     loop-again
     same-length
     same-length-2

@@ -1,8 +1,8 @@
 -- `rewriting::lists::lengths_of` meets its contract. The loop's invariant: the steps and tests of the alternatives
--- passed. Assumes nothing.
+-- passed.
 use Prim.Native.Nat.{_-_}
 use native.Mathlib.Omega.{arith}
-use Rattle.limits.proofs.Acceptance.{accepted-vector}
+use Rattle.acceptance.proofs.Acceptance.{accepted-vector}
 use Rattle.rewriting.specs.Lists.{alternativesAt}
 use Rattle.rewriting.proofs.Bounds.{count-exact, accepted-chosen}
 use Rattle.rewriting.proofs.Filling.{Counting, counting-first, counting-end}
@@ -48,12 +48,6 @@ add-tests c =
     (omega (arith, e, c3 .loop-test .taken)) in
     omega (arith, r .1)
 
-add-t : tie.Need-add-t Inv-loop μ-loop
-add-t c = omega arith
-
-loop-less : tie.Need-loop-less Inv-loop μ-loop
-loop-less c = omega arith
-
 loop-again : tie.Need-loop-again Inv-loop μ-loop
 loop-again c =
     let c2 = c .before .before in
@@ -79,7 +73,7 @@ lengths-of-spec =
     shape-of-requires
     add-steps
     add-tests
-    add-t
-    loop-less
+    (λ c. omega arith)  -- add-t
+    (λ c. omega arith)  -- loop-less
     loop-again
     returns)

@@ -1,5 +1,4 @@
 -- `rewriting::lists::put_alternative` meets its contract. The loop's invariant: the steps passed are written.
--- Assumes nothing.
 use Prim.Native.Nat.{_-_}
 use native.Mathlib.Omega.{arith}
 use Rattle.rewriting.specs.Lists.{alternativeOf}
@@ -59,12 +58,6 @@ slice-write-tests c =
     let c13 = c8 .before .before .before .before .before in
     counts-room (c13 .pre) (c8 .loop .inv) (c4 .before .before .before .loop-test .taken)
 
-add-j : tie.Need-add-j Inv-loop μ-loop
-add-j c = omega arith
-
-loop-less : tie.Need-loop-less Inv-loop μ-loop
-loop-less c = omega arith
-
 loop-again : tie.Need-loop-again Inv-loop μ-loop
 loop-again c =
     let c4 = c .before .before .before .before in
@@ -101,8 +94,8 @@ put-alternative-spec =
     cast-tests
     add-tests
     slice-write-tests
-    add-j
-    loop-less
+    (λ c. omega arith)  -- add-j
+    (λ c. omega arith)  -- loop-less
     loop-again
     same-length
     same-length-2

@@ -1,4 +1,4 @@
--- `write_in` lends a beginning of the buffer. Assumes nothing.
+-- `write_in` lends a beginning of the buffer.
 use native.Mathlib.Omega.{arith}
 use mathlib.Core.Path.{sym}
 use lib.Seq.{length-take-le}

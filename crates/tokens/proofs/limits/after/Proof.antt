@@ -1,4 +1,4 @@
--- `after` says what a token changes: each way out by its own law. Assumes nothing.
+-- `after` says what a token changes: each way out by its own law.
 use borrow.Author.Needs.{needs}
 use native.Mathlib.Omega.{arith}
 use Rattle.tokens.proofs.Counts.{opens, closes-none, closes, leaves, uncounted, counts}

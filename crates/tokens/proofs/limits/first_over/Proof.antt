@@ -1,5 +1,5 @@
 -- `first_over` gives the first token that goes over the limit. The invariant: those passed do not, and the search in
--- the rest is the search in all. Assumes nothing.
+-- the rest is the search in all.
 use borrow.Author.Needs.{needs}
 use native.Mathlib.Omega.{arith}
 use mathlib.Core.Path.{_≡_}
@@ -24,18 +24,20 @@ loop-holds c = (omega arith, omega arith, omega arith)
 
 returns : tie.Need-returns Inv-loop μ-loop
 returns c =
-    over-hit _ _ _ _ (c .before .before .before .before .before .pre .there) _ _
-    (c .before .before .before .before .loop .inv .2) (c .before .before .before .loop-test .taken)
+    let at-loop = c .before .before .before .before in
+    over-hit _ _ _ _ (at-loop .before .pre .there) _ _
+    (at-loop .loop .inv .2) (c .before .before .before .loop-test .taken)
     (c .before .after .ensures) (c .if1 .taken)
 
 loop-again : tie.Need-loop-again Inv-loop μ-loop
-loop-again c = (
-  omega arith,
-  c .if1 .left,
-  over-more _ _ _ _ (c .before .before .before .before .before .pre .there) _ _
-      (c .before .before .before .before .loop .inv .2) (c .before .before .before .loop-test .taken)
-      (c .before .after .ensures) (c .if1 .left),
-)
+loop-again c =
+    let at-loop = c .before .before .before .before in (
+      omega arith,
+      c .if1 .left,
+      over-more _ _ _ _ (at-loop .before .pre .there) _ _
+          (at-loop .loop .inv .2) (c .before .before .before .loop-test .taken)
+          (c .before .after .ensures) (c .if1 .left),
+    )
 
 returns-2 : tie.Need-returns-2 Inv-loop μ-loop
 returns-2 c =

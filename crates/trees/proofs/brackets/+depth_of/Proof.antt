@@ -1,4 +1,4 @@
--- `trees::brackets::depth_of` meets its contract, by recursion on the bytes before `end`. Assumes nothing.
+-- `trees::brackets::depth_of` meets its contract, by recursion on the bytes before `end`.
 use borrow.Author.Needs.{needs}
 use native.Mathlib.Omega.{arith}
 use Rattle.trees.proofs.Starts.{ends-pos}

@@ -1,4 +1,4 @@
--- `trees::brackets::bracket` meets its contract. Assumes nothing.
+-- `trees::brackets::bracket` meets its contract.
 use native.Mathlib.Omega.{arith}
 use mathlib.Core.Path.{refl}
 use borrow.Author.Tests.{lt-ltb, le-ltb}

@@ -1,4 +1,4 @@
--- `trees::brackets::level` meets its contract: the table has the levels. Assumes nothing.
+-- `trees::brackets::level` meets its contract: the table has the levels.
 use mathlib.Core.Path.{sym}
 use Rattle.trees.proofs.Levels.{level-table, level-leaf, level-condition, level-choice, level-one}
 use borrow.Author.Needs.{needs}

@@ -1,4 +1,4 @@
--- `trees::parts::arity` meets its contract: the four classes of bytes. Assumes nothing.
+-- `trees::parts::arity` meets its contract: the four classes of bytes.
 use Rattle.alf.proofs.Parts.{arity-zero, arity-two, arity-three, arity-one}
 use mathlib.Core.Path.{sym}
 use Rattle.trees.proofs.parts.arity.Statement.{statement}

@@ -1,5 +1,5 @@
 -- `trees::parts::start_of` meets its contract. The loop's invariant: from `end` back to `at`, `need` expressions are
--- still to be passed. Assumes nothing.
+-- still to be passed.
 use native.Mathlib.Omega.{arith}
 use borrow.Author.Needs.{needs}
 use Rattle.trees.proofs.Starts.{Going, going-first, going-on, going-done}

@@ -1,4 +1,4 @@
--- `trees::sorts::part_of` meets its contract, by recursion on the bytes before `end`. Assumes nothing.
+-- `trees::sorts::part_of` meets its contract, by recursion on the bytes before `end`.
 use borrow.Author.Needs.{needs}
 use native.Mathlib.Omega.{arith}
 use native.Mathlib.Nat.{pos-of-ne-zero}

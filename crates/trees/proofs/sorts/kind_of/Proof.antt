@@ -1,4 +1,4 @@
--- `trees::sorts::kind_of` meets its contract. Assumes nothing.
+-- `trees::sorts::kind_of` meets its contract.
 use Rattle.trees.proofs.Trees.{whole-more, whole-boolean, whole-vector, whole-none}
 use borrow.Author.Needs.{needs}
 use Rattle.trees.proofs.sorts.kind_of.Statement.{statement}

@@ -1,4 +1,4 @@
--- `trees::sorts::leaf_kind` meets its contract. Assumes nothing.
+-- `trees::sorts::leaf_kind` meets its contract.
 use mathlib.Core.Path.{refl}
 use borrow.Author.Tests.{lt-ltb, le-ltb}
 use Rattle.trees.specs.Sorts.{leafKind}

@@ -1,4 +1,4 @@
--- `trees::sorts::one_kind` meets its contract. Assumes nothing.
+-- `trees::sorts::one_kind` meets its contract.
 use mathlib.Core.Path.{refl}
 use borrow.Author.Tests.{eq-eqb, ne-eqb, lt-ltb, le-ltb}
 use Rattle.trees.specs.Sorts.{oneKind}

@@ -1,4 +1,4 @@
--- `trees::sorts::place` meets its contract. Assumes nothing.
+-- `trees::sorts::place` meets its contract.
 use mathlib.Core.Path.{refl}
 use borrow.Author.Tests.{eq-eqb, ne-eqb}
 use Rattle.trees.specs.Sorts.{placed}

@@ -1,5 +1,5 @@
 -- `emit`, `emit_two` and `emit_three` meet their contracts, by recursion on the bytes before `end`: what is to be
--- written from a place on is written part by part. Assumes nothing.
+-- written from a place on is written part by part.
 mod Calls
 mod Any
 mod Two

@@ -1,4 +1,4 @@
--- `code_of` reads the table of Layouts.antt. Assumes nothing.
+-- `code_of` meets its contract, by the table of codes.
 use borrow.Author.Needs.{needs}
 use Rattle.writer.proofs.Tables.{code-table}
 use Rattle.writer.proofs.layout.code_of.Statement.{statement}

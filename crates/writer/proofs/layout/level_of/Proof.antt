@@ -1,4 +1,4 @@
--- `level_of` reads the table of Layouts.antt. Assumes nothing.
+-- `level_of` meets its contract, by the table of levels.
 use borrow.Author.Needs.{needs}
 use Rattle.writer.proofs.Tables.{level-table}
 use Rattle.writer.proofs.layout.level_of.Statement.{statement}

@@ -3,16 +3,14 @@
 --   μ-X          the measure of X
 --   X-at         X is called at a measure; X-below: below it
 --   calls-X      what is known of the functions that X calls
--- Assumes nothing.
 use Prim.Native.Nat.{ℕ, _<_, _+_, _*_}
 use borrow.Fn.Kinds.{In}
 use borrow.Fn.PlainCycle.{Measures, is, falls, and}
 use Rattle.trees.proofs.parts.start_of.Reads as start-of-reads
 use Rattle.writer.proofs.layout.code_of.Reads as code-of-reads
 use Rattle.writer.proofs.layout.level_of.Reads as level-of-reads
-use Rattle.writer.proofs.puts.close.Reads as close-reads
-use Rattle.writer.proofs.puts.open.Reads as open-reads
-use Rattle.writer.proofs.puts.push.Reads as push-reads
+use Rattle.writer.proofs.layout.put_bracket.Reads as bracket-reads
+use Rattle.basics.proofs.puts.push.Reads as push-reads
 use Rattle.writer.proofs.layout.emit.Reads as emit
 use Rattle.writer.proofs.layout.emit.Kinds as emit-kinds
 use Rattle.writer.proofs.layout.+emit+emit_three+emit_two.Lts-emit as emit-lts
@@ -66,14 +64,12 @@ abbrev pub calls-emit-three : ℕ → emit-three-lts.Claims
 calls-emit-three t = (
   start-of-reads.Asked,
   start-of-reads.Learnt,
-  open-reads.Asked,
-  open-reads.Learnt,
+  bracket-reads.Asked,
+  bracket-reads.Learnt,
   emit-below t,
   emit.Post,
   push-reads.Asked,
   push-reads.Learnt,
-  close-reads.Asked,
-  close-reads.Learnt,
 )
 
 abbrev pub calls-emit-two : ℕ → emit-two-lts.Claims
@@ -82,14 +78,12 @@ calls-emit-two t = (
   level-of-reads.Learnt,
   start-of-reads.Asked,
   start-of-reads.Learnt,
-  open-reads.Asked,
-  open-reads.Learnt,
+  bracket-reads.Asked,
+  bracket-reads.Learnt,
   emit-below t,
   emit.Post,
   code-of-reads.Asked,
   code-of-reads.Learnt,
   push-reads.Asked,
   push-reads.Learnt,
-  close-reads.Asked,
-  close-reads.Learnt,
 )

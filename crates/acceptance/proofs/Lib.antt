@@ -1,0 +1,7 @@
+-- The laws that limit 8 is counted by.
+pub mod CappedCounts
+pub mod Numbers
+pub mod CappedSizes
+pub mod Chosen
+pub mod Measures
+pub mod Acceptance

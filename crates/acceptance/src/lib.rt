@@ -1,0 +1,3 @@
+// The size of a vector expression, as a tree, in alternatives, steps and tests: limit 8.
+pub mod accepting;
+pub mod sizes;

@@ -1,0 +1,20 @@
+-- The laws of what every crate needs.
+pub mod Bools
+pub mod Choices
+pub mod Deciding
+pub mod Stable
+pub mod Ranges
+pub mod Upto
+pub mod ByteTests
+pub mod ByteMatches
+pub mod Counts
+pub mod Extremes
+pub mod Seeking
+pub mod AllEntries
+pub mod Entries
+pub mod Memory
+pub mod Stores
+pub mod Listed
+pub mod Tables
+pub mod PartByPart
+pub mod Stages

@@ -1,0 +1,5 @@
+-- The laws of this crate.
+pub mod Unique
+pub mod Theorems
+pub mod Routes
+pub mod ThreeRoutes

@@ -1,0 +1,205 @@
+-- What the calls promise together.
+--   routes-taken                 as written, by alternatives and by the queue: one answer, where no call is refused
+--   correction-keeps-right       a list of answers that was right is right after a correction
+--   correction-reaches, correction-stays    what is rewritten is right, whatever stood there; the rest stays
+--   totals-together              yes, no and unknown together are n-1
+use mathlib.Core.Path.{_≡_, refl, ap, sym, _∙_}
+use mathlib.Core.Bool.{Bool, true, false}
+use mathlib.Core.Logic.{_⊎_, inl, inr}
+use mathlib.Core.List.{List}
+use Prim.Native.Nat.{ℕ, suc, _+_, _-_, _*_, _<_, _≤_}
+use native.Mathlib.Nat.{suc-mul, mul-le-mul-right}
+use native.Mathlib.Omega.{arith}
+use lib.ListN.{length, getD}
+use Rattle.alf.specs.declared.Answer.{Answer}
+use Rattle.alf.specs.declared.Sort.{Sort}
+use Rattle.alf.specs.declared.Sort.the-variants as sort
+use Rattle.basics.specs.declared.Outcome.the-variants as outcome
+use Rattle.alf.specs.Expressions.{Expression, boolean, vector, Over, VectorOver, ExpressionOver}
+use Rattle.alf.specs.Bytes.{Decodes, topVector}
+use Rattle.alf.specs.Values.{stateAt}
+use Rattle.alf.specs.Windows.{numberOf}
+use Rattle.alf.specs.Alternatives.{alternatives, stepsOf}
+use Rattle.alf.specs.Traces.{corrected, lastRewritten}
+use Rattle.alf.specs.Refusals.{Passed, Comes}
+use Rattle.basics.proofs.Bools.{below?, never}
+use Rattle.basics.proofs.Stable.{le-stable, eq-stable}
+use Rattle.basics.proofs.AllEntries.{All}
+use Rattle.alf.proofs.Conditions.{Asks, alternatives-ask, over-asked}
+use Rattle.alf.proofs.Decoding.{decode-over}
+use Rattle.alf.proofs.RowsAreAlternatives.{same-answer}
+use Rattle.alf.proofs.TraceNearness.{steps-pos, correction-elsewhere}
+use Rattle.alf.proofs.Totals.{totals-sum}
+use Rattle.acceptance.specs.Accepted.{sortOf, Accepted}
+use Rattle.matcher.specs.declared.answers.Matched.{Matched}
+use Rattle.matcher.specs.declared.tables.Total.{Total}
+use Rattle.basics.proofs.Listed.{ruled-inside, ruled-before, ruled-behind}
+use Rattle.queue.specs.declared.queues.Queue.{Queue}
+use Rattle.alternatives.specs.InMemory.{longestOf}
+use Rattle.queue.specs.Queues.{fed, Feed}
+use Rattle.call_laws.proofs.ThreeRoutes.{row-so-far}
+use Rattle.row_calls.specs.declared.written.Told.the-variants.{Answered}
+use Rattle.matching_calls.specs.declared.matching.Matching.the-variants.{Found}
+use Rattle.matching_calls.specs.declared.matching.Counting.the-variants.{Counted}
+use Rattle.judging.specs.Orders.{Rows}
+use Rattle.row_calls.specs.Written.{Tells, RowAnswer}
+use Rattle.basics.specs.Memory.{after}
+use Rattle.matching_calls.specs.Matching.{expression, answersOn, Finds, RowMatch, Counts, RowTotals}
+use Rattle.update_calls.specs.Correcting.{Lists, correctionOrder, Correction, rewritten}
+use Rattle.update_calls.specs.Pushing.{Takes, Push}
+
+rows-stable : (names n s : ℕ) → ((Rows names n s → ⊥) → ⊥) → Rows names n s
+rows-stable names n s h =
+    record {
+      name-count = (
+        le-stable 1 names (λ k. h (λ r. k (r .name-count .0))),
+        le-stable names 32 (λ k. h (λ r. k (r .name-count .1))),
+      );
+      row-count = (
+        le-stable 1 n (λ k. h (λ r. k (r .row-count .0))),
+        le-stable n 65535 (λ k. h (λ r. k (r .row-count .1))),
+      );
+      all = eq-stable s (n * names) (λ k. h (λ r. k (r .all)));
+    }
+
+lists-stable : (names n s a w : ℕ) → ((Lists names n s a w → ⊥) → ⊥) → Lists names n s a w
+lists-stable names n s a w h =
+    record {
+      room = eq-stable a n (λ k. h (λ r. k (r .room)));
+      full = eq-stable w names (λ k. h (λ r. k (r .full)));
+      rows = rows-stable names n s (λ k. h (λ r. k (r .rows)));
+    }
+
+-- an accepted vector expression is over the names
+isVectorSort : Sort → Bool
+isVectorSort sort.Boolean = false
+isVectorSort sort.Vector = true
+
+expression-over : (names : ℕ) (tree : List ℕ) → Accepted names sort.Vector tree
+    → VectorOver names (expression tree names)
+unfolding Decodes topVector sortOf isVectorSort ExpressionOver
+expression-over names tree a = go (a .expression) (a .decodes) (a .sorted)
+  where
+    go : (e : Expression) → Decodes names tree e → sortOf e ≡ sort.Vector
+        → VectorOver names (expression tree names)
+    go (boolean c) d k = never (ap isVectorSort k)
+    go (vector p) d k = rw d (decode-over names tree (vector p) d)
+
+-- Three routes: where every push of the rows of a trace is taken, the answer as written, the answer by alternatives
+-- and the answer of push i are one, and the numbers tried are one.
+module _ {names n : ℕ} {tree : List ℕ} {rows : ℕ → List ℕ} {queues : ℕ → Queue} {told : ℕ → Matched}
+    (accepted : Accepted names sort.Vector tree) (first : queues 0 .kept .0 ≡ 0)
+    (full : (i : ℕ) → i < n → length (rows i) ≡ names)
+    (pushed : (i : ℕ) → i < n → Push names tree (queues i) (rows i) (Found (told i)) (queues (suc i))) where
+  feed : Feed names (alternatives (expression tree names)) n rows queues (λ i. told i .answer) (λ i. told i .tries)
+  unfolding Takes
+  feed = record { first = first; full = full; pushes = λ i l. pushed i l .comes .1 }
+
+  asks : All (Asks (Over names)) (alternatives (expression tree names))
+  asks = alternatives-ask (Over names) _ (over-asked names _ (expression-over names tree accepted))
+
+  longest-pos : 0 < longestOf (alternatives (expression tree names))
+  unfolding stepsOf
+  longest-pos = steps-pos (expression tree names)
+
+  pub routes-taken : (i : ℕ) → i < n → {a : Answer} {m : Matched}
+      → RowAnswer names n tree (fed rows n) i (Answered a) → RowMatch names n tree (fed rows n) i (Found m)
+      → (m .answer ≡ a) × (told i .answer ≡ a) × (told i .tries ≡ m .tries)
+  unfolding Tells Finds
+  routes-taken i l w k =
+      let q = row-so-far feed asks longest-pos i l in
+      let same = same-answer (stateAt names (fed rows n)) (expression tree names) i in (
+        k .comes .1 .is ∙ sym (w .comes .1),
+        q .is ∙ sym same ∙ sym (w .comes .1),
+        q .count ∙ sym (k .comes .1 .count),
+      )
+
+-- The correction.
+module _ {names n : ℕ} {tree states answers : List ℕ} {r : ℕ} {new states′ answers′ : List ℕ} {k : ℕ}
+    (accepted : Accepted names sort.Vector tree)
+    (c : Correction names n tree states answers r new states′ answers′ (outcome.Done k)) where
+  passed : Passed (correctionOrder names n tree states answers r new)
+  unfolding Comes
+  passed = c .comes .0
+
+  lists : Lists names n (length states) (length answers) (length new)
+  unfolding Passed
+  lists = lists-stable names n _ _ _ (λ h. passed .0 0 (record { given = h; there = refl }))
+
+  below : r < n
+  unfolding Passed
+  below = le-stable (suc r) n (λ h. passed .1 .1 .1 .1 .0 0 (record { given = omega (arith, h); there = refl }))
+
+  abbrev last : ℕ
+  last = lastRewritten (stepsOf (expression tree names)) n r
+
+  reach : (r ≤ last) × (last < n) × (r + (last + 1 - r) ≡ last + 1)
+  unfolding lastRewritten
+  reach = omega (arith, below)
+
+  fits : r + (last + 1 - r) ≤ length answers
+  fits = let e = reach in omega (arith, lists .room)
+
+  whole : r * names + names ≤ length states
+  whole =
+      let m : suc r * names ≤ n * names = mul-le-mul-right names below in
+      omega (arith, m, suc-mul r names, lists .rows .all)
+
+  stored : states′ ≡ corrected names states r new
+  unfolding after
+  stored = c .states-memory
+
+  answered : answers′ ≡ rewritten names n tree answers r (corrected names states r new)
+  unfolding after
+  answered = c .answers-memory
+
+  -- an answer that is rewritten is the corrected trace's, whatever stood there
+  pub correction-reaches : (i : ℕ) → r ≤ i → i ≤ last
+      → getD answers′ i 0 ≡ answersOn names tree states′ i
+  correction-reaches i a b =
+      let f = answersOn names tree (corrected names states r new) in
+      rw stored
+      (ap (λ (l : List ℕ). getD l i 0) answered
+      ∙ ruled-inside answers r (last + 1 - r) f fits i a (omega arith))
+
+  -- the others stay
+  pub correction-stays : (i : ℕ) → (i < r) ⊎ (last < i) → getD answers′ i 0 ≡ getD answers i 0
+  correction-stays i (inl l) =
+      ap (λ (a : List ℕ). getD a i 0) answered
+      ∙ ruled-before answers r (last + 1 - r) (answersOn names tree (corrected names states r new)) fits i l
+  correction-stays i (inr l) =
+      let f = answersOn names tree (corrected names states r new) in
+      ap (λ (a : List ℕ). getD a i 0) answered
+      ∙ ruled-behind answers r (last + 1 - r) f fits i (omega (arith, reach))
+
+  -- and they are the corrected trace's too, if they were the trace's
+  stays-right : (i : ℕ) → (i < r) ⊎ (r + stepsOf (expression tree names) < i)
+      → answersOn names tree states i ≡ answersOn names tree states′ i
+  stays-right i w =
+      let o = expression-over names tree accepted in
+      rw stored
+      (ap numberOf (sym (correction-elsewhere names states new r whole (lists .full) (expression tree names) o i w)))
+
+  beyond : (i : ℕ) → i < n → last < i → r + stepsOf (expression tree names) < i
+  unfolding lastRewritten
+  beyond i h l = omega arith
+
+  pub correction-keeps-right : ((i : ℕ) → i < n → getD answers i 0 ≡ answersOn names tree states i)
+      → (i : ℕ) → i < n → getD answers′ i 0 ≡ answersOn names tree states′ i
+  correction-keeps-right right i l = go (below? i r) (below? last i)
+    where
+      go : (i < r) ⊎ (r ≤ i) → (last < i) ⊎ (i ≤ last)
+          → getD answers′ i 0 ≡ answersOn names tree states′ i
+      go (inl a) b = correction-stays i (inl a) ∙ right i l ∙ stays-right i (inl a)
+      go (inr a) (inl b) = correction-stays i (inr b) ∙ right i l ∙ stays-right i (inr (beyond i l b))
+      go (inr a) (inr b) = correction-reaches i a b
+
+-- The totals.
+pub totals-together : {names n : ℕ} {tree states : List ℕ} {t : Total} → RowTotals names n tree states (Counted t)
+    → t .yes + t .no + t .unknown ≡ n - 1
+unfolding Counts Passed
+totals-together {names} {n} {tree} {states} w =
+    let (p, t) = w .comes in
+    let l = rows-stable names n (length states) (λ h. p .0 0 (record { given = h; there = refl })) in
+    let e = totals-sum (stateAt names states) (expression tree names) n (l .row-count .0) in
+    omega (arith, t .yeses, t .noes, t .unknowns, e)

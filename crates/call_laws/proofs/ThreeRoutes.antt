@@ -1,0 +1,86 @@
+-- Three routes, one answer: at every row of every trace the answer on windows, the matcher's and the queue's are the
+-- same, and the matcher and the queue try as many alternatives.
+--   fed-prefix       what was fed first stays in front
+--   row-so-far       row i's answer and number tried depend on the rows fed so far alone
+--   three-routes
+use mathlib.Core.Path.{_≡_, refl, ap, sym, _∙_}
+use mathlib.Core.List.{List}
+use mathlib.Core.Logic.{_⊎_, inl, inr}
+use Prim.Native.Nat.{ℕ, zero, suc, _+_, _-_, _*_, _<_, _≤_}
+use native.Mathlib.Nat.{suc-mul, mul-le-mul-right}
+use native.Mathlib.Omega.{arith}
+use lib.ListN.{length, getD, List·getD-append}
+use Rattle.alf.specs.declared.Answer.{Answer}
+use Rattle.alf.specs.Expressions.{Vector, Over}
+use Rattle.alf.specs.Values.{rowOf, stateAt}
+use Rattle.alf.specs.Windows.{rowAnswer}
+use Rattle.alf.specs.Alternatives.{Alternative, alternatives}
+use Rattle.basics.proofs.Bools.{equal?}
+use Rattle.basics.proofs.AllEntries.{All}
+use Rattle.alf.proofs.Conditions.{Asks}
+use Rattle.alf.proofs.Nearness.{Near, answers-near, tries-near}
+use Rattle.alf.proofs.TraceNearness.{state-same}
+use Rattle.matcher.specs.Answers.{Matches}
+use Rattle.matcher.proofs.Agreement.{matches-windows}
+use Rattle.queue.specs.declared.queues.Queue.{Queue}
+use Rattle.alternatives.specs.InMemory.{longestOf}
+use Rattle.queue.specs.Queues.{fed, Feed}
+use Rattle.alternatives.proofs.Longest.{longest-within}
+use Rattle.queue.proofs.LastRows.{fed-length}
+use Rattle.queue.proofs.QueueTheorems.{queue-answers}
+
+fed-prefix : (rows : ℕ → List ℕ) (i n m : ℕ) → i ≤ n → m < length (fed rows i)
+    → ((j : ℕ) → i ≤ j → j ≤ n → length (fed rows i) ≤ length (fed rows j))
+    → getD (fed rows n) m 0 ≡ getD (fed rows i) m 0
+unfolding fed
+fed-prefix rows i zero m h l longer = let e : 0 ≡ i = omega arith in ap (λ (k : ℕ). getD (fed rows k) m 0) e
+fed-prefix rows i (suc n) m h l longer =
+    go (λ a. fed-prefix rows i n m a l (λ j b c. longer j b (omega arith))) (equal? i (suc n))
+  where
+    go : (i ≤ n → getD (fed rows n) m 0 ≡ getD (fed rows i) m 0) → (i ≡ suc n) ⊎ (i ≡ suc n → ⊥)
+        → getD (fed rows (suc n)) m 0 ≡ getD (fed rows i) m 0
+    go before (inl e) = ap (λ (k : ℕ). getD (fed rows k) m 0) (sym e)
+    go before (inr d) =
+        let k : i ≤ n = omega (arith, d) in
+        List·getD-append (fed rows n) (rows n) 0 m (omega (arith, longer n k (omega arith))) ∙ before k
+
+module _ {names : ℕ} {xs : List Alternative} {n : ℕ} {rows : ℕ → List ℕ} {queues : ℕ → Queue}
+    {answers : ℕ → Answer}
+    {counts : ℕ → ℕ} (f : Feed names xs n rows queues answers counts) (over : All (Asks (Over names)) xs)
+    (some : 0 < longestOf xs) (i : ℕ) (l : i < n) where
+  whole : (j : ℕ) → j ≤ n → length (fed rows j) ≡ j * names
+  whole j h = fed-length names rows j (λ k m. f .full k (omega arith))
+
+  same-row : (j k : ℕ) → j ≤ i → k < names
+      → rowOf names (fed rows (suc i)) j k ≡ rowOf names (fed rows n) j k
+  same-row j k a b =
+      let c = mul-le-mul-right {m = suc j} {n = suc i} names (omega arith) in
+      sym
+      (fed-prefix rows (suc i) n (j * names + k) l (omega (arith, whole (suc i) l, suc-mul j names))
+      (λ r d e.
+      omega (arith, whole (suc i) l, whole r e, mul-le-mul-right {m = suc i} {n = r} names d)))
+
+  near : Near (Over names) (stateAt names (fed rows (suc i))) (stateAt names (fed rows n)) (longestOf xs) i i
+  near =
+      record {
+        room = refl;
+        agree = λ d a b c o. state-same names _ _ c o (λ k m. same-row (i - d) k (omega arith) m);
+      }
+
+  pub row-so-far : Matches (stateAt names (fed rows n)) xs i (answers i) (counts i)
+  row-so-far =
+      let q = queue-answers f some i l in
+      record {
+        is = q .is ∙ answers-near (Over names) _ _ (longestOf xs) i i xs some near over (longest-within xs);
+        count = q .count ∙ tries-near (Over names) _ _ (longestOf xs) i i xs some near over (longest-within xs);
+      }
+
+  pub three-routes : (p : Vector) → xs ≡ alternatives p → {a : Answer} {t : ℕ}
+      → Matches (stateAt names (fed rows n)) xs i a t
+      → (a ≡ rowAnswer (stateAt names (fed rows n)) p i) × (answers i ≡ a) × (counts i ≡ t)
+  three-routes p same m =
+      let q = row-so-far in (
+        matches-windows (stateAt names (fed rows n)) p same m,
+        q .is ∙ sym (m .is),
+        q .count ∙ sym (m .count),
+      )

@@ -1,0 +1,3 @@
+// Which alternatives of a tree are contradictory.
+pub mod possible;
+pub mod reports;

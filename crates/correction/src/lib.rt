@@ -1,0 +1,2 @@
+// The correction of one row of a trace.
+pub mod corrections;

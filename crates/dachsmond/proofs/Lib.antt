@@ -1,5 +1,0 @@
--- The laws of handing on.
-pub mod Handed
-pub mod Unique
-pub mod Theorems
-pub mod ListTheorems

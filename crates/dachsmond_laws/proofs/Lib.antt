@@ -1,0 +1,3 @@
+-- What is told is one thing.
+pub mod Theorems
+pub mod ListTheorems

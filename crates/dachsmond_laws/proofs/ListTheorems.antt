@@ -1,0 +1,106 @@
+-- The same as Theorems.antt for the functions that check names, match by alternatives handed in as lists, and write
+-- the listing and the table's lines. Names: the function's, and `-unique`.
+use mathlib.Core.Path.{_≡_}
+use mathlib.Core.Bool.{Bool}
+use mathlib.Core.List.{List}
+use Prim.Native.Nat.{ℕ, _/_}
+use lib.ListN.{length}
+use Rattle.alf.specs.Refusals.{Comes}
+use Rattle.names.specs.Check.{namesOrder}
+use Rattle.names.proofs.Unique.{names-unique}
+use Rattle.basics.specs.Deciding.{Decides}
+use Rattle.queue.specs.declared.queues.Queue.{Queue}
+use Rattle.listed_calls.specs.Lists.{AcceptedAlternatives}
+use Rattle.listed_calls.specs.Listed.{ListedMatch, ListedAll, ListedTotals}
+use Rattle.listed_calls.proofs.Unique as listed
+use Rattle.table_lines.specs.Table.{headingLine, patternLine, refusedLine, totalLine}
+use Rattle.listing.specs.Calls.{ListsText}
+use Rattle.figures.specs.Delivering.{Delivers}
+use Rattle.listing.proofs.Theorems.{lists-unique}
+use Rattle.figures.proofs.Delivering.{delivers-unique}
+use Rattle.telling.specs.declared.Told.{Told}
+use Rattle.telling.specs.declared.Matched.{Matched}
+use Rattle.telling.specs.declared.Counted.{Counted}
+use Rattle.telling.specs.declared.Pushed.{Pushed}
+use Rattle.telling.specs.Handing.{Hands, told}
+use Rattle.telling.specs.Matching.{toldMatch, toldCounts, toldPush}
+use Rattle.telling.specs.Listed.{ListedPushes}
+use Rattle.telling.proofs.Unique.{from-both, hands-unique}
+
+-- names
+pub check-names-unique : (names : List ℕ) {r s : Told}
+    → Hands (Comes (namesOrder names) (λ k. k ≡ length names / 32)) told r
+    → Hands (Comes (namesOrder names) (λ k. k ≡ length names / 32)) told s → r ≡ s
+check-names-unique names x y = hands-unique (names-unique names) x y
+
+-- alternatives in lists
+pub listed-fits-unique : (names : ℕ) (tree steps tests edges operands : List ℕ) (q r : Bool)
+    → Decides q (AcceptedAlternatives names tree steps tests edges operands)
+    → Decides r (AcceptedAlternatives names tree steps tests edges operands) → q ≡ r
+listed-fits-unique = listed.fits-unique
+
+module _ {tree steps tests edges operands : List ℕ} where
+  module _ {names n : ℕ} {states : List ℕ} where
+    pub listed-match-row-unique : {row : ℕ} {r s : Matched}
+        → Hands (ListedMatch names n tree steps tests edges operands states row) toldMatch r
+        → Hands (ListedMatch names n tree steps tests edges operands states row) toldMatch s → r ≡ s
+    listed-match-row-unique x y = hands-unique (λ a b p q. listed.listed-match-unique p q) x y
+
+    pub listed-match-all-unique : {answers tried a t b u : List ℕ} {r s : Told}
+        → Hands (ListedAll names n tree steps tests edges operands states answers tried a t) told r
+        → Hands (ListedAll names n tree steps tests edges operands states answers tried b u) told s
+        → (r ≡ s) × (a ≡ b) × (t ≡ u)
+    listed-match-all-unique x y = (
+      hands-unique (λ a b p q. listed.listed-all-unique p q .0) x y,
+      from-both (λ a b p q. listed.listed-all-unique p q .1) x y,
+      from-both (λ a b p q. listed.listed-all-unique p q .2) x y,
+    )
+
+    pub listed-counted-unique : {r s : Counted}
+        → Hands (ListedTotals names n tree steps tests edges operands states) toldCounts r
+        → Hands (ListedTotals names n tree steps tests edges operands states) toldCounts s → r ≡ s
+    listed-counted-unique x y = hands-unique (λ a b p q. listed.listed-totals-unique p q) x y
+
+  pub listed-pushed-unique : {names : ℕ} {queue : Queue} {row : List ℕ} {r s : Pushed}
+      → Hands (ListedPushes names tree steps tests edges operands queue row) toldPush r
+      → Hands (ListedPushes names tree steps tests edges operands queue row) toldPush s → r ≡ s
+  listed-pushed-unique x y =
+      hands-unique
+      (λ a b p q. let e = listed.listed-push-unique p q in λ i. record { told = e .0 i; queue = e .1 i }) x y
+
+-- the listing, and a line of the table, whatever it holds
+pub list-unique : (times answers out : List ℕ) {a b : List ℕ} {r s : Told}
+    → Hands (ListsText times answers out a) told r → Hands (ListsText times answers out b) told s
+    → (r ≡ s) × (a ≡ b)
+list-unique times answers out x y = (
+  hands-unique (λ a b p q. lists-unique times answers out p q .0) x y,
+  from-both (λ a b p q. lists-unique times answers out p q .1) x y,
+)
+
+line-unique : (text out : List ℕ) {a b : List ℕ} {r s : Told}
+    → Hands (Delivers text out a) told r → Hands (Delivers text out b) told s → (r ≡ s) × (a ≡ b)
+line-unique text out x y = (
+  hands-unique (λ a b p q. delivers-unique text out p q .0) x y,
+  from-both (λ a b p q. delivers-unique text out p q .1) x y,
+)
+
+module _ (out : List ℕ) {a b : List ℕ} {r s : Told} where
+  pub table-heading-unique : Hands (Delivers headingLine out a) told r → Hands (Delivers headingLine out b) told s
+      → (r ≡ s) × (a ≡ b)
+  table-heading-unique = line-unique headingLine out
+
+  pub table-line-unique : (pattern : List ℕ) (yeses unknowns noes n : ℕ)
+      → Hands (Delivers (patternLine pattern yeses unknowns noes n) out a) told r
+      → Hands (Delivers (patternLine pattern yeses unknowns noes n) out b) told s → (r ≡ s) × (a ≡ b)
+  table-line-unique pattern yeses unknowns noes n = line-unique (patternLine pattern yeses unknowns noes n) out
+
+  pub table-refused-unique : (pattern : List ℕ) (number place : ℕ)
+      → Hands (Delivers (refusedLine pattern number place) out a) told r
+      → Hands (Delivers (refusedLine pattern number place) out b) told s → (r ≡ s) × (a ≡ b)
+  table-refused-unique pattern number place = line-unique (refusedLine pattern number place) out
+
+  pub table-total-unique : (yeses unknowns noes patterns events : ℕ)
+      → Hands (Delivers (totalLine yeses unknowns noes patterns events) out a) told r
+      → Hands (Delivers (totalLine yeses unknowns noes patterns events) out b) told s → (r ≡ s) × (a ≡ b)
+  table-total-unique yeses unknowns noes patterns events =
+      line-unique (totalLine yeses unknowns noes patterns events) out

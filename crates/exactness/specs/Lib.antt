@@ -1,2 +1,0 @@
--- When some text gives a tree.
-pub mod Given

@@ -1,1 +1,0 @@
-// The theorems of refusal 10 for trees: nothing but proofs.

@@ -1,0 +1,26 @@
+-- A number as text: its decimal digits, the most significant first, and no more of them than it needs.
+--   digits     so many of a number
+--   width      how many it needs (widthUpTo: counted up to a bound)
+--   decimal    as many as it needs
+-- That these digits are the number, and that the first is no needless 0, is shown in proofs/Digits.antt.
+use Prim.Native.Nat.{ℕ, zero, suc, _+_, _/_, _%_}
+use mathlib.Core.List.{List, [], _∷_, _++_}
+use lib.Dec.{ltb}
+use Rattle.basics.specs.Words.{if_then_else_}
+
+-- the last k digits of a number; 48 is `0`
+unfoldable pub digits : ℕ → ℕ → List ℕ
+digits zero n = []
+digits (suc k) n = digits k (n / 10) ++ ((48 + n % 10) ∷ [])
+
+-- how many digits a number needs: one below ten, else one more than its tenth part. A number n needs no more than
+-- n + 1, so that is how far is counted.
+unfoldable pub widthUpTo : ℕ → ℕ → ℕ
+widthUpTo zero n = 1
+widthUpTo (suc k) n = if ltb n 10 then 1 else suc (widthUpTo k (n / 10))
+
+unfoldable pub width : ℕ → ℕ
+width n = widthUpTo n n
+
+unfoldable pub decimal : ℕ → List ℕ
+decimal n = digits (width n) n

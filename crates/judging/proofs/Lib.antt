@@ -1,0 +1,3 @@
+-- The laws of the calls over rows.
+pub mod Verdicts
+pub mod Checked

@@ -1,0 +1,2 @@
+// What the calls over rows check before they do anything, in the document's order.
+pub mod checks;

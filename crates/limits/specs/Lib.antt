@@ -1,4 +1,0 @@
--- The alternatives of a tree's vector expression: how each is put together, and how many and how large they are.
-pub mod Picks
-pub mod Sizes
-pub mod Accepted

@@ -1,4 +1,0 @@
-// The size of a vector expression, as a tree, in alternatives, steps and tests: limit 8.
-pub mod accepting;
-pub mod picking;
-pub mod sizes;

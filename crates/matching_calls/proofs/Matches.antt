@@ -1,0 +1,102 @@
+-- What the calls that match by alternatives come to, case by case.
+use mathlib.Core.Path.{_≡_, refl}
+use mathlib.Core.Bool.{Bool, true}
+use mathlib.Core.List.{List}
+use Prim.Native.Nat.{ℕ}
+use native.Mathlib.Omega.{arith}
+use lib.ListN.{length}
+use Rattle.basics.specs.declared.Refusal.{Refusal}
+use Rattle.alf.specs.declared.Sort.the-variants.{Vector}
+use Rattle.basics.specs.declared.Outcome.the-variants as outcome
+use Rattle.alf.specs.Refusals.{Comes}
+use Rattle.acceptance.specs.Accepted.{Accepted}
+use Rattle.basics.specs.Deciding.{Decides}
+use Rattle.matcher.specs.declared.answers.Matched.{Matched}
+use Rattle.matcher.specs.declared.tables.Total.{Total}
+use Rattle.matcher.specs.Tables as tables
+use Rattle.states.specs.FirstBadCode.{Codes}
+use Rattle.judging.specs.declared.checks.Verdict.{Verdict}
+use Rattle.judging.specs.declared.checks.Verdict.the-variants.{Good, Refused}
+use Rattle.matching_calls.specs.declared.matching.Matching.the-variants as matching
+use Rattle.matching_calls.specs.declared.matching.Counting.the-variants as counting
+use Rattle.judging.specs.Orders.{Rows, rowsOrder, traceOrder, Judged, ChecksRow, ChecksRows}
+use Rattle.basics.specs.Memory.{after}
+use Rattle.matching_calls.specs.Matching.{MatchesTree, Finds, RowMatch, FillsTree, AllMatched, TotalsTree, Counts}
+use Rattle.matching_calls.specs.Matching.{RowTotals, TreeRow, TreeRows, TreeLists}
+use Rattle.judging.proofs.Verdicts.{judged-good, judged-not, lists-as}
+use Rattle.judging.proofs.Checked.{lent-as}
+use Rattle.row_calls.proofs.AsWritten.{row-there, row-accepted}
+
+-- rows that fit are rows as matching asks for them
+pub rows-asked : {names n : ℕ} {states : List ℕ} → Rows names n (length states) → Codes states
+    → tables.Rows states names n
+rows-asked l s =
+    record {
+      some = l .name-count .0;
+      most = l .name-count .1;
+      few = l .row-count .1;
+      room = omega (arith, l .all);
+      codes = s;
+    }
+
+-- a row
+module _ {names n : ℕ} {tree states : List ℕ} {row : ℕ} {v : Verdict}
+    (c : ChecksRow names n tree Vector states row v) where
+  pub match-asked : v ≡ Good → TreeRow names tree states row
+  match-asked e = record { accepted = row-accepted c e; there = row-there c e }
+
+  pub match-refused : {r : Refusal} → v ≡ Refused r → RowMatch names n tree states row (matching.Refused r)
+  unfolding Finds
+  match-refused e = record { comes = judged-not (c .is) e }
+
+  pub match-told : {m : Matched} → v ≡ Good → MatchesTree names tree states row (m .answer) (m .tries)
+      → RowMatch names n tree states row (matching.Found m)
+  unfolding Finds
+  match-told e s = record { comes = (judged-good (c .is) e .0, s) }
+
+-- all rows
+module _ {names n : ℕ} {tree states : List ℕ} (answers tried : List ℕ) {lent : Bool} {v : Verdict}
+    (d : Decides lent ((length answers ≡ n) × (length tried ≡ n)))
+    (c : ChecksRows names n lent tree Vector states v) where
+  as-lists : Judged (rowsOrder names n ((length answers ≡ n) × (length tried ≡ n)) tree Vector states)
+      ((((length answers ≡ n) × (length tried ≡ n)) × Rows names n (length states))
+      × Accepted names Vector tree × Codes states) v
+  as-lists = lent-as names n tree Vector states lent ((length answers ≡ n) × (length tried ≡ n)) d c
+
+  pub all-asked : v ≡ Good → TreeLists names n tree states answers tried
+  all-asked e =
+      let (((x, y), l), a, s) = judged-good as-lists e .1 in
+      record { asked = record { accepted = a; rows = rows-asked l s }; room = x; space = y }
+
+  pub all-refused : {r : Refusal} → v ≡ Refused r
+      → AllMatched names n tree states answers tried answers tried (outcome.Refused r)
+  unfolding Comes after
+  all-refused e = record { comes = judged-not as-lists e; answers-memory = refl; tried-memory = refl }
+
+  pub all-told : {answers′ tried′ : List ℕ} → v ≡ Good → FillsTree names n tree states answers′ tried′
+      → AllMatched names n tree states answers tried answers′ tried′ (outcome.Done n)
+  unfolding Comes after
+  all-told e f =
+      record {
+        comes = (judged-good as-lists e .0, refl);
+        answers-memory = f .answers;
+        tried-memory = f .counts;
+      }
+
+-- the totals
+module _ {names n : ℕ} {tree states : List ℕ} {v : Verdict} (c : ChecksRows names n true tree Vector states v) where
+  as-trace : Judged (traceOrder names n tree Vector states)
+      (Rows names n (length states) × Accepted names Vector tree × Codes states) v
+  as-trace = lists-as (λ x. x .1) (λ l. (refl, l)) (c .is)
+
+  pub totals-asked : v ≡ Good → TreeRows names n tree states
+  totals-asked e = let (l, a, s) = judged-good as-trace e .1 in record { accepted = a; rows = rows-asked l s }
+
+  pub totals-refused : {r : Refusal} → v ≡ Refused r → RowTotals names n tree states (counting.Refused r)
+  unfolding Counts
+  totals-refused e = record { comes = judged-not as-trace e }
+
+  pub totals-told : {t : Total} → v ≡ Good → TotalsTree names n tree states (t .yes) (t .no) (t .unknown)
+      → RowTotals names n tree states (counting.Counted t)
+  unfolding Counts
+  totals-told e s = record { comes = (judged-good as-trace e .0, s) }

@@ -1,0 +1,91 @@
+-- What the calls come to that match by the alternatives of a tree: document 01's answer on windows, and the number of
+-- alternatives tried; at a row, at all rows; the totals.
+--   expression, answersOn, triesOn        a tree's expression, its answers at the rows, the numbers tried
+--   MatchesTree, Finds, RowMatch          a row
+--   FillsTree, AllMatched                 all rows, in lent lists
+--   TotalsTree, Counts, RowTotals         the totals
+--   TreeRow, TreeRows, TreeLists          what is asked once the lists and the tree are good
+use Prim.Native.Nat.{ℕ}
+use mathlib.Core.Path.{_≡_}
+use mathlib.Core.List.{List}
+use lib.ListN.{length}
+use Rattle.alf.specs.declared.Answer.{Answer}
+use Rattle.alf.specs.declared.Sort.the-variants as sort
+use Rattle.basics.specs.declared.Outcome.{Outcome}
+use Rattle.basics.specs.Words.{listed}
+use Rattle.alf.specs.Expressions.{Vector}
+use Rattle.alf.specs.Values.{stateAt}
+use Rattle.alf.specs.Windows.{rowAnswer, numberOf}
+use Rattle.alf.specs.Alternatives.{alternatives, tries}
+use Rattle.alf.specs.Traces.{Totals}
+use Rattle.alf.specs.Refusals.{Order, RefusedWith, Passed, Comes}
+use Rattle.trees.specs.Parts.{vectorAt}
+use Rattle.acceptance.specs.Accepted.{Accepted}
+use Rattle.evaluator.specs.Rows.{Within}
+use Rattle.matcher.specs.Tables as tables
+use Rattle.matching_calls.specs.declared.matching.Matching.{Matching}
+use Rattle.matching_calls.specs.declared.matching.Matching.the-variants.{Found, Refused}
+use Rattle.matching_calls.specs.declared.matching.Counting.{Counting}
+use Rattle.matching_calls.specs.declared.matching.Counting.the-variants as counting
+use Rattle.judging.specs.Orders.{rowOrder, rowsOrder, traceOrder}
+use Rattle.basics.specs.Memory.{after}
+
+-- the vector expression that a tree is
+abbrev pub expression : List ℕ → ℕ → Vector
+expression tree names = vectorAt tree names (length tree)
+
+-- the number of its answer at each row of a trace, and how many of its alternatives are tried there
+abbrev pub answersOn : ℕ → List ℕ → List ℕ → ℕ → ℕ
+answersOn names tree states = λ i. numberOf (rowAnswer (stateAt names states) (expression tree names) i)
+
+abbrev pub triesOn : ℕ → List ℕ → List ℕ → ℕ → ℕ
+triesOn names tree states = λ i. tries (stateAt names states) (alternatives (expression tree names)) i
+
+-- its answer at a row, and the number tried
+pub record MatchesTree (names : ℕ) (tree states : List ℕ) (row : ℕ) (answer : Answer) (tried : ℕ) : Type 0 where
+  pub is : answer ≡ rowAnswer (stateAt names states) (expression tree names) row
+  pub count : tried ≡ triesOn names tree states row
+
+unfoldable pub Finds : Order → (Answer → ℕ → Type 0) → Matching → Type 0
+Finds o right (Found m) = Passed o × right (m .answer) (m .tries)
+Finds o right (Refused r) = RefusedWith o (r .number) (r .place)
+
+pub record RowMatch (names n : ℕ) (tree states : List ℕ) (row : ℕ) (r : Matching) : Type 0 where
+  pub comes : Finds (rowOrder names n tree sort.Vector states row) (MatchesTree names tree states row) r
+
+-- at rows 0 to n-1, in two lists of n entries
+pub record FillsTree (names n : ℕ) (tree states answers′ tried′ : List ℕ) : Type 0 where
+  pub answers : answers′ ≡ listed 0 n (answersOn names tree states)
+  pub counts : tried′ ≡ listed 0 n (triesOn names tree states)
+
+pub record AllMatched (names n : ℕ) (tree states answers tried answers′ tried′ : List ℕ) (r : Outcome)
+    : Type 0 where
+  pub comes : Comes (rowsOrder names n ((length answers ≡ n) × (length tried ≡ n)) tree sort.Vector states)
+      (λ k. k ≡ n) r
+  pub answers-memory : answers′ ≡ after (listed 0 n (answersOn names tree states)) answers r
+  pub tried-memory : tried′ ≡ after (listed 0 n (triesOn names tree states)) tried r
+
+-- how many rows answer yes, no and unknown
+abbrev pub TotalsTree : ℕ → ℕ → List ℕ → List ℕ → ℕ → ℕ → ℕ → Type 0
+TotalsTree names n tree states = Totals (stateAt names states) (expression tree names) n
+
+unfoldable pub Counts : Order → (ℕ → ℕ → ℕ → Type 0) → Counting → Type 0
+Counts o right (counting.Counted t) = Passed o × right (t .yes) (t .no) (t .unknown)
+Counts o right (counting.Refused r) = RefusedWith o (r .number) (r .place)
+
+pub record RowTotals (names n : ℕ) (tree states : List ℕ) (r : Counting) : Type 0 where
+  pub comes : Counts (traceOrder names n tree sort.Vector states) (TotalsTree names n tree states) r
+
+-- What the functions inside ask: an accepted tree; a row that is there; n rows; and lists of n entries.
+pub record TreeRow (names : ℕ) (tree states : List ℕ) (row : ℕ) : Type 0 where
+  pub accepted : Accepted names sort.Vector tree
+  pub there : Within states names row
+
+pub record TreeRows (names n : ℕ) (tree states : List ℕ) : Type 0 where
+  pub accepted : Accepted names sort.Vector tree
+  pub rows : tables.Rows states names n
+
+pub record TreeLists (names n : ℕ) (tree states answers tried : List ℕ) : Type 0 where
+  pub asked : TreeRows names n tree states
+  pub room : length answers ≡ n
+  pub space : length tried ≡ n

@@ -1,0 +1,2 @@
+// The calls that match by the alternatives of a tree.
+pub mod matching;

@@ -1,0 +1,2 @@
+-- What the queue promises.
+pub mod Queues

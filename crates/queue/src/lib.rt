@@ -1,0 +1,2 @@
+// The queue: rows come one after the other.
+pub mod queues;

@@ -1,0 +1,12 @@
+-- `refuse_text` makes a refusal and hands it on.
+use borrow.Author.Needs.{needs}
+use mathlib.Core.Path.{ap, _∙_}
+use Rattle.reader.specs.Reads.{refusedBy}
+use Rattle.reader.proofs.refuse_text.Statement.{statement}
+use Rattle.reader.proofs.refuse_text.Tie as tie
+
+returns : tie.Need-returns
+returns c = c .hand-on .ensures ∙ ap refusedBy (c .before .refusal-of .ensures)
+
+pub refuse-text-spec : {M : Type 1} → statement M
+refuse-text-spec = tie.close (tie.spec (λ c κs. search needs) (λ c κs. search needs) returns)

@@ -1,1 +1,0 @@
-// The theorems of reading what was written: nothing but proofs.

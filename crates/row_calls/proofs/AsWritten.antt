@@ -1,0 +1,107 @@
+-- What the calls that answer as the tree is written come to, case by case.
+use mathlib.Core.Path.{_≡_, refl, sym, _∙_}
+use mathlib.Core.List.{List}
+use Prim.Native.Nat.{ℕ}
+use lib.Dec.{eqb}
+use lib.ListN.{length}
+use Rattle.alf.specs.declared.Answer.{Answer}
+use Rattle.basics.specs.declared.Refusal.{Refusal}
+use Rattle.alf.specs.declared.Sort.{Sort}
+use Rattle.alf.specs.declared.Sort.the-variants.{Boolean, Vector}
+use Rattle.basics.specs.declared.Outcome.the-variants as outcome
+use Rattle.alf.specs.Refusals.{Comes}
+use Rattle.basics.specs.Words.{listed}
+use Rattle.alf.specs.Values.{stateAt}
+use Rattle.alf.specs.Windows.{rowAnswer}
+use Rattle.trees.specs.Parts.{EndsBoolean, EndsVector, vectorAt}
+use Rattle.acceptance.specs.Accepted.{Accepted}
+use Rattle.acceptance.proofs.Acceptance.{accepted-boolean, accepted-vector}
+use Rattle.evaluator.specs.Rows.{Within, IsState, Filling, stateOf, valueOf}
+use Rattle.basics.proofs.Stores.{front-whole}
+use Rattle.basics.proofs.Listed.{listed-length}
+use Rattle.evaluator.proofs.Traces.{trace-row, trace-filling}
+use Rattle.judging.specs.declared.checks.Verdict.{Verdict}
+use Rattle.judging.specs.declared.checks.Verdict.the-variants.{Good, Refused}
+use Rattle.row_calls.specs.declared.written.Told.the-variants as told
+use Rattle.judging.specs.Orders.{Rows, rowsOrder, Judged, ChecksRow, ChecksRows}
+use Rattle.row_calls.specs.Written.{RowState, RowValue, AllValues, Tells, RowAnswer}
+use Rattle.basics.specs.Memory.{front, after}
+use Rattle.states.specs.FirstBadCode.{Codes}
+use Rattle.basics.proofs.Deciding.{eqb-decides}
+use Rattle.judging.proofs.Verdicts.{judged-good, judged-not}
+use Rattle.judging.proofs.Checked.{lent-as}
+
+module _ {names n : ℕ} {tree : List ℕ} {sort : Sort} {states : List ℕ} {row : ℕ} {v : Verdict}
+    (c : ChecksRow names n tree sort states row v) (e : v ≡ Good) where
+  pub row-there : Within states names row
+  row-there =
+      let (l, a, (s, h)) = judged-good (c .is) e .1 in
+      trace-row states names n (l .name-count) (l .row-count) (l .all) s row h
+
+  pub row-accepted : Accepted names sort tree
+  row-accepted = judged-good (c .is) e .1 .1
+
+module _ {names n : ℕ} {tree states : List ℕ} {row : ℕ} {v : Verdict}
+    (c : ChecksRow names n tree Boolean states row v) where
+  pub boolean-ends : v ≡ Good → EndsBoolean tree names (length tree)
+  boolean-ends e = accepted-boolean tree names (row-accepted c e)
+
+  pub state-refused : {r : Refusal} → v ≡ Refused r → RowState names n tree states row (outcome.Refused r)
+  unfolding Comes
+  state-refused e = record { comes = judged-not (c .is) e }
+
+  pub value-refused : {r : Refusal} → v ≡ Refused r → RowValue names n tree states row (outcome.Refused r)
+  unfolding Comes
+  value-refused e = record { comes = judged-not (c .is) e }
+
+  pub state-told : {k : ℕ} → v ≡ Good → IsState (stateOf tree names states (length tree) row) k
+      → RowState names n tree states row (outcome.Done k)
+  unfolding Comes
+  state-told e s = record { comes = (judged-good (c .is) e .0, s .is) }
+
+  pub value-told : {k : ℕ} → v ≡ Good → IsState (valueOf tree names states (length tree) row) k
+      → RowValue names n tree states row (outcome.Done k)
+  unfolding Comes
+  value-told e s = record { comes = (judged-good (c .is) e .0, s .is) }
+
+module _ {names n : ℕ} {tree states : List ℕ} {row : ℕ} {v : Verdict}
+    (c : ChecksRow names n tree Vector states row v) where
+  pub vector-ends : v ≡ Good → EndsVector tree names (length tree)
+  vector-ends e = accepted-vector tree names (row-accepted c e)
+
+  pub answer-refused : {r : Refusal} → v ≡ Refused r → RowAnswer names n tree states row (told.Refused r)
+  unfolding Tells
+  answer-refused e = record { comes = judged-not (c .is) e }
+
+  pub answer-told : {a : Answer} → v ≡ Good
+      → a ≡ rowAnswer (stateAt names states) (vectorAt tree names (length tree)) row
+      → RowAnswer names n tree states row (told.Answered a)
+  unfolding Tells
+  answer-told e s = record { comes = (judged-good (c .is) e .0, s) }
+
+-- all rows
+module _ {names n : ℕ} {tree states : List ℕ} (out : List ℕ) {v : Verdict}
+    (c : ChecksRows names n (eqb (length out) n) tree Boolean states v) where
+  as-lists : Judged (rowsOrder names n (length out ≡ n) tree Boolean states)
+      (((length out ≡ n) × Rows names n (length states)) × Accepted names Boolean tree × Codes states) v
+  as-lists = lent-as names n tree Boolean states (eqb (length out) n) (length out ≡ n) (eqb-decides (length out) n) c
+
+  pub values-refused : {r : Refusal} → v ≡ Refused r → AllValues names n tree states out out (outcome.Refused r)
+  unfolding Comes after
+  values-refused e = record { comes = judged-not as-lists e; memory = refl }
+
+  module _ (e : v ≡ Good) where
+    pub values-ends : EndsBoolean tree names (length tree)
+    values-ends = accepted-boolean tree names (judged-good as-lists e .1 .1)
+
+    pub values-rows : Filling states names n out
+    values-rows =
+        let ((k, l), a, s) = judged-good as-lists e .1 in
+        trace-filling states names n (l .name-count) (l .row-count) (l .all) s out k
+
+    pub values-told : {out′ : List ℕ} → out′ ≡ front (listed 0 n (valueOf tree names states (length tree))) out
+        → AllValues names n tree states out out′ (outcome.Done n)
+    unfolding Comes after
+    values-told h =
+        let (p, ((k, l), a, s)) = judged-good as-lists e in
+        record { comes = (p, refl); memory = h ∙ front-whole out _ (listed-length 0 n _ ∙ sym k) }

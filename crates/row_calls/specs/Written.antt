@@ -1,0 +1,45 @@
+-- What the calls come to that answer as the tree is written: document 01's state, value and answer, or refused.
+--   RowState, RowValue     the state and the value at a row
+--   AllValues              the values at all rows, in a lent list
+--   Tells, RowAnswer       the answer of a vector expression at a row
+use Prim.Native.Nat.{ℕ}
+use mathlib.Core.Path.{_≡_}
+use mathlib.Core.List.{List}
+use lib.ListN.{length}
+use Rattle.alf.specs.declared.Answer.{Answer}
+use Rattle.alf.specs.declared.Sort.the-variants.{Boolean, Vector}
+use Rattle.basics.specs.declared.Outcome.{Outcome}
+use Rattle.basics.specs.declared.Outcome.the-variants as outcome
+use Rattle.basics.specs.Words.{listed}
+use Rattle.alf.specs.Values.{stateAt, valueAt}
+use Rattle.alf.specs.Windows.{rowAnswer}
+use Rattle.alf.specs.Refusals.{Order, RefusedWith, Passed, Comes}
+use Rattle.trees.specs.Parts.{booleanAt, vectorAt}
+use Rattle.row_calls.specs.declared.written.Told.{Told}
+use Rattle.row_calls.specs.declared.written.Told.the-variants.{Answered, Refused}
+use Rattle.judging.specs.Orders.{rowOrder, rowsOrder}
+use Rattle.basics.specs.Memory.{after}
+
+-- the state of the boolean expression that the tree is, at the row; its value
+pub record RowState (names n : ℕ) (tree states : List ℕ) (row : ℕ) (r : Outcome) : Type 0 where
+  pub comes : Comes (rowOrder names n tree Boolean states row)
+      (λ k. k ≡ stateAt names states (booleanAt tree names (length tree)) row) r
+
+pub record RowValue (names n : ℕ) (tree states : List ℕ) (row : ℕ) (r : Outcome) : Type 0 where
+  pub comes : Comes (rowOrder names n tree Boolean states row)
+      (λ k. k ≡ valueAt names states (booleanAt tree names (length tree)) row) r
+
+-- its values at rows 0 to n-1, in a list of n entries
+pub record AllValues (names n : ℕ) (tree states out out′ : List ℕ) (r : Outcome) : Type 0 where
+  pub comes : Comes (rowsOrder names n (length out ≡ n) tree Boolean states) (λ k. k ≡ n) r
+  pub memory : out′ ≡ after (listed 0 n (valueAt names states (booleanAt tree names (length tree)))) out r
+
+-- an answer, or a refusal
+unfoldable pub Tells : Order → Answer → Told → Type 0
+Tells o a (Answered b) = Passed o × (b ≡ a)
+Tells o a (Refused r) = RefusedWith o (r .number) (r .place)
+
+-- the answer of the vector expression that the tree is, at the row
+pub record RowAnswer (names n : ℕ) (tree states : List ℕ) (row : ℕ) (r : Told) : Type 0 where
+  pub comes : Tells (rowOrder names n tree Vector states row)
+      (rowAnswer (stateAt names states) (vectorAt tree names (length tree)) row) r

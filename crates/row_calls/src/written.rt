@@ -1,0 +1,76 @@
+// The answer as written, by recursion over the tree: state, value and answer at a row, the values of all rows.
+ghost use Rattle.row_calls.specs.Written.{RowState, RowValue, AllValues, RowAnswer};
+use alf::Answer;
+use alf::Sort;
+use basics::Outcome;
+use basics::Refusal;
+use judging::checks::Verdict;
+use judging::checks::check_row;
+use judging::checks::check_rows;
+
+// A row's answer, or a refusal.
+pub enum Told {
+    Answered(Answer),
+    Refused(Refusal),
+}
+
+// The state of a boolean expression at a row.
+pub fn row_state(names: usize, n: usize, tree: &[u8], states: &[u8], row: usize) -> Outcome
+    ensures { λ r. ⌜ RowState names n (now (tree .entry)) (now (states .entry)) row r ⌝ }
+{
+    let v = check_row(names, n, tree, Sort::Boolean, states, row);
+    match v {
+        Verdict::Refused(r) => Outcome::Refused(r),
+        Verdict::Good => {
+            let s = evaluator::values::state(tree, tree.len(), states, names, row);
+            Outcome::Done(s as usize)
+        }
+    }
+}
+
+// Its value.
+pub fn row_value(names: usize, n: usize, tree: &[u8], states: &[u8], row: usize) -> Outcome
+    ensures { λ r. ⌜ RowValue names n (now (tree .entry)) (now (states .entry)) row r ⌝ }
+{
+    let v = check_row(names, n, tree, Sort::Boolean, states, row);
+    match v {
+        Verdict::Refused(r) => Outcome::Refused(r),
+        Verdict::Good => {
+            let s = evaluator::values::value(tree, tree.len(), states, names, row);
+            Outcome::Done(s as usize)
+        }
+    }
+}
+
+// Its values at all rows; how many.
+pub fn values(names: usize, n: usize, tree: &[u8], states: &[u8], out: &mut [u8]) -> Outcome
+    ensures { λ r. ⌜ AllValues names n (now (tree .entry)) (now (states .entry)) (now (out .entry))
+        (now (out .exit)) r ⌝ }
+{
+    let lent = out.len() == n;
+    let v = check_rows(names, n, lent, tree, Sort::Boolean, states);
+    match v {
+        Verdict::Refused(r) => Outcome::Refused(r),
+        Verdict::Good => {
+            evaluator::values::values(tree, tree.len(), states, names, n, out);
+            Outcome::Done(n)
+        }
+    }
+}
+
+// The answer of a vector expression at a row: the greatest over the windows that end there.
+pub fn row_answer(names: usize, n: usize, tree: &[u8], states: &[u8], row: usize) -> Told
+    ensures { λ r. ⌜ RowAnswer names n (now (tree .entry)) (now (states .entry)) row r ⌝ }
+{
+    let v = check_row(names, n, tree, Sort::Vector, states, row);
+    match v {
+        Verdict::Refused(r) => Told::Refused(r),
+        Verdict::Good => Told::Answered(evaluator::rows::row_answer(
+            tree,
+            tree.len(),
+            states,
+            names,
+            row,
+        )),
+    }
+}

@@ -1,0 +1,151 @@
+// The calls that write lists, as a line of `matching_runs` asks for them, and what they come to. The lists that are
+// lent are copies of a line's. All are proved to be safe and to end.
+ghost use Prim.Native.Nat.{_≤_};
+use alf::RowNo;
+use basics::Outcome;
+use matching_calls::matching::match_all;
+use row_calls::written::values;
+use run_printing::printing::character;
+use run_printing::printing::number;
+use run_printing::printing::outcome;
+use run_printing::printing::write;
+use run_printing::states::list;
+use run_printing::states::list_tried;
+use run_routes::totals_in;
+use run_words::lists::copy_of;
+use run_words::lists::least;
+use run_words::lists::narrow;
+use run_words::words::list_in;
+use run_words::words::number_in;
+use update_calls::correcting::correct;
+
+// All values of a case; or what they come to, and the list afterwards.
+fn show_values(kind: u8, v: Outcome, out: &[u8; 64], a: usize) {
+    if kind == b'b' {
+        return list(b" values", out, a, true);
+    }
+    outcome(v);
+    list(b"\n out", out, a, false);
+}
+
+// The values of all rows. Word 6 is the list that is lent.
+pub fn lend_out(kind: u8, line: &[u8], tree: &[u8]) {
+    let mut out = copy_of(list_in(line, 6));
+    let a = least(list_in(line, 6).len());
+    let v = values(
+        number_in(line, 1),
+        number_in(line, 2),
+        tree,
+        list_in(line, 3),
+        &mut out[0..a],
+    );
+    show_values(kind, v, &out, a);
+    character(b'\n');
+}
+
+fn match_in(line: &[u8], tree: &[u8], answers: &mut [u8], tried: &mut [u32]) -> Outcome {
+    match_all(
+        number_in(line, 1),
+        number_in(line, 2),
+        tree,
+        list_in(line, 3),
+        answers,
+        tried,
+    )
+}
+
+// Word 4 is the row that is corrected, word 5 what it becomes.
+fn correct_in(line: &[u8], tree: &[u8], states: &mut [u8], answers: &mut [u8]) -> Outcome {
+    let row = narrow(number_in(line, 4));
+    let names = number_in(line, 1);
+    let n = number_in(line, 2);
+    correct(
+        names,
+        n,
+        tree,
+        states,
+        answers,
+        RowNo(row),
+        list_in(line, 5),
+    )
+}
+
+// The row that is corrected, and what the correction comes to.
+fn show_correction(line: &[u8], c: Outcome) {
+    write(b", row ");
+    number(number_in(line, 4));
+    list(b" becomes", list_in(line, 5), 64, true);
+    character(b'\n');
+    outcome(c);
+}
+
+// All answers and the correction, with the totals in between.
+fn show_both(line: &[u8], tree: &[u8], m: Outcome, c: Outcome) {
+    outcome(m);
+    character(b',');
+    totals_in(line, tree);
+    character(b',');
+    outcome(c);
+}
+
+// All answers, of a case by their numbers; the correction; the states afterwards.
+fn show_outcomes(kind: u8, line: &[u8], tree: &[u8], m: Outcome, c: Outcome) {
+    match kind {
+        b'v' => write(b" all"),
+        b'c' => show_correction(line, c),
+        _ => show_both(line, tree, m, c),
+    }
+}
+
+// The states, and behind a word the answers.
+fn show_two(word: &[u8], states: &[u8; 64], s: usize, answers: &[u8; 64], a: usize) {
+    list(b"\n states", states, s, true);
+    list(word, answers, a, false);
+}
+
+// The lists afterwards.
+fn show_lists(kind: u8, states: &[u8; 64], s: usize, answers: &[u8; 64], a: usize) {
+    match kind {
+        b'v' => list(b"", answers, a, false),
+        b'c' => show_two(b"\n answers", states, s, answers, a),
+        _ => show_two(b" answers", states, s, answers, a),
+    }
+}
+
+// A list as a call left it.
+fn same(list: [u8; 64]) -> [u8; 64] {
+    list
+}
+
+// The correction of the states, and of the answers as `match_all` left them, which came to m.
+fn lend_behind(kind: u8, line: &[u8], tree: &[u8], m: Outcome, given: [u8; 64], a: usize)
+    requires { ⌜ a ≤ 64 ⌝ }
+{
+    let mut answers = same(given);
+    let mut states = copy_of(list_in(line, 3));
+    let s = least(list_in(line, 3).len());
+    let c = correct_in(line, tree, &mut states[0..s], &mut answers[0..a]);
+    show_outcomes(kind, line, tree, m, c);
+    show_lists(kind, &states, s, &answers, a);
+}
+
+// All answers, and a correction. Words 3 and 6 are the states and the answers that are lent; word 7 says how many
+// numbers tried are lent. Of a case only one of the two calls is not refused: without a new row there is no
+// correction, and with no number tried lent there are no answers.
+pub fn lend(kind: u8, line: &[u8], tree: &[u8]) {
+    let mut answers = copy_of(list_in(line, 6));
+    let a = least(list_in(line, 6).len());
+    let mut tried = [7u32; 64];
+    let t = least(number_in(line, 7));
+    let m = match_in(line, tree, &mut answers[0..a], &mut tried[0..t]);
+    lend_behind(kind, line, tree, m, answers, a);
+    show_tried(kind, &tried, t);
+}
+
+// The numbers tried.
+fn show_tried(kind: u8, tried: &[u32; 64], t: usize) {
+    if kind != b'c' {
+        list_tried(tried, t);
+    }
+    character(b'\n');
+}

@@ -1,0 +1,8 @@
+-- The laws of this crate.
+pub mod Splits
+pub mod Exchanging
+pub mod Placing
+pub mod Puts
+pub mod StepTests
+pub mod StepCases
+pub mod Places

@@ -1,0 +1,43 @@
+-- How the calls of `put_step` fall: it calls itself with fewer bytes before `end`.
+--   μ-put-step       the measure
+--   put-step-at      it is called at a measure; put-step-below: below it
+--   calls-put-step   what is known of the functions that it calls
+use Prim.Native.Nat.{ℕ, _<_}
+use borrow.Fn.Kinds.{In}
+use borrow.Fn.PlainCycle.{Measures, is, falls, and}
+use Rattle.step_tests.proofs.steps.put_step.Reads as put-step
+use Rattle.step_tests.proofs.steps.put_step.Kinds as put-step-kinds
+use Rattle.step_tests.proofs.steps.+put_step.Lts-put_step as put-step-lts
+use Rattle.alternatives.proofs.picking.find.Reads as find-reads
+use Rattle.acceptance.proofs.sizes.count_of.Reads as count-of-reads
+use Rattle.acceptance.proofs.sizes.shape_of.Reads as shape-of-reads
+use Rattle.step_tests.proofs.splitting.split.Reads as split-reads
+use Rattle.step_tests.proofs.steps.put_test.Reads as put-test-reads
+use Rattle.trees.proofs.parts.start_of.Reads as start-of-reads
+
+abbrev pub μ-put-step : Measures 3 put-step-kinds.ps ℕ
+μ-put-step κs a = a .1 .0
+
+abbrev pub put-step-at : ℕ → In 3 put-step-kinds.ps
+put-step-at t = and 3 put-step-kinds.ps (is 3 put-step-kinds.ps μ-put-step t) put-step.Pre
+
+abbrev pub put-step-below : ℕ → In 3 put-step-kinds.ps
+put-step-below t = and 3 put-step-kinds.ps (falls 3 put-step-kinds.ps _<_ μ-put-step t) put-step.Pre
+
+abbrev pub calls-put-step : ℕ → put-step-lts.Claims
+calls-put-step t = (
+  shape-of-reads.Asked,
+  shape-of-reads.Learnt,
+  put-test-reads.Asked,
+  put-test-reads.Learnt,
+  start-of-reads.Asked,
+  start-of-reads.Learnt,
+  put-step-below t,
+  put-step.Post,
+  count-of-reads.Asked,
+  count-of-reads.Learnt,
+  find-reads.Asked,
+  find-reads.Learnt,
+  split-reads.Asked,
+  split-reads.Learnt,
+)

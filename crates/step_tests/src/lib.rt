@@ -1,0 +1,3 @@
+// The tests of one step of one alternative of a tree, written into the lists of edges and operands.
+pub mod splitting;
+pub mod steps;

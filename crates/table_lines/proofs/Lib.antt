@@ -1,0 +1,4 @@
+-- The laws of the lines of the table.
+pub mod ColumnParts
+pub mod LineEnds
+pub mod TableExamples

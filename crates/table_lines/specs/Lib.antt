@@ -1,0 +1,2 @@
+-- The lines of the table.
+pub mod Table

@@ -1,0 +1,2 @@
+// The lines of the table, each into a lent buffer.
+pub mod lines;

@@ -1,0 +1,3 @@
+-- The laws of handing on.
+pub mod Handed
+pub mod Unique

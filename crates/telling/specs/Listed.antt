@@ -1,0 +1,12 @@
+-- What the library for C hands on of a push by alternatives that are handed in as lists. Main name: ListedPushes.
+use Prim.Native.Nat.{ℕ}
+use mathlib.Core.List.{List}
+use Rattle.queue.specs.declared.queues.Queue.{Queue}
+use Rattle.update_calls.specs.declared.pushing.Pushing.{Pushing}
+use Rattle.listed_calls.specs.Listed.{ListedPush}
+
+-- what came of the push, refused or not, and the queue then
+abbrev pub ListedPushes :
+    ℕ → List ℕ → List ℕ → List ℕ → List ℕ → List ℕ → Queue → List ℕ → Pushing → Type 0
+ListedPushes names tree steps tests edges operands queue row p =
+    ListedPush names tree steps tests edges operands queue row (p .told) (p .queue)

@@ -1,0 +1,46 @@
+-- What the library for C tells of matching: a row's answer and the number tried, the totals, what came of a push. The
+-- numbers of answers are document 01's.
+--   toldMatch, toldCounts, toldPush     what is told
+--   queueOf, Pushes                     a queue of C's as the call's, and what a push hands on
+use Prim.Native.Nat.{ℕ}
+use mathlib.Core.List.{List}
+use Rattle.alf.specs.Windows.{numberOf}
+use Rattle.queue.specs.declared.queues.Queue as updates
+use Rattle.matching_calls.specs.declared.matching.Matching.{Matching}
+use Rattle.matching_calls.specs.declared.matching.Matching.the-variants as the-match
+use Rattle.matching_calls.specs.declared.matching.Counting.{Counting}
+use Rattle.matching_calls.specs.declared.matching.Counting.the-variants as the-counts
+use Rattle.update_calls.specs.declared.pushing.Pushing.{Pushing}
+use Rattle.update_calls.specs.Pushing.{Push}
+use Rattle.telling.specs.declared.Matched.{Matched}
+use Rattle.telling.specs.declared.Counted.{Counted}
+use Rattle.telling.specs.declared.Queue.{Queue}
+use Rattle.telling.specs.declared.Pushed.{Pushed}
+
+unfoldable pub toldMatch : Matching → Matched
+toldMatch (the-match.Found m) = record { number = 0; place = 0; answer = numberOf (m .answer); tries = m .tries }
+toldMatch (the-match.Refused r) = record { number = r .number; place = r .place; answer = 0; tries = 0 }
+
+unfoldable pub toldCounts : Counting → Counted
+toldCounts (the-counts.Counted t) =
+    record { number = 0; place = 0; yes = t .yes; no = t .no; unknown = t .unknown }
+toldCounts (the-counts.Refused r) =
+    record { number = r .number; place = r .place; yes = 0; no = 0; unknown = 0 }
+
+-- a queue as C holds it
+unfoldable pub queueOf : Queue → updates.Queue
+queueOf q = record { kept = record { 0 = q .kept }; states = q .states }
+
+-- what came of a push, refused or not, and the queue then
+abbrev pub Pushes : ℕ → List ℕ → updates.Queue → List ℕ → Pushing → Type 0
+Pushes names tree queue row p = Push names tree queue row (p .told) (p .queue)
+
+unfoldable pub toldPush : Pushing → Pushed
+toldPush p =
+    record {
+      number = toldMatch (p .told) .number;
+      place = toldMatch (p .told) .place;
+      answer = toldMatch (p .told) .answer;
+      tries = toldMatch (p .told) .tries;
+      queue = record { kept = p .queue .kept .0; states = p .queue .states };
+    }

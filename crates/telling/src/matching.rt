@@ -1,0 +1,88 @@
+// An answer with the number of alternatives tried, totals, a queue, and what came of a push.
+ghost use mathlib.Core.Path.{_≡_};
+ghost use Rattle.telling.specs.Matching.{toldMatch, toldCounts, queueOf, toldPush};
+use crate::Counted;
+use crate::Matched;
+use crate::Pushed;
+use crate::Queue;
+use alf::RowNo;
+use matcher::tables::number_of;
+use matching_calls::matching::Counting;
+use matching_calls::matching::Matching;
+use update_calls::pushing::Pushing;
+
+pub fn tell_match(o: Matching) -> Matched
+    ensures { λ r. ⌜ r ≡ toldMatch o ⌝ }
+{
+    match o {
+        Matching::Found(m) => {
+            let a = m.answer;
+            let tries = m.tries;
+            let answer = number_of(a);
+            Matched {
+                number: 0,
+                place: 0,
+                answer,
+                tries,
+            }
+        }
+        Matching::Refused(r) => Matched {
+            number: r.number,
+            place: r.place,
+            answer: 0,
+            tries: 0,
+        },
+    }
+}
+
+pub fn tell_counts(o: Counting) -> Counted
+    ensures { λ r. ⌜ r ≡ toldCounts o ⌝ }
+{
+    match o {
+        Counting::Counted(t) => Counted {
+            number: 0,
+            place: 0,
+            yes: t.yes,
+            no: t.no,
+            unknown: t.unknown,
+        },
+        Counting::Refused(r) => Counted {
+            number: r.number,
+            place: r.place,
+            yes: 0,
+            no: 0,
+            unknown: 0,
+        },
+    }
+}
+
+pub fn queue_of(q: Queue) -> queue::queues::Queue
+    ensures { λ r. ⌜ r ≡ queueOf q ⌝ }
+{
+    let states = q.states;
+    queue::queues::Queue {
+        kept: RowNo(q.kept),
+        states,
+    }
+}
+
+pub fn tell_push(p: Pushing) -> Pushed
+    ensures { λ r. ⌜ r ≡ toldPush p ⌝ }
+{
+    let told = p.told;
+    let next = p.queue;
+    let m = tell_match(told);
+    let kept = next.kept;
+    let states = next.states;
+    let queue = Queue {
+        kept: kept.0,
+        states,
+    };
+    Pushed {
+        number: m.number,
+        place: m.place,
+        answer: m.answer,
+        tries: m.tries,
+        queue,
+    }
+}

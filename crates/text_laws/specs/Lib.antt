@@ -1,0 +1,2 @@
+-- When some text gives a tree.
+pub mod GivingTexts

@@ -1,0 +1,1 @@
+// What reading and writing expressions mean together: nothing but proofs.

@@ -1,0 +1,34 @@
+// The lines of a text one after the other, each by where it starts, and a table of words, one a line.
+ghost use Prim.Native.Nat.{_≤_, _<_};
+ghost use lib.ListN.{length};
+use crate::parts::find;
+
+// The line that starts at a place.
+pub fn line_at(text: &[u8], at: usize) -> &[u8]
+    requires { ⌜ at ≤ length (now text) ⌝ }
+{
+    let end = find(text, at, b'\n');
+    &text[at..end]
+}
+
+// Where the line behind it starts; past the length, where there is none.
+pub fn behind_line(text: &[u8], at: usize) -> usize
+    requires { ⌜ at < length (now text) ⌝ }
+    ensures { λ r. ⌜ at < r ⌝ }
+{
+    find(text, at, b'\n') + 1
+}
+
+// The number of the line that is this word; the number of lines where none is.
+pub fn line_of(text: &[u8], word: &[u8]) -> usize {
+    let mut at: usize = 0;
+    let mut i: usize = 0;
+    while at < text.len() {
+        if check::same(line_at(text, at), word) {
+            return i;
+        }
+        at = behind_line(text, at);
+        i += 1;
+    }
+    i
+}

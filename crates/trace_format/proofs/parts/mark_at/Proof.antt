@@ -1,0 +1,41 @@
+-- `mark_at` meets its contract.
+use borrow.Author.Needs.{needs}
+use Rattle.trace_format.proofs.Marks.{mark-name, mark-row, mark-end, mark-n, mark-r, mark-e, mark-none}
+use Rattle.trace_format.proofs.parts.mark_at.Statement.{statement}
+use Rattle.trace_format.proofs.parts.mark_at.Tie as tie
+
+returns : tie.Need-returns
+returns c = mark-name _ _ (c .before .if1 .taken) (c .if2 .taken)
+
+returns-2 : tie.Need-returns-2
+returns-2 c = mark-n _ _ (c .before .if1 .taken) (c .if2 .left)
+
+returns-3 : tie.Need-returns-3
+returns-3 c = mark-row _ _ (c .before .if3 .taken) (c .if4 .taken)
+
+returns-4 : tie.Need-returns-4
+returns-4 c = mark-r _ _ (c .before .if3 .taken) (c .if4 .left)
+
+returns-5 : tie.Need-returns-5
+returns-5 c = mark-end _ _ (c .before .if5 .taken) (c .if6 .taken)
+
+returns-6 : tie.Need-returns-6
+returns-6 c = mark-e _ _ (c .before .if5 .taken) (c .if6 .left)
+
+returns-7 : tie.Need-returns-7
+returns-7 c = mark-none _ _ (c .before .before .if1 .left) (c .before .if3 .left) (c .if5 .left)
+
+pub mark-at-spec : {M : Type 1} → statement M
+mark-at-spec =
+    tie.close
+    (tie.spec
+    (λ c. search needs)  -- shared-slice-read-a
+    (λ c. search needs)  -- add-b
+    (λ c. search needs)  -- shared-slice-read-b
+    returns
+    returns-2
+    returns-3
+    returns-4
+    returns-5
+    returns-6
+    returns-7)

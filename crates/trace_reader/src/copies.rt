@@ -1,0 +1,81 @@
+// The second pass over a file: what the records hold is copied out. It cannot fail.
+ghost use mathlib.Core.Path.{_≡_};
+ghost use Prim.Native.Nat.{_+_, _≤_};
+ghost use lib.ListN.{length, replicate};
+ghost use Rattle.basics.specs.Memory.{Put, front};
+ghost use Rattle.alf.specs.Names.{slotOf};
+ghost use Rattle.trace_reader.specs.HeldLists.{timesOf, statesOf, NamesFit, NamesDone, RowsFit, SlotFits};
+use basics::puts::put;
+use trace_format::parts::byte_at;
+use trace_format::parts::word_at;
+
+// Writes n zeros, and returns the place behind them.
+fn clear(out: &mut [u8], at: usize, n: usize) -> usize
+    requires { ⌜ at + n ≤ length (now out) ⌝ }
+    ensures { λ r. ⌜ Put (now (out .entry)) at (replicate n 0) (now (out .exit)) r ⌝ }
+{
+    let mut i: usize = 0;
+    while i < n {
+        out[at + i] = 0;
+        i += 1;
+    }
+    at + i
+}
+
+// Writes a name as a slot: its bytes, then zeros.
+fn put_slot(name: &[u8], out: &mut [u8], at: usize) -> usize
+    requires { ⌜ SlotFits (now name) (now out) at ⌝ }
+    ensures { λ r. ⌜ Put (now (out .entry)) at (slotOf (now (name .entry))) (now (out .exit)) r ⌝ }
+{
+    let named = put(name, out, at);
+    clear(out, named, 32 - name.len())
+}
+
+// Copies the names of a file into slots, and returns where they end in the file.
+pub fn copy_names(file: &[u8], k: usize, out: &mut [u8]) -> usize
+    requires { ⌜ NamesFit (now file) k (now out) ⌝ }
+    ensures { λ r. ⌜ NamesDone (now (file .entry)) k (now (out .entry)) (now (out .exit)) r ⌝ }
+{
+    let mut q = 0;
+    let mut at = 0;
+    let mut i = 0;
+    while i < k {
+        let from = q + 3;
+        let to = from + byte_at(file, q + 2);
+        at = put_slot(&file[from..to], out, at);
+        q = to;
+        i += 1;
+    }
+    q
+}
+
+// Copies the times of n rows of k codes each.
+pub fn copy_times(file: &[u8], k: usize, at: usize, n: usize, out: &mut [u32])
+    requires { ⌜ RowsFit (now file) k at n 1 (now out) ⌝ }
+    ensures { λ _. ⌜ now (out .exit) ≡ front (timesOf (now (file .entry)) k n) (now (out .entry)) ⌝ }
+{
+    let mut q = at;
+    let mut r = 0;
+    while r < n {
+        out[r] = word_at(file, q + 2);
+        q = q + 6 + k;
+        r += 1;
+    }
+}
+
+// Copies the codes of n rows of k codes each.
+pub fn copy_states(file: &[u8], k: usize, at: usize, n: usize, out: &mut [u8])
+    requires { ⌜ RowsFit (now file) k at n k (now out) ⌝ }
+    ensures { λ _. ⌜ now (out .exit) ≡ front (statesOf (now (file .entry)) k n) (now (out .entry)) ⌝ }
+{
+    let mut q = at;
+    let mut to = 0;
+    let mut r = 0;
+    while r < n {
+        let from = q + 6;
+        let end = from + k;
+        to = put(&file[from..end], out, to);
+        q = end;
+        r += 1;
+    }
+}

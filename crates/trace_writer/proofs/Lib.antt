@@ -1,0 +1,6 @@
+-- The laws of this crate.
+pub mod StableNames
+pub mod PutRecords
+pub mod Putting
+pub mod RowOrders
+pub mod WriteOutcomes

@@ -1,0 +1,43 @@
+-- Document 01, "Trace writing: 18, 12, then 13 and 15 row by row, 9", and what writing leaves in memory.
+--   AllLists, BadState      what 18 and 15 look at
+--   rowsOrder, writeOrder   the order of the rows, and of the whole call
+--   Writes                  what the call comes to, and the buffer afterwards
+use Prim.Native.Nat.{ℕ, zero, suc, _+_, _-_, _*_, _<_, _≤_}
+use mathlib.Core.Path.{_≡_}
+use mathlib.Core.List.{List, [], _∷_, _++_}
+use lib.ListN.{length, getD}
+use Rattle.basics.specs.declared.Outcome.{Outcome}
+use Rattle.alf.specs.Refusals.{Order, check, First, bad-lists, bad-slot, not-above, no-room, Comes}
+use Rattle.names.specs.Check.{Slots}
+use Rattle.trace_format.specs.Format.{Lists, fileOf, count}
+use Rattle.basics.specs.Memory.{after, front}
+
+-- 1 to 32 slots, and lists of exactly n entries
+pub record AllLists (names times states : List ℕ) (n : ℕ) : Type 0 where
+  pub slots : Slots names
+  pub lists : Lists names times states n
+
+-- state i, of row r, is above 7
+pub record BadState (k : ℕ) (states : List ℕ) (r i : ℕ) : Type 0 where
+  pub from : r * k ≤ i
+  pub to : i < r * k + k
+  pub above : 7 < getD states i 0
+
+-- 13 and 15 row by row, of the first r rows
+unfoldable pub rowsOrder : ℕ → List ℕ → List ℕ → ℕ → Order
+rowsOrder k times states zero = []
+rowsOrder k times states (suc r) =
+    rowsOrder k times states r
+    ++ (check 13 (not-above times r) ∷ check 15 (First (BadState k states r)) ∷ [])
+
+abbrev pub writeOrder : List ℕ → List ℕ → List ℕ → ℕ → ℕ → Order
+writeOrder names times states n room =
+    check 18 (bad-lists (AllLists names times states n))
+    ∷ check 12 (bad-slot names)
+    ∷ (rowsOrder (count names) times states n
+    ++ (check 9 (no-room (length (fileOf names times states n)) room) ∷ []))
+
+pub record Writes (names times states : List ℕ) (n : ℕ) (out out′ : List ℕ) (r : Outcome) : Type 0 where
+  pub outcome :
+      Comes (writeOrder names times states n (length out)) (λ m. m ≡ length (fileOf names times states n)) r
+  pub memory : out′ ≡ after (front (fileOf names times states n) out) out r

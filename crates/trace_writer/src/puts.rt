@@ -1,0 +1,60 @@
+// The records of a trace, written at a place of a buffer that has room for them; the place behind them.
+ghost use mathlib.Core.List.{[], _∷_};
+ghost use Prim.Native.Nat.{_+_, _≤_};
+ghost use lib.ListN.{length};
+ghost use Rattle.basics.specs.Memory.{Put};
+ghost use Rattle.trace_format.specs.Format.{word, nameRecord, rowRecord, endRecord};
+ghost use Rattle.trace_writer.specs.Putting.{NameFits};
+use basics::puts::push;
+use basics::puts::put;
+
+// A mark.
+pub fn put_mark(out: &mut [u8], at: usize, a: u8, b: u8) -> usize
+    requires { ⌜ at + 2 ≤ length (now out) ⌝ }
+    ensures { λ r. ⌜ Put (now (out .entry)) at (a ∷ b ∷ []) (now (out .exit)) r ⌝ }
+{
+    out[at] = a;
+    out[at + 1] = b;
+    at + 2
+}
+
+// Four bytes, low first.
+pub fn put_word(out: &mut [u8], at: usize, x: u32) -> usize
+    requires { ⌜ at + 4 ≤ length (now out) ⌝ }
+    ensures { λ r. ⌜ Put (now (out .entry)) at (word x) (now (out .exit)) r ⌝ }
+{
+    out[at] = (x % 256) as u8;
+    out[at + 1] = (x / 256 % 256) as u8;
+    out[at + 2] = (x / 65536 % 256) as u8;
+    out[at + 3] = (x / 16777216 % 256) as u8;
+    at + 4
+}
+
+// The record of a name.
+pub fn put_name(name: &[u8], out: &mut [u8], at: usize) -> usize
+    requires { ⌜ NameFits (now name) (now out) at ⌝ }
+    ensures { λ r. ⌜ Put (now (out .entry)) at (nameRecord (now (name .entry))) (now (out .exit)) r ⌝ }
+{
+    let marked = put_mark(out, at, b'N', b'M');
+    let measured = push(out, marked, name.len() as u8);
+    put(name, out, measured)
+}
+
+// The record of a row: its time, and its codes.
+pub fn put_row(time: u32, codes: &[u8], out: &mut [u8], at: usize) -> usize
+    requires { ⌜ at + 6 + length (now codes) ≤ length (now out) ⌝ }
+    ensures { λ r. ⌜ Put (now (out .entry)) at (rowRecord time (now (codes .entry))) (now (out .exit)) r ⌝ }
+{
+    let marked = put_mark(out, at, b'R', b'W');
+    let timed = put_word(out, marked, time);
+    put(codes, out, timed)
+}
+
+// The record that ends a file of n rows.
+pub fn put_end(n: u32, out: &mut [u8], at: usize) -> usize
+    requires { ⌜ at + 6 ≤ length (now out) ⌝ }
+    ensures { λ r. ⌜ Put (now (out .entry)) at (endRecord n) (now (out .exit)) r ⌝ }
+{
+    let marked = put_mark(out, at, b'E', b'N');
+    put_word(out, marked, n)
+}

@@ -1,0 +1,40 @@
+-- What is corrected and pushed by the lists of an accepted tree is what document 01 defines for the tree's expression.
+--   tree-corrects, tree-pushes
+use mathlib.Core.Path.{_≡_, ap₂, _∙_}
+use mathlib.Core.List.{List}
+use Prim.Native.Nat.{ℕ, _+_, _-_}
+use Rattle.alf.specs.declared.Answer.{Answer}
+use Rattle.alf.specs.Traces.{corrected, lastRewritten}
+use Rattle.basics.specs.Words.{listed}
+use Rattle.basics.specs.Memory.{placed}
+use Rattle.queue.specs.declared.queues.Queue.{Queue}
+use Rattle.correction.specs.Corrections.{Corrects}
+use Rattle.queue.specs.Queues.{Pushes}
+use Rattle.rewriting.specs.declared.lists.Alternatives.{Alternatives}
+use Rattle.rewriting.specs.Lists.{Holds}
+use Rattle.update_calls.specs.Correcting.{CorrectsTree}
+use Rattle.update_calls.specs.Pushing.{PushesTree}
+use Rattle.matching_calls.proofs.ByAlternatives.{xs, numbers-on, steps-are}
+
+same-rewritten : (answers : List ℕ) (n r : ℕ) {k k′ : ℕ} {f g : ℕ → ℕ} → k ≡ k′ → f ≡ g
+    → placed answers r (listed r (lastRewritten k n r + 1 - r) f)
+    ≡ placed answers r (listed r (lastRewritten k′ n r + 1 - r) g)
+same-rewritten answers n r =
+    ap₂ (λ (k : ℕ) (f : ℕ → ℕ). placed answers r (listed r (lastRewritten k n r + 1 - r) f))
+
+module _ {names : ℕ} {tree : List ℕ} {a : Alternatives} (h : Holds tree names a) where
+  pub tree-corrects : {n r : ℕ} {states answers new states′ answers′ : List ℕ}
+      → Corrects names (xs h) n r states answers new states′ answers′
+      → CorrectsTree names n tree states answers r new states′ answers′
+  tree-corrects {n} {r} {states} {answers} {new} k =
+      record {
+        stored = k .stored;
+        answered =
+            k .rewritten
+            ∙ same-rewritten answers n r (steps-are h) (numbers-on h (corrected names states r new));
+      }
+
+  pub tree-pushes : {q q′ : Queue} {row : List ℕ} {t : ℕ} {answer : Answer}
+      → Pushes names (xs h) q row answer t q′
+      → PushesTree names tree q row answer t q′
+  tree-pushes p = rw (h .stands) at p

@@ -1,0 +1,4 @@
+-- The laws of corrections and pushes for trees.
+pub mod ByAlternatives
+pub mod Corrects
+pub mod Pushes

@@ -1,0 +1,3 @@
+// The calls that correct a row or push one.
+pub mod correcting;
+pub mod pushing;
