@@ -6,11 +6,12 @@
    place; then all lent memory is as it was and the other fields are 0, but a queue, which is the one handed in.
 
    Names are slots of 32 bytes, filled with zeros behind the name. States are codes 0 to 7 for 0 1 X H L W Z U, row by
-   row. A tree is the bytes of an expression, one a node, operands before their operator.
+   row. A tree is the bytes of an expression, one a node, operands before their operator. A row number is a uint32_t, to
+   which C cuts a larger one without a word; n, how many rows there are, is a size_t.
 
    A call takes less than 256 KB of stack. The proofs say nothing of that: tests/stack measures each call on the inputs
-   that recurse deepest (127,232 bytes at most, for an expression that is read) and reckons from the object code how much
-   any input can take (173,872 bytes at most). Nothing is allocated and nothing is kept. */
+   that recurse deepest (145,904 bytes at most, for a listing, which holds an answer for each row) and reckons from the
+   object code how much any input can take (237,872 bytes at most). Nothing is allocated and nothing is kept. */
 #ifndef DACHSMOND_H
 #define DACHSMOND_H
 #include <stdbool.h>
@@ -111,33 +112,34 @@ dachsmond_told dachsmond_write_trace(const uint8_t *names, size_t names_len, con
                                      const uint8_t *states, size_t states_len, size_t n, uint8_t *out, size_t out_len);
 
 /* The changes of a row of a trace of n rows and so many names; row 0 has none: 18, 15, 19. */
-dachsmond_changed dachsmond_changes_at(size_t names, size_t n, const uint8_t *states, size_t states_len, size_t row);
+dachsmond_changed dachsmond_changes_at(size_t names, size_t n, const uint8_t *states, size_t states_len, uint32_t row);
 
 /* The state of a boolean tree at a row, as the count told: 18, 10, 15, 19. */
 dachsmond_told dachsmond_row_state(size_t names, size_t n, const uint8_t *tree, size_t tree_len, const uint8_t *states,
-                                   size_t states_len, size_t row);
+                                   size_t states_len, uint32_t row);
 
 /* The value of a boolean tree at a row, as the count told: 18, 10, 15, 19. */
 dachsmond_told dachsmond_row_value(size_t names, size_t n, const uint8_t *tree, size_t tree_len, const uint8_t *states,
-                                   size_t states_len, size_t row);
+                                   size_t states_len, uint32_t row);
 
 /* The values of a boolean tree at all n rows into a list of exactly n; how many: 18, 10, 15. */
 dachsmond_told dachsmond_values(size_t names, size_t n, const uint8_t *tree, size_t tree_len, const uint8_t *states,
                                 size_t states_len, uint8_t *out, size_t out_len);
 
-/* The answer of a vector tree at a row, the greatest over all windows that end there, which takes long far from row 0:
-   18, 10, 15, 19. */
+/* The answer of a vector tree at a row, the greatest over all windows that end there: 18, 10, 15, 19. It is worked out
+   as the tree is written, on windows of at most 16 events, so its cost does not grow with the row; the states are all
+   looked through once for 15. */
 dachsmond_answered dachsmond_row_answer(size_t names, size_t n, const uint8_t *tree, size_t tree_len,
-                                        const uint8_t *states, size_t states_len, size_t row);
+                                        const uint8_t *states, size_t states_len, uint32_t row);
 
-/* The answer of a vector tree on the window of rows a to b, which takes long where b is far from a; a window without an
-   event answers no: 18, 10, 15, 19. */
+/* The answer of a vector tree on the window of rows a to b; a window without an event answers no, and so does one of
+   more events than the tree's longest alternative has steps: 18, 10, 15, 19. It costs no more than a row's answer. */
 dachsmond_answered dachsmond_window_answer(size_t names, size_t n, const uint8_t *tree, size_t tree_len,
-                                           const uint8_t *states, size_t states_len, size_t a, size_t b);
+                                           const uint8_t *states, size_t states_len, uint32_t a, uint32_t b);
 
 /* The answer of a vector tree at a row by its alternatives, and how many of them were tried: 18, 10, 15, 19. */
 dachsmond_matched dachsmond_match_row(size_t names, size_t n, const uint8_t *tree, size_t tree_len,
-                                      const uint8_t *states, size_t states_len, size_t row);
+                                      const uint8_t *states, size_t states_len, uint32_t row);
 
 /* The answers of all n rows and the numbers tried into two lists of exactly n; how many: 18, 10, 15. */
 dachsmond_told dachsmond_match_all(size_t names, size_t n, const uint8_t *tree, size_t tree_len, const uint8_t *states,
@@ -173,17 +175,17 @@ dachsmond_pushed dachsmond_push(size_t names, const uint8_t *tree, size_t tree_l
 /* Alternatives handed in: lists as `dachsmond_rewrite` writes them, of exactly as many entries as they say, over the tree
    in which their operands end. Lists that are not accepted are refused with 10. */
 
-/* Whether such lists are accepted, for 1 to 32 names; nothing is refused. */
-bool dachsmond_listed_fits(size_t names, const uint8_t *tree, size_t tree_len, const uint8_t *steps, size_t steps_len,
-                           const uint8_t *tests, size_t tests_len, const uint8_t *edges, size_t edges_len,
-                           const uint16_t *operands, size_t operands_len);
+/* How many alternatives such lists hold, where they are accepted: 18, 10. */
+dachsmond_told dachsmond_listed_fits(size_t names, const uint8_t *tree, size_t tree_len, const uint8_t *steps,
+                                     size_t steps_len, const uint8_t *tests, size_t tests_len, const uint8_t *edges,
+                                     size_t edges_len, const uint16_t *operands, size_t operands_len);
 
 /* Their answer at a row, and how many of them were tried: 18, 10, 15, 19. */
 dachsmond_matched dachsmond_listed_match_row(size_t names, size_t n, const uint8_t *tree, size_t tree_len,
                                              const uint8_t *steps, size_t steps_len, const uint8_t *tests,
                                              size_t tests_len, const uint8_t *edges, size_t edges_len,
                                              const uint16_t *operands, size_t operands_len, const uint8_t *states,
-                                             size_t states_len, size_t row);
+                                             size_t states_len, uint32_t row);
 
 /* Their answers at all n rows and the numbers tried into two lists of exactly n; how many: 18, 10, 15. */
 dachsmond_told dachsmond_listed_match_all(size_t names, size_t n, const uint8_t *tree, size_t tree_len,
@@ -206,24 +208,27 @@ dachsmond_pushed dachsmond_listed_push(size_t names, const uint8_t *tree, size_t
                                        size_t edges_len, const uint16_t *operands, size_t operands_len,
                                        dachsmond_queue queue, const uint8_t *row, size_t row_len);
 
-/* The listing of 1 to 65,535 rows, their times and as many answers, at the front of `out`, whose last line counts the
-   answers handed in; its length: 18, 15 for an answer above 3, 9. */
-dachsmond_told dachsmond_list(const uint32_t *times, size_t times_len, const uint8_t *answers, size_t answers_len,
-                              uint8_t *out, size_t out_len);
+/* The listing of the answers of a vector tree at all n rows, a line for each with its time and a last line with the
+   totals, at the front of `out`; its length: 18, 10, 15, 9. */
+dachsmond_told dachsmond_list(size_t names, size_t n, const uint8_t *tree, size_t tree_len, const uint32_t *times,
+                              size_t times_len, const uint8_t *states, size_t states_len, uint8_t *out,
+                              size_t out_len);
 
 /* The line of the table's heading at the front of `out`; its length: 9. */
 dachsmond_told dachsmond_table_heading(uint8_t *out, size_t out_len);
 
-/* The line of a pattern with such totals on n rows, where a byte of the pattern below 32 is shown as a space, at the
-   front of `out`; its length: 9. */
-dachsmond_told dachsmond_table_line(const uint8_t *pattern, size_t pattern_len, uint32_t yes, uint32_t unknown,
-                                    uint32_t no, uint32_t n, uint8_t *out, size_t out_len);
+/* The line of a pattern with the totals of its vector tree on n rows, at the front of `out`; its length: 18, 10, 15, 9.
+   The pattern stands there as it is handed in, but a byte of it below 32 is shown as a space. */
+dachsmond_told dachsmond_table_line(size_t names, size_t n, const uint8_t *tree, size_t tree_len,
+                                    const uint8_t *states, size_t states_len, const uint8_t *pattern,
+                                    size_t pattern_len, uint8_t *out, size_t out_len);
 
 /* The line of a pattern that was refused with a number at a place, at the front of `out`; its length: 9. */
 dachsmond_told dachsmond_table_refused(const uint8_t *pattern, size_t pattern_len, uint8_t number, size_t place,
                                        uint8_t *out, size_t out_len);
 
-/* The line of the totals of so many patterns on a trace of so many events, at the front of `out`; its length: 9. */
+/* The line of the sums over so many patterns on a trace of so many events, which the program that counted them hands
+   in, at the front of `out`; its length: 9. */
 dachsmond_told dachsmond_table_total(uint64_t yes, uint64_t unknown, uint64_t no, uint64_t patterns, uint64_t events,
                                      uint8_t *out, size_t out_len);
 

@@ -148,28 +148,30 @@ calls! {
         out: &mut [u8]) -> Told;
 
     /// The changes of a row of a trace of n rows and so many names; row 0 has none: 18, 15, 19.
-    changes_at = dachsmond_changes_at(names: usize, n: usize, states: &[u8], row: usize) -> Changed;
+    changes_at = dachsmond_changes_at(names: usize, n: usize, states: &[u8], row: u32) -> Changed;
 
     /// The state of a boolean tree at a row, as the count told: 18, 10, 15, 19.
-    row_state = dachsmond_row_state(names: usize, n: usize, tree: &[u8], states: &[u8], row: usize) -> Told;
+    row_state = dachsmond_row_state(names: usize, n: usize, tree: &[u8], states: &[u8], row: u32) -> Told;
 
     /// The value of a boolean tree at a row, as the count told: 18, 10, 15, 19.
-    row_value = dachsmond_row_value(names: usize, n: usize, tree: &[u8], states: &[u8], row: usize) -> Told;
+    row_value = dachsmond_row_value(names: usize, n: usize, tree: &[u8], states: &[u8], row: u32) -> Told;
 
     /// The values of a boolean tree at all n rows into a list of exactly n; how many: 18, 10, 15.
     values = dachsmond_values(names: usize, n: usize, tree: &[u8], states: &[u8], out: &mut [u8]) -> Told;
 
-    /// The answer of a vector tree at a row, the greatest over all windows that end there, which takes long far
-    /// from row 0: 18, 10, 15, 19.
-    row_answer = dachsmond_row_answer(names: usize, n: usize, tree: &[u8], states: &[u8], row: usize) -> Answered;
+    /// The answer of a vector tree at a row, the greatest over all windows that end there: 18, 10, 15, 19. It is worked
+    /// out as the tree is written, on windows of at most 16 events, so its cost does not grow with the row; the states
+    /// are all looked through once for 15.
+    row_answer = dachsmond_row_answer(names: usize, n: usize, tree: &[u8], states: &[u8], row: u32) -> Answered;
 
-    /// The answer of a vector tree on the window of rows a to b, which takes long where b is far from a; a window
-    /// without an event answers no: 18, 10, 15, 19.
-    window_answer = dachsmond_window_answer(names: usize, n: usize, tree: &[u8], states: &[u8], a: usize,
-        b: usize) -> Answered;
+    /// The answer of a vector tree on the window of rows a to b; a window without an event answers no, and so does one
+    /// of more events than the tree's longest alternative has steps: 18, 10, 15, 19. It costs no more than a row's
+    /// answer.
+    window_answer = dachsmond_window_answer(names: usize, n: usize, tree: &[u8], states: &[u8], a: u32,
+        b: u32) -> Answered;
 
     /// The answer of a vector tree at a row by its alternatives, and how many of them were tried: 18, 10, 15, 19.
-    match_row = dachsmond_match_row(names: usize, n: usize, tree: &[u8], states: &[u8], row: usize) -> Matched;
+    match_row = dachsmond_match_row(names: usize, n: usize, tree: &[u8], states: &[u8], row: u32) -> Matched;
 
     /// The answers of all n rows and the numbers tried into two lists of exactly n; how many: 18, 10, 15.
     match_all = dachsmond_match_all(names: usize, n: usize, tree: &[u8], states: &[u8], answers: &mut [u8],
@@ -197,14 +199,14 @@ calls! {
     /// One row more: its answer, how many alternatives were tried, and the queue with the row in it: 18, 10, 15.
     push = dachsmond_push(names: usize, tree: &[u8], queue: Queue, row: &[u8]) -> Pushed;
 
-    /// Whether alternatives handed in, lists as `rewrite` writes them and of exactly as many entries as they say, over
-    /// the tree in which their operands end, are accepted, for 1 to 32 names; the calls below refuse others with 10.
+    /// How many alternatives are handed in, lists as `rewrite` writes them and of exactly as many entries as they say,
+    /// over the tree in which their operands end, where they are accepted: 18, 10.
     listed_fits = dachsmond_listed_fits(names: usize, tree: &[u8], steps: &[u8], tests: &[u8], edges: &[u8],
-        operands: &[u16]) -> bool;
+        operands: &[u16]) -> Told;
 
     /// The answer of such lists at a row, and how many of them were tried: 18, 10, 15, 19.
     listed_match_row = dachsmond_listed_match_row(names: usize, n: usize, tree: &[u8], steps: &[u8], tests: &[u8],
-        edges: &[u8], operands: &[u16], states: &[u8], row: usize) -> Matched;
+        edges: &[u8], operands: &[u16], states: &[u8], row: u32) -> Matched;
 
     /// The answers of such lists at all n rows and the numbers tried into two lists of exactly n; how many: 18, 10, 15.
     listed_match_all = dachsmond_listed_match_all(names: usize, n: usize, tree: &[u8], steps: &[u8], tests: &[u8],
@@ -218,23 +220,23 @@ calls! {
     listed_push = dachsmond_listed_push(names: usize, tree: &[u8], steps: &[u8], tests: &[u8], edges: &[u8],
         operands: &[u16], queue: Queue, row: &[u8]) -> Pushed;
 
-    /// The listing of 1 to 65,535 rows, their times and as many answers, at the front of `out`, whose last line
-    /// counts the answers handed in; its length: 18, 15 for an answer above 3, 9.
-    list = dachsmond_list(times: &[u32], answers: &[u8], out: &mut [u8]) -> Told;
+    /// The listing of the answers of a vector tree at all n rows, a line for each with its time and a last line with
+    /// the totals, at the front of `out`; its length: 18, 10, 15, 9.
+    list = dachsmond_list(names: usize, n: usize, tree: &[u8], times: &[u32], states: &[u8], out: &mut [u8]) -> Told;
 
     /// The line of the table's heading at the front of `out`; its length: 9.
     table_heading = dachsmond_table_heading(out: &mut [u8]) -> Told;
 
-    /// The line of a pattern with such totals on n rows, where a byte of the pattern below 32 is shown as a space,
-    /// at the front of `out`; its length: 9.
-    table_line = dachsmond_table_line(pattern: &[u8], yes: u32, unknown: u32, no: u32, n: u32,
+    /// The line of a pattern with the totals of its vector tree on n rows, at the front of `out`; its length: 18, 10,
+    /// 15, 9. The pattern stands there as it is handed in, but a byte of it below 32 is shown as a space.
+    table_line = dachsmond_table_line(names: usize, n: usize, tree: &[u8], states: &[u8], pattern: &[u8],
         out: &mut [u8]) -> Told;
 
     /// The line of a pattern that was refused with a number at a place, at the front of `out`; its length: 9.
     table_refused = dachsmond_table_refused(pattern: &[u8], number: u8, place: usize, out: &mut [u8]) -> Told;
 
-    /// The line of the totals of so many patterns on a trace of so many events, at the front of `out`; its length:
-    /// 9.
+    /// The line of the sums over so many patterns on a trace of so many events, which the program that counted them
+    /// hands in, at the front of `out`; its length: 9.
     table_total = dachsmond_table_total(yes: u64, unknown: u64, no: u64, patterns: u64, events: u64,
         out: &mut [u8]) -> Told;
 }

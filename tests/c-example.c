@@ -26,10 +26,10 @@ static void read_and_write(const char *text, bool vector)
 
 static void show_changes(void)
 {
-    for (size_t row = 0; row < 7; row++) {
+    for (uint32_t row = 0; row < 7; row++) {
         dachsmond_changed c = dachsmond_changes_at(3, 6, STATES, sizeof STATES, row);
-        if (c.number) printf("row %zu: refused with %u at %zu\n", row, c.number, c.place);
-        else printf("row %zu: changed %u, set %u\n", row, c.many, c.mask);
+        if (c.number) printf("row %u: refused with %u at %zu\n", row, c.number, c.place);
+        else printf("row %u: changed %u, set %u\n", row, c.many, c.mask);
     }
 }
 
@@ -73,7 +73,7 @@ static void show_listed(void)
     uint32_t tried[6];
     dachsmond_expression e = dachsmond_read_expression(NAMES, sizeof NAMES, TEXT, 11, true);
     dachsmond_told k = dachsmond_rewrite(3, e.tree, e.len, steps, 64, tests, 1024, edges, 4096, operands, 4096);
-    printf("01 A | 10 B: %zu alternatives, accepted %d\n", k.count, dachsmond_listed_fits(3, LISTS));
+    printf("01 A | 10 B: %zu alternatives, accepted %d\n", k.count, !dachsmond_listed_fits(3, LISTS).number);
     dachsmond_listed_match_all(3, 6, LISTS, STATES, sizeof STATES, answers, 6, tried, 6);
     show_answers("by lists", answers);
     printf("tried %u %u %u %u %u %u\n", tried[0], tried[1], tried[2], tried[3], tried[4], tried[5]);
@@ -90,20 +90,22 @@ static void show_listed(void)
     show_answers("row by row", pushed);
     edges[1] = 83;
     c = dachsmond_listed_totals(3, 6, LISTS, STATES, sizeof STATES);
-    printf("edge 83: accepted %d, totals refused with %u at %zu\n", dachsmond_listed_fits(3, LISTS), c.number, c.place);
+    k = dachsmond_listed_fits(3, LISTS);
+    printf("edge 83: accepted %d, totals refused with %u at %zu\n", !k.number, c.number, c.place);
 }
 
 /* case 1's listing, and a table of two patterns on table T, the second of them refused */
 static void show_texts(void)
 {
-    static const uint8_t ANSWERS[] = {3, 1, 0, 0, 2, 0}, BAD[] = "01 A ->";
+    static const uint8_t BAD[] = "01 A ->";
     static const uint32_t TIMES[] = {0, 10, 20, 35, 40, 55};
     uint8_t out[200];
-    dachsmond_told w = dachsmond_list(TIMES, 6, ANSWERS, 6, out, sizeof out);
+    dachsmond_expression e = dachsmond_read_expression(NAMES, sizeof NAMES, BAD, 4, true);
+    dachsmond_told w = dachsmond_list(3, 6, e.tree, e.len, TIMES, 6, STATES, sizeof STATES, out, sizeof out);
     printf("%.*s", (int)w.count, (const char *)out);
     w = dachsmond_table_heading(out, sizeof out);
     printf("%.*s", (int)w.count, (const char *)out);
-    w = dachsmond_table_line(BAD, 4, 1, 1, 3, 6, out, sizeof out);
+    w = dachsmond_table_line(3, 6, e.tree, e.len, STATES, sizeof STATES, BAD, 4, out, sizeof out);
     printf("%.*s", (int)w.count, (const char *)out);
     w = dachsmond_table_refused(BAD, 7, 5, 7, out, sizeof out);
     printf("%.*s", (int)w.count, (const char *)out);

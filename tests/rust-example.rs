@@ -46,7 +46,7 @@ pub extern "C" fn main() -> i32 {
         let tree = &e.tree[..e.len];
         let c = totals(t.names, t.rows, tree, &states);
         assert_eq!(counted(t.names, tree, &states), [c.no, c.yes, c.unknown, 1]);
-        let told = table_line(pattern.as_bytes(), c.yes, c.unknown, c.no, t.rows as u32, &mut line);
+        let told = table_line(t.names, t.rows, tree, &states, pattern.as_bytes(), &mut line);
         show(&line, told.count);
         sums = [sums[0] + c.yes as u64, sums[1] + c.unknown as u64, sums[2] + c.no as u64];
     }

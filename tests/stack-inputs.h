@@ -76,14 +76,12 @@ static void vectors(void)
     put(1, "01 A");
     put(31, " | 01 A");
     nested(0, "", "", 32, " )", 2);
-    windows = false;
     nested(0, "", "01 A", 63, " & 01 A", 2); /* 64 tests */
     put(32, "01 A & ( ");
     put(1, "01 A");
     put(31, " & 01 A");
     nested(0, "", "", 32, " )", 2);
     nested(0, "", "01 A", 84, " <&> 01 A", 3); /* refused with 8 */
-    windows = true;
     nested(0, "", "01 A", 9, " & 01 A", 2);
     nested(9, "01 A & ( ", "01 A", 9, " )", 2);
     nested(0, "", "01 A", 63, " & A", 2);
@@ -105,10 +103,8 @@ static void vectors(void)
     put(60, " & A");
     put(1, " & ");
     nested(130, "! ", "A", 0, "", 2);
-    windows = false;
     put(62, "01 A & ");
     nested(66, "! ", "A", 0, "", 2);
-    windows = true;
 }
 
 /* trees that no text gives */
@@ -157,6 +153,7 @@ static void long_trace(void)
     call(check_names), call(write_trace);
     file_len = told.count;
     memcpy(file, out, file_len);
+    tree[0] = 0, tree[1] = 64 + 12, tree_len = 2; /* an edge of the first name */
     call(read_trace), call(changes_at), call(list);
     memset(text, 'A', sizeof text);
     text_len = sizeof text;

@@ -19,7 +19,7 @@ static const uint64_t PAINT = 0x5A5A5A5A5A5A5A5A;
 /* what the calls are made on; where they leave what they hand back does not count as theirs */
 static uint8_t names[32 * 32], text[8192], tree[LONG], row[32], out[ROWS * 40], file[ROWS * 40];
 static size_t k = 1, n = 2, text_len, tree_len, file_len;
-static bool vector, windows = true; /* windows: row_answer and window_answer too, which take long for `&` */
+static bool vector;
 static uint8_t states[32 * ROWS], answers[ROWS], steps[64], tests[1024], edges[4096], flags[64];
 static uint32_t times[ROWS], tried[ROWS];
 static uint16_t operands[4096];
@@ -68,7 +68,7 @@ static void contradictions(void) { told = dachsmond_contradictions(k, tree, tree
 static void correct(void) { told = dachsmond_correct(k, n, tree, tree_len, TRACE, answers, n, 0, row, k); }
 static void empty_queue(void) { queue = dachsmond_empty_queue(); }
 static void push(void) { pushed = dachsmond_push(k, tree, tree_len, queue, row, k); }
-static void listed_fits(void) { flags[0] = dachsmond_listed_fits(k, tree, tree_len, LISTS); }
+static void listed_fits(void) { told = dachsmond_listed_fits(k, tree, tree_len, LISTS); }
 static void listed_match_row(void)
 {
     matched = dachsmond_listed_match_row(k, n, tree, tree_len, LISTS, TRACE, n - 1);
@@ -79,11 +79,11 @@ static void listed_match_all(void)
 }
 static void listed_totals(void) { counted = dachsmond_listed_totals(k, n, tree, tree_len, LISTS, TRACE); }
 static void listed_push(void) { pushed = dachsmond_listed_push(k, tree, tree_len, LISTS, queue, row, k); }
-static void list(void) { told = dachsmond_list(times, n, answers, n, out, sizeof out); }
+static void list(void) { told = dachsmond_list(k, n, tree, tree_len, times, n, TRACE, out, sizeof out); }
 static void table_heading(void) { told = dachsmond_table_heading(out, sizeof out); }
 static void table_line(void)
 {
-    told = dachsmond_table_line(text, text_len, UINT32_MAX, 0, 1, UINT32_MAX, out, sizeof out);
+    told = dachsmond_table_line(k, n, tree, tree_len, TRACE, text, text_len, out, sizeof out);
 }
 static void table_refused(void) { told = dachsmond_table_refused(text, text_len, 255, SIZE_MAX, out, sizeof out); }
 static void table_total(void)
@@ -138,10 +138,10 @@ static void on_tree(void)
 {
     static void (*const of_trees[])(void) = {write_expression, row_state, row_value,      values,
                                              row_answer,       window_answer, match_row,  match_all,
-                                             totals,           contradictions, correct,   rewrite};
+                                             totals,           contradictions, correct,   list,
+                                             table_line,       rewrite};
     static void (*const of_lists[])(void) = {listed_fits, listed_match_row, listed_match_all, listed_totals};
-    for (size_t i = 0; i < sizeof of_trees / sizeof *of_trees; i++)
-        if (windows || (of_trees[i] != row_answer && of_trees[i] != window_answer)) call(of_trees[i]);
+    for (size_t i = 0; i < sizeof of_trees / sizeof *of_trees; i++) call(of_trees[i]);
     bool some = !told.number;
     if (some) {
         steps_len = told.count, tests_len = edges_len = 0;

@@ -10,11 +10,24 @@ static void say_text(dachsmond_told r, Bytes out)
     end_line(sum_of(0, out.at, out.length));
 }
 
+typedef struct { size_t names, n; Bytes tree, states; } Asked;
+
+static Asked take_asked(void)
+{
+    Asked a;
+    a.names = take_number();
+    a.n = take_number();
+    a.tree = take_bytes();
+    a.states = take_bytes();
+    return a;
+}
+
 void do_listing(void)
 {
-    Bytes times = take_bytes(), answers = take_bytes(), out = lend(take_number());
-    say_text(dachsmond_list((const uint32_t *)times.at, times.length / 4, answers.at, answers.length, out.at,
-                            out.length), out);
+    Asked a = take_asked();
+    Bytes times = take_bytes(), out = lend(take_number());
+    say_text(dachsmond_list(a.names, a.n, a.tree.at, a.tree.length, (const uint32_t *)times.at, times.length / 4,
+                            a.states.at, a.states.length, out.at, out.length), out);
 }
 
 void do_heading(void)
@@ -25,10 +38,10 @@ void do_heading(void)
 
 void do_line(void)
 {
-    Bytes pattern = take_bytes();
-    uint32_t yes = take_number(), unknown = take_number(), no = take_number(), n = take_number();
-    Bytes out = lend(take_number());
-    say_text(dachsmond_table_line(pattern.at, pattern.length, yes, unknown, no, n, out.at, out.length), out);
+    Asked a = take_asked();
+    Bytes pattern = take_bytes(), out = lend(take_number());
+    say_text(dachsmond_table_line(a.names, a.n, a.tree.at, a.tree.length, a.states.at, a.states.length, pattern.at,
+                                  pattern.length, out.at, out.length), out);
 }
 
 void do_refused_line(void)

@@ -33,7 +33,8 @@ void do_listed_fits(void)
 {
     Asked a = {.names = take_number()};
     take_lists(&a);
-    printf("fits %d", dachsmond_listed_fits(a.names, TREE(a), LISTS(a)));
+    dachsmond_told r = dachsmond_listed_fits(a.names, TREE(a), LISTS(a));
+    if (!refused(r.number, r.place, r.count)) printf("fits %zu", r.count);
     end_line(0);
 }
 

@@ -27,7 +27,7 @@ void do_values(void)
 void do_row_state(void)
 {
     Asked a = take_asked();
-    size_t row = take_number();
+    uint32_t row = take_number();
     dachsmond_told s = dachsmond_row_state(ASKED(a), row);
     dachsmond_told v = dachsmond_row_value(ASKED(a), row);
     if (s.number != v.number || s.place != v.place) printf("two refusals");
@@ -38,7 +38,7 @@ void do_row_state(void)
 void do_row_answer(void)
 {
     Asked a = take_asked();
-    size_t row = take_number();
+    uint32_t row = take_number();
     dachsmond_answered r = dachsmond_row_answer(ASKED(a), row);
     if (!refused(r.number, r.place, r.answer)) printf("row %u", r.answer);
     end_line(0);
@@ -47,7 +47,7 @@ void do_row_answer(void)
 void do_window(void)
 {
     Asked a = take_asked();
-    size_t from = take_number(), to = take_number();
+    uint32_t from = take_number(), to = take_number();
     dachsmond_answered r = dachsmond_window_answer(ASKED(a), from, to);
     if (!refused(r.number, r.place, r.answer)) printf("window %u", r.answer);
     end_line(0);

@@ -16,11 +16,11 @@
      l NAMES TREE ROOM ROOM ROOM ROOM   the lists of alternatives: steps, tests, edges, ends of operands
      x NAMES TREE ROOM               a flag for each contradictory alternative
      q NAMES TREE KEPT HELD SIZE STATES   a queue of KEPT rows, HELD its states' front, takes rows of SIZE states
-     F NAMES TREE LISTS              whether LISTS are accepted: STEPS TESTS EDGES OPERANDS, the last two bytes each
+     F NAMES TREE LISTS              how many LISTS hold, if accepted: STEPS TESTS EDGES OPERANDS, the last two bytes each
      R M T Q                         as r m t q, with LISTS behind TREE
-     L TIMES ANSWERS ROOM            the listing
+     L NAMES N TREE STATES TIMES ROOM   the listing of a pattern's answers
      H ROOM                          the table's heading
-     I PATTERN YES UNKNOWN NO N ROOM its line of a pattern
+     I NAMES N TREE STATES PATTERN ROOM   its line of a pattern
      J PATTERN NUMBER PLACE ROOM     its line of a pattern that was refused
      K YES UNKNOWN NO PATTERNS EVENTS ROOM   its last line
    An answer is a line too: `refused NUMBER PLACE` or what the call gave, then a sum over all lent memory. */

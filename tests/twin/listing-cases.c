@@ -2,33 +2,29 @@
 #include "cases.h"
 #include <stdio.h>
 
-static Buffer times, answers, pattern;
+static Buffer tree, states, times, pattern;
 
-/* As long as the listing, a little shorter or longer. */
-static long listing_room(void)
+/* Names, rows, a tree and states; now and then of so many events that halves of a millionth come up. */
+static long say_asked(void)
 {
-    static const int words[] = {2, 3, 7, 4};
-    long size = 12, count[4] = {0};
-    for (long i = 0; i < answers.length && 4 * i < times.length; i++) {
-        const uint8_t *t = times.at + 4 * i;
-        int answer = answers.at[i] & 3;
-        size += snprintf(NULL, 0, "%u", t[0] | t[1] << 8 | t[2] << 16 | (unsigned)t[3] << 24) + 2 + words[answer];
-        count[answer]++;
-    }
-    return room_for(size + snprintf(NULL, 0, "yes %ld no %ld unknown %ld\n", count[1], count[0], count[2]));
+    static const long halves[] = {128, 384, 640, 3200};
+    long k, n;
+    some_rows(&states, &k, &n);
+    if (!fixed_rows && once_in(6)) make_states(&states, k * (n = 1 + halves[below(once_in(4) ? 4 : 2)]));
+    some_tree(&tree, k, 1, any_size());
+    printf(" %ld %ld", k, n);
+    say(&tree);
+    say(&states);
+    return n;
 }
 
+/* About as long as the listing, or long enough for any. */
 static void say_listing(void)
 {
-    long n = make_times(&times, any_rows(12));
-    clear(&answers);
-    for (long i = n + (once_in(15) ? 1 - 2 * below(2) : 0); i > 0; i--) add(&answers, (int)below(once_in(5) ? 4 : 3));
-    if (answers.length > 0 && !once_in(4)) answers.at[0] = 3;
-    if (answers.length > 0 && once_in(15))
-        answers.at[below(answers.length)] = (uint8_t)(once_in(3) ? 4 : 4 + below(252));
+    long n = say_asked();
+    make_times(&times, n + once_in(40));
     say(&times);
-    say(&answers);
-    printf(" %ld", listing_room());
+    printf(" %ld", once_in(3) ? 30 + below(14 * n + 20) : 80 + 19 * n);
 }
 
 /* Of any width up to so many bits, and often near a power of ten or of two. */
@@ -49,26 +45,15 @@ static void make_pattern(void)
     else make_text(&pattern, 4, (int)below(2), 1 + (int)below(8));
 }
 
-/* Of so many events that halves of a millionth come up, or any number; n is one more. */
-static void say_counts(void)
-{
-    static const long halves[] = {2, 128, 384, 640, 3200, 2000000, 16000, 6000000};
-    long events = once_in(3) ? halves[below(8)] : once_in(4) ? (long)wide(32) : 1 + below(65534);
-    long yes = once_in(8) ? (long)wide(32) : once_in(8) ? events - below(2) : below(events + 1);
-    if (once_in(8)) events = below(3) - 1;
-    if (events > 4294967294) events = 4294967294;
-    printf(" %ld %ld %ld %ld", yes < 0 ? 0 : yes, (long)wide(32), (long)wide(32), events + 1);
-}
-
 void case_listing(int letter)
 {
     printf("%c", letter);
     if (letter == 'L') { say_listing(); return; }
+    if (letter == 'I') say_asked();
     if (letter == 'I' || letter == 'J') {
         make_pattern();
         say(&pattern);
     }
-    if (letter == 'I') say_counts();
     if (letter == 'J') printf(" %ld %llu", below(256), wide(64));
     if (letter == 'K') printf(" %llu %llu %llu %llu %llu", wide(64), wide(64), wide(64), wide(64), wide(64));
     printf(" %ld", once_in(2) ? below(70) : 300);

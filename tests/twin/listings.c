@@ -1,4 +1,4 @@
-/* The twin's side of the listing (18, 15, 9) and of the table's lines (9). */
+/* The twin's side of the listing and of a pattern's line of the table (18, 10, 15, 9), and of its other lines (9). */
 #include "calls.h"
 #include "twin.h"
 #include <stdarg.h>
@@ -29,26 +29,19 @@ static void hand_over(Text *t, Bytes out, Refusal r)
     free(t->at);
 }
 
-static Refusal check_listing(Bytes times, Bytes answers)
-{
-    long n = times.length / 4;
-    if (n < 1 || n > 65535 || answers.length != n) return (Refusal){18, 0};
-    for (long i = 0; i < n; i++)
-        if (answers.at[i] > 3) return (Refusal){15, i};
-    return (Refusal){0, 0};
-}
-
 void do_listing(void)
 {
     static const char *const words[] = {"no", "yes", "unknown", "none"};
-    Bytes times = take_bytes(), answers = take_bytes(), out = lend(take_number());
-    Refusal r = check_listing(times, answers);
+    Asked a = take_asked(0);
+    Bytes times = take_bytes(), out = lend(take_number());
+    Refusal r = check_asked(&a, times.length == 4 * a.n, VECTOR);
     Text t = {0};
     long count[4] = {0};
     put(&t, "time answer\n");
-    for (long i = 0; i < answers.length && !r.number; i++) {
-        put(&t, "%u %s\n", ((const uint32_t *)times.at)[i], words[answers.at[i]]);
-        count[answers.at[i]]++;
+    for (long i = 0; i < a.n && !r.number; i++) {
+        int answer = number_at(&a.pattern, &a.trace, i);
+        put(&t, "%u %s\n", ((const uint32_t *)times.at)[i], words[answer]);
+        count[answer]++;
     }
     put(&t, "yes %ld no %ld unknown %ld\n", count[1], count[0], count[2]);
     hand_over(&t, out, r);
@@ -61,7 +54,8 @@ static void put_pattern(Text *t, Bytes pattern)
     put(t, "\n");
 }
 
-/* yes / events by long division: six decimals, half a last place goes up. */
+/* yes / events by long division: six decimals, half a last place goes up. With at most 65,534 events no share below 1
+   is so near 1 that it is shown as 1. */
 static void put_share(Text *t, uint64_t yes, uint64_t events)
 {
     uint64_t whole = yes / events, left = yes % events, decimals = 0;
@@ -70,7 +64,6 @@ static void put_share(Text *t, uint64_t yes, uint64_t events)
         left = 10 * left % events;
     }
     if (2 * left >= events) decimals++;
-    if (decimals == 1000000) { whole++; decimals = 0; }
     put(t, "%llu.%06llu", (unsigned long long)whole, (unsigned long long)decimals);
 }
 
@@ -84,16 +77,18 @@ void do_heading(void)
 
 void do_line(void)
 {
-    Bytes pattern = take_bytes();
-    long yes = take_number(), unknown = take_number(), no = take_number(), n = take_number();
-    Bytes out = lend(take_number());
+    Asked a = take_asked(0);
+    Bytes pattern = take_bytes(), out = lend(take_number());
+    Refusal r = check_asked(&a, 1, VECTOR);
     Text t = {0};
-    put(&t, "%ld\t", yes);
-    if (n > 1) put_share(&t, (uint64_t)yes, (uint64_t)n - 1);
+    long count[4] = {0};
+    for (long i = 0; i < a.n && !r.number; i++) count[number_at(&a.pattern, &a.trace, i)]++;
+    put(&t, "%ld\t", count[1]);
+    if (a.n > 1) put_share(&t, (uint64_t)count[1], (uint64_t)a.n - 1);
     else put(&t, "-");
-    put(&t, "\t%ld\t%ld\t", unknown, no);
+    put(&t, "\t%ld\t%ld\t", count[2], count[0]);
     put_pattern(&t, pattern);
-    hand_over(&t, out, (Refusal){0, 0});
+    hand_over(&t, out, r);
 }
 
 void do_refused_line(void)

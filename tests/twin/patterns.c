@@ -3,9 +3,7 @@
 #include "twin.h"
 #include <string.h>
 
-typedef struct { long names, n; Pattern pattern; Bytes states; Trace trace; } Asked;
-
-static Asked take_asked(int listed)
+Asked take_asked(int listed)
 {
     Asked a;
     a.names = take_number();
@@ -16,8 +14,7 @@ static Asked take_asked(int listed)
     return a;
 }
 
-/* 18 (`lists`: whether the other lists fit), 10, 15. */
-static Refusal check(Asked *a, int lists, int sort)
+Refusal check_asked(Asked *a, int lists, int sort)
 {
     Refusal r = check_rows(a->names, a->n, a->states.length);
     if (!r.number && !lists) r = (Refusal){18, 0};
@@ -29,7 +26,7 @@ static Refusal check(Asked *a, int lists, int sort)
 /* 19 last. */
 static Refusal check_row(Asked *a, long row, int sort)
 {
-    Refusal r = check(a, 1, sort);
+    Refusal r = check_asked(a, 1, sort);
     return !r.number && row >= a->n ? (Refusal){19, 0} : r;
 }
 
@@ -37,7 +34,7 @@ void do_values(void)
 {
     Asked a = take_asked(0);
     Bytes out = lend(take_number());
-    if (!refused(check(&a, out.length == a.n, BOOLEAN))) {
+    if (!refused(check_asked(&a, out.length == a.n, BOOLEAN))) {
         for (long i = 0; i < a.n; i++) out.at[i] = (byte)value_at(a.pattern.node, &a.trace, i);
         printf("done %ld", a.n);
     }
@@ -85,7 +82,7 @@ static void match_all(int listed)
 {
     Asked a = take_asked(listed);
     Bytes out = lend(take_number()), tried = lend(4 * take_number());
-    if (!refused(check(&a, out.length == a.n && tried.length == 4 * a.n, VECTOR))) {
+    if (!refused(check_asked(&a, out.length == a.n && tried.length == 4 * a.n, VECTOR))) {
         for (long i = 0; i < a.n; i++) {
             out.at[i] = (byte)number_at(&a.pattern, &a.trace, i);
             ((uint32_t *)tried.at)[i] = (uint32_t)tries_at(a.pattern.all, &a.trace, i);
@@ -98,7 +95,7 @@ static void match_all(int listed)
 static void totals(int listed)
 {
     Asked a = take_asked(listed);
-    if (!refused(check(&a, 1, VECTOR))) {
+    if (!refused(check_asked(&a, 1, VECTOR))) {
         long count[4] = {0};
         for (long i = 0; i < a.n; i++) count[number_at(&a.pattern, &a.trace, i)]++;
         printf("totals %ld %ld %ld", count[1], count[0], count[2]);
@@ -120,7 +117,7 @@ void do_correction(void)
     Bytes answers = take_bytes();
     long row = take_number();
     Bytes fresh = take_bytes();
-    Refusal r = check(&a, answers.length == a.n && fresh.length == a.names, VECTOR);
+    Refusal r = check_asked(&a, answers.length == a.n && fresh.length == a.names, VECTOR);
     if (!r.number) r = first_code(fresh.at, fresh.length);
     if (!r.number && row >= a.n) r = (Refusal){19, 0};
     if (!refused(r)) {

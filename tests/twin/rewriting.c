@@ -80,11 +80,10 @@ void do_contradictions(void)
     end_line(sum_of(0, flags.at, flags.length));
 }
 
-/* Whether the lists are accepted is asked of any number of names. */
 void do_listed_fits(void)
 {
     long names = take_number();
     Pattern p = take_pattern(1);
-    printf("fits %d", check_pattern(&p, names, VECTOR).number == 0);
+    if (!refused(check(&p, names))) printf("fits %ld", p.lists[0].length);
     end_line(0);
 }

@@ -52,7 +52,7 @@ void case_rewrite(int letter)
     else printf(" 64 1024 4096 4096");
 }
 
-/* An answer as written goes through all windows, so many joins ask for few rows; far rows are asked of one edge. */
+/* The twin goes through all windows, so many joins ask for few rows; far rows are asked of one edge. */
 static void case_windows(int letter)
 {
     static const long most[] = {0, 90, 90, 90, 90, 40, 40, 40, 14};

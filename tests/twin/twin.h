@@ -93,4 +93,9 @@ Pattern take_pattern(int listed);
 Refusal check_pattern(Pattern *pattern, long names, int sort);
 int number_of(int answer);
 int number_at(const Pattern *pattern, const Trace *trace, long row);
+
+/* patterns.c: a call over rows: 18 (`lists`: whether the other lists fit), 10, 15 */
+typedef struct { long names, n; Pattern pattern; Bytes states; Trace trace; } Asked;
+Asked take_asked(int listed);
+Refusal check_asked(Asked *asked, int lists, int sort);
 #endif

@@ -8,12 +8,14 @@ use mathlib.Core.Bool.{Bool, true, false}
 use mathlib.Core.List.{List}
 use lib.ListN.{length}
 use Rattle.alf.specs.Expressions.{Vector, Expression, boolean, vector}
-use Rattle.alf.specs.Bytes.{bytesOf, topVector, isBoolean, isVector, Decodes}
+use Rattle.alf.specs.Bytes.{bytesOf}
+use Rattle.alf.specs.Decoder.{topVector, isBoolean, isVector, Decodes}
 use Rattle.alf.specs.Alternatives.{alternatives, overLimit}
 use Rattle.alf.specs.declared.Sort.{Sort}
 use Rattle.alf.specs.declared.Sort.the-variants as sort
 use Rattle.basics.proofs.Bools.{never}
-use Rattle.alf.proofs.Decoding.{bytes-decode, decode-unique}
+use Rattle.alf.proofs.Decoding.{decode-unique}
+use Rattle.alf.proofs.FewNames.{decodes-encoded, encoded-decodes}
 use Rattle.trees.specs.declared.sorts.Kind.the-variants as kind
 use Rattle.trees.specs.Parts.{isWhole, top, Ends, EndsBoolean, EndsVector}
 use Rattle.trees.specs.Parts.{expressionAt, vectorAt}
@@ -68,11 +70,16 @@ pub decoded : (n : ℕ) (tree : List ℕ) (e : Expression) → Decodes n tree e
 unfolding Decodes top
 decoded n tree e h = ap top h
 
+-- the stack says of an accepted tree what is asked of its bytes
+pub accepted-decodes : {n : ℕ} {sort : Sort} {tree : List ℕ} (a : Accepted n sort tree)
+    → Decodes n tree (a .expression)
+accepted-decodes {n} {tree = tree} a = encoded-decodes n tree (a .expression) (a .encodes)
+
 -- the expression that an accepted tree is has its bytes
 pub accepted-bytes : {n : ℕ} {sort : Sort} {tree : List ℕ} → Accepted n sort tree
     → bytesOf (expressionAt tree n (length tree)) ≡ tree
 accepted-bytes {n} {tree = tree} a =
-    ap bytesOf (decoded n tree (a .expression) (a .decodes)) ∙ bytes-decode n tree (a .expression) (a .decodes)
+    ap bytesOf (decoded n tree (a .expression) (accepted-decodes a)) ∙ a .encodes .bytes
 
 module _ (t : List ℕ) (names : ℕ) where
   vector-at-end : (p : Vector) → Decodes names t (vector p) → vectorAt t names (length t) ≡ p
@@ -99,7 +106,7 @@ module _ (t : List ℕ) (names : ℕ) where
 
   module _ (s : Sort) where
     shallow : Accepted names s t → Shallow t names
-    shallow a = rw (decoded names t (a .expression) (a .decodes)) (a .brackets)
+    shallow a = rw (decoded names t (a .expression) (accepted-decodes a)) (a .brackets)
 
     pub too-many : 256 < length t → Decides false (Accepted names s t)
     unfolding Decides
@@ -107,11 +114,11 @@ module _ (t : List ℕ) (names : ℕ) where
 
     pub no-tree : treeKind t names ≡ kind.Neither → Decides false (Accepted names s t)
     unfolding Decides Holds
-    no-tree k = λ a. (rw k at (kind-decodes t names)) (a .expression) (a .decodes)
+    no-tree k = λ a. (rw k at (kind-decodes t names)) (a .expression) (accepted-decodes a)
 
     -- the sort of the expression, where the tree is of a kind
     sort-is : (e : Expression) → Decodes names t e → Accepted names s t → sortOf e ≡ s
-    sort-is e h a = ap sortOf (decode-unique names t e (a .expression) h (a .decodes)) ∙ a .sorted
+    sort-is e h a = ap sortOf (decode-unique names t e (a .expression) h (accepted-decodes a)) ∙ a .sorted
 
     pub not-vector : treeKind t names ≡ kind.Boolean → s ≡ sort.Vector → Decides false (Accepted names s t)
     unfolding Decides Holds sortOf isVectorSort
@@ -129,7 +136,7 @@ module _ (t : List ℕ) (names : ℕ) where
         same-decided (Shallow t names) (Accepted names s t) r
         (λ d. record {
           expression = boolean c;
-          decodes = h;
+          encodes = decodes-encoded names t (boolean c) h;
           sorted = sym e;
           tokens = l;
           brackets = rw (decoded names t (boolean c) h) at d;
@@ -147,7 +154,7 @@ module _ (t : List ℕ) (names : ℕ) where
           same-decided (Shallow t names) (Accepted names s t) r
           (λ d. record {
             expression = vector p;
-            decodes = h;
+            encodes = decodes-encoded names t (vector p) h;
             sorted = sym e;
             tokens = l;
             brackets = rw (decoded names t (vector p) h) at d;
@@ -160,7 +167,7 @@ module _ (t : List ℕ) (names : ℕ) where
       unfolding Holds overSize Decides
       over-accepts f = λ a.
           let (p, h) = is-vector k in
-          let e = decode-unique names t (vector p) (a .expression) h (a .decodes) in
+          let e = decode-unique names t (vector p) (a .expression) h (accepted-decodes a) in
           f (rw (vector-at-end p h) (ap overSize e ∙ a .sized))
 
 -- a test says one thing only
@@ -174,7 +181,7 @@ decides-unique P false false h k = refl
 -- what an accepted tree ends with
 pub accepted-boolean : (t : List ℕ) (names : ℕ) → Accepted names sort.Boolean t → EndsBoolean t names (length t)
 unfolding Decodes isBoolean isVector sortOf isVectorSort
-accepted-boolean t names a = go (a .expression) (a .decodes) (a .sorted)
+accepted-boolean t names a = go (a .expression) (accepted-decodes a) (a .sorted)
   where
     go : (e : Expression) → Decodes names t e → sortOf e ≡ sort.Boolean → EndsBoolean t names (length t)
     go (boolean c) h k = record { within = omega arith; whole = rw h refl }
@@ -182,7 +189,7 @@ accepted-boolean t names a = go (a .expression) (a .decodes) (a .sorted)
 
 pub accepted-vector : (t : List ℕ) (names : ℕ) → Accepted names sort.Vector t → EndsVector t names (length t)
 unfolding Decodes isBoolean isVector sortOf isVectorSort
-accepted-vector t names a = go (a .expression) (a .decodes) (a .sorted)
+accepted-vector t names a = go (a .expression) (accepted-decodes a) (a .sorted)
   where
     go : (e : Expression) → Decodes names t e → sortOf e ≡ sort.Vector → EndsVector t names (length t)
     go (boolean c) h k = never (ap isVectorSort k)

@@ -11,7 +11,7 @@ use lib.ListN.{length-map}
 use borrow.Author.Tests.{ltb-true, ltb-false}
 use Rattle.alf.specs.Expressions.{Boolean, Edge, Vector, edge, join, while, Side}
 use Rattle.alf.specs.Expressions.{Join, followed-by, either-order, with-or-then, any-order, with, or-else}
-use Rattle.alf.specs.Bytes.{joinAt}
+use Rattle.alf.specs.Decoder.{joinAt}
 use Rattle.alf.specs.Alternatives.{conditioned, alternatives, numberOfAlternatives}
 use Rattle.alf.proofs.Growth.{some-alternative}
 use Rattle.alternatives.specs.Picks.{countOf}

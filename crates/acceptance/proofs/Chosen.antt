@@ -10,7 +10,7 @@ use lib.ListN.{getD}
 use Rattle.basics.specs.Words.{sumOf}
 use Rattle.alf.specs.Expressions.{Boolean, Edge, Vector, edge, join, while, Side}
 use Rattle.alf.specs.Expressions.{Join, followed-by, either-order, with-or-then, any-order, with, or-else}
-use Rattle.alf.specs.Bytes.{joinAt}
+use Rattle.alf.specs.Decoder.{joinAt}
 use Rattle.alf.specs.Alternatives.{Alternative, conditioned, alternatives, numberOfAlternatives, tests}
 use Rattle.alternatives.specs.declared.picking.How.{How}
 use Rattle.trees.specs.Parts.{vectorAt}

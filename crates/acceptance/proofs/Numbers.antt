@@ -7,7 +7,7 @@ use native.Mathlib.Nat.{mul-le-mul}
 use mathlib.Core.Path.{_≡_, refl}
 use mathlib.Core.List.{List}
 use lib.ListN.{getD}
-use Rattle.alf.specs.Bytes.{joinAt}
+use Rattle.alf.specs.Decoder.{joinAt}
 use Rattle.alf.specs.Alternatives.{numberOfAlternatives}
 use Rattle.trees.specs.Parts.{EndsVector, vectorAt}
 use Rattle.alternatives.specs.Picks.{countOf}

@@ -10,7 +10,7 @@ use mathlib.Core.Bool.{Bool, false}
 use mathlib.Core.List.{List}
 use lib.ListN.{length}
 use Rattle.alf.specs.Expressions.{Expression, boolean, vector}
-use Rattle.alf.specs.Bytes.{Decodes}
+use Rattle.alf.specs.Bytes.{Encodes}
 use Rattle.alf.specs.Alternatives.{alternatives, overLimit}
 use Rattle.alf.specs.declared.Sort.{Sort}
 use Rattle.alf.specs.declared.Sort.the-variants.{Boolean, Vector}
@@ -28,7 +28,7 @@ overSize (vector p) = overLimit (alternatives p)
 
 pub record Accepted (names : ℕ) (sort : Sort) (tree : List ℕ) : Type 0 where
   pub expression : Expression
-  pub decodes : Decodes names tree expression
+  pub encodes : Encodes names tree expression
   pub sorted : sortOf expression ≡ sort
   pub tokens : length tree ≤ 256
   pub brackets : depthOf expression ≤ 32

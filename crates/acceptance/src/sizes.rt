@@ -4,7 +4,7 @@ use alternatives::picking::How;
 use trees::parts;
 ghost use mathlib.Core.Path.{_≡_};
 ghost use Prim.Native.Nat.{_-_, _<_, min, max};
-ghost use Rattle.alf.specs.Bytes.{joinAt};
+ghost use Rattle.alf.specs.Decoder.{joinAt};
 ghost use Rattle.alf.specs.Alternatives.{numberOfAlternatives};
 ghost use Rattle.trees.specs.Parts.{EndsVector, vectorAt};
 ghost use Rattle.alternatives.specs.Picks.{countOf};

@@ -10,7 +10,7 @@ use Prim.Native.Nat.{ℕ, zero, suc, _+_, _-_, _<_, _≤_, min}
 use native.Mathlib.Nat.{add-zero}
 use native.Mathlib.Omega.{arith}
 use lib.Dec.{eqb}
-use lib.ListN.{length}
+use lib.ListN.{length, getD}
 use borrow.Author.Tests.{eq-eqb, eqb-true}
 use Rattle.basics.specs.Words.{if_then_else_, some, all, leastOf}
 use Rattle.alf.specs.Expressions.{Boolean, name, literal, negated, binary, choice}
@@ -107,8 +107,9 @@ module _ (st : Boolean → ℕ → ℕ) (n : ℕ) where
 
   -- so an alternative that answers yes has each literal answered yes, at each row of its window
   literals-yes : (x : Alternative) (a j : ℕ) → stepsFrom st x a ≡ 2 → YesTo (a + j) (literalsAt n x j)
-  unfolding stepsFrom literalsAt
-  literals-yes [] a j y = yes-none (a + j)
+  unfolding stepsFrom literalsAt halves
+  literals-yes [] a zero y = yes-none (a + zero)
+  literals-yes [] a (suc j) y = yes-none (a + suc j)
   literals-yes (s ∷ x) a zero y =
       let w = steps-small st x (a + 1) in
       let u = step-small st s a in
@@ -116,7 +117,7 @@ module _ (st : Boolean → ℕ → ℕ) (n : ℕ) where
   literals-yes (s ∷ x) a (suc zero) y =
       let w = steps-small st x (a + 1) in
       let u = step-small st s a in
-      yes-append (second n s) (literalsAt n x zero) (a + 1)
+      yes-append (second n s) (first n (getD x 0 [])) (a + 1)
       (second-yes s a (omega arith))
       (rw add-zero at (literals-yes x (a + 1) zero (omega arith)))
   literals-yes (s ∷ x) a (suc (suc j)) y =

@@ -8,7 +8,7 @@ use lib.ListN.{getD, length, take}
 use lib.Seq.{take-suc, take-length}
 use Rattle.alf.specs.Expressions.{Expression, ExpressionOver}
 use Rattle.alf.specs.Bytes.{booleanBytes, vectorBytes, bytesOf}
-use Rattle.alf.specs.Bytes.{Stack, empty, broken, push, stackAt, Decodes}
+use Rattle.alf.specs.Decoder.{Stack, empty, broken, push, stackAt, Decodes}
 use Rattle.alf.proofs.Made.{Made, a-name, a-literal, a-negation, a-binary, a-choice, an-edge, a-join}
 use Rattle.alf.proofs.Made.{a-condition, a-condition-before, nothing, made}
 use Rattle.alf.proofs.OperatorBytes.{binary-byte, join-byte, edge-byte}

@@ -9,7 +9,7 @@ use native.Mathlib.Omega.{arith}
 use lib.Dec.{ltb, eqb}
 use borrow.Author.Tests.{lt-ltb, le-ltb, eq-eqb, ne-eqb}
 use Rattle.alf.specs.Expressions.{Half, any, the, Edge, pair, changes, stays}
-use Rattle.alf.specs.Bytes.{halfAt, edgeAt}
+use Rattle.alf.specs.Decoder.{halfAt, edgeAt}
 
 pub half-any : (h : ℕ) → h ≡ 0 → halfAt h ≡ any
 unfolding halfAt

@@ -10,8 +10,9 @@ use lib.Seq.{take-suc, take-length}
 use Rattle.alf.specs.Expressions.{Boolean, name, literal, negated, binary, choice, Vector, edge, join, while}
 use Rattle.alf.specs.Expressions.{on-right, on-left, Expression, boolean, vector}
 use Rattle.alf.specs.Expressions.{Over, VectorOver, ExpressionOver}
-use Rattle.alf.specs.Bytes.{booleanBytes, vectorBytes, bytesOf, Stack, empty, push, operationAt, run}
-use Rattle.alf.specs.Bytes.{ifSo, isBoolean, isVector, topBoolean, topVector, under, stackAt, Decodes}
+use Rattle.alf.specs.Bytes.{booleanBytes, vectorBytes, bytesOf}
+use Rattle.alf.specs.Decoder.{Stack, empty, push, operationAt, run}
+use Rattle.alf.specs.Decoder.{ifSo, isBoolean, isVector, topBoolean, topVector, under, stackAt, Decodes}
 use Rattle.alf.proofs.OperatorBytes.{name-operation, literal-operation, binary-operation}
 use Rattle.alf.proofs.OperatorBytes.{join-operation, edge-operation}
 use Rattle.alf.proofs.OperatorBytes.{negation-operation, choice-operation, right-operation, left-operation}

@@ -8,6 +8,8 @@ pub mod Overlays
 pub mod WindowsAreAlternatives
 pub mod RowsAreAlternatives
 pub mod Conditions
+pub mod Values
+pub mod Answers
 pub mod Nearness
 pub mod Growth
 pub mod TraceNearness
@@ -27,6 +29,7 @@ pub mod OperatorBytes
 pub mod Stacks
 pub mod Encoding
 pub mod Decoding
+pub mod FewNames
 pub mod Parts
 pub mod StackTops
 pub mod EachAll

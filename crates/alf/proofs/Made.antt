@@ -7,10 +7,10 @@ use lib.Dec.{ltb, eqb}
 use borrow.Author.Tests.{ltb-true, ltb-false, eqb-true}
 use Rattle.alf.specs.Expressions.{Boolean, name, literal, negated, binary, choice, Vector, edge, join, while}
 use Rattle.alf.specs.Expressions.{on-right, on-left, Expression, boolean, vector}
-use Rattle.alf.specs.Bytes.{Stack, empty, broken, push, Operation, of-one, of-two, of-three, of-vectors}
-use Rattle.alf.specs.Bytes.{of-side, wrong, binaryAt, joinAt, edgeAt, leafAt, pairAt}
-use Rattle.alf.specs.Bytes.{threeAt, oneAt, operationAt}
-use Rattle.alf.specs.Bytes.{isBoolean, isVector, topBoolean, topVector, under, ifSo, run}
+use Rattle.alf.specs.Decoder.{Stack, empty, broken, push, Operation, of-one, of-two, of-three, of-vectors}
+use Rattle.alf.specs.Decoder.{of-side, wrong, binaryAt, joinAt, edgeAt, leafAt, pairAt}
+use Rattle.alf.specs.Decoder.{threeAt, oneAt, operationAt}
+use Rattle.alf.specs.Decoder.{isBoolean, isVector, topBoolean, topVector, under, ifSo, run}
 use Rattle.basics.proofs.Choices.{if-all}
 
 -- the stack that byte b leaves of the stack s

@@ -12,7 +12,7 @@ use native.Mathlib.Omega.{arith}
 use lib.ListN.{length}
 use Rattle.basics.specs.Words.{leastOf, greatestOf}
 use Rattle.alf.specs.Expressions.{Boolean}
-use Rattle.alf.specs.Windows.{named}
+use Rattle.alf.specs.Windows.{numbered}
 use Rattle.alf.specs.Alternatives.{test, Step, Alternative, testAt, stepAt, stepsFrom, atRow}
 use Rattle.alf.specs.Alternatives.{bestOf, answerOf, tried, tries}
 use Rattle.basics.proofs.Bools.{below?}
@@ -85,7 +85,7 @@ module _ (Q : Boolean → Type 0) (st st′ : Boolean → ℕ → ℕ) where
   answers-near K zero zero xs h n s l = refl
   answers-near K zero (suc j) xs h n s l = absurd (omega (arith, n .room))
   answers-near K (suc i) zero xs h n s l = absurd (omega (arith, n .room))
-  answers-near K (suc i) (suc j) xs h n s l = ap named (best-near K (suc i) (suc j) n xs s l)
+  answers-near K (suc i) (suc j) xs h n s l = ap numbered (best-near K (suc i) (suc j) n xs s l)
 
   pub tries-near : (K i j : ℕ) (xs : List Alternative) → 0 < K → Near K i j → All (Asks Q) xs
       → All (λ x. length x ≤ K) xs

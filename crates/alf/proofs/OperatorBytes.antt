@@ -15,9 +15,10 @@ use Rattle.alf.specs.Expressions.{Binary, and, or, xor, xnor, equals, di
 use Rattle.alf.specs.Expressions.{Half, any, the, Edge, pair, changes, stays, edge, join}
 use Rattle.alf.specs.Expressions.{Join, followed-by, either-order, with-or-then, any-order, with, or-else}
 use Rattle.alf.specs.Expressions.{on-right, on-left, vector, HalfKnown, EdgeKnown}
-use Rattle.alf.specs.Bytes.{binaryByte, joinByte, halfNumber, edgeNumber, binaryAt, joinAt, halfAt, edgeAt}
-use Rattle.alf.specs.Bytes.{leaf, of-one, of-two, of-three, of-vectors, of-side, negation}
-use Rattle.alf.specs.Bytes.{leafAt, pairAt, threeAt, oneAt, operationAt}
+use Rattle.alf.specs.Bytes.{binaryByte, joinByte, halfNumber, edgeNumber}
+use Rattle.alf.specs.Decoder.{binaryAt, joinAt, halfAt, edgeAt}
+use Rattle.alf.specs.Decoder.{leaf, of-one, of-two, of-three, of-vectors, of-side, negation}
+use Rattle.alf.specs.Decoder.{leafAt, pairAt, threeAt, oneAt, operationAt}
 use Rattle.basics.proofs.Choices.{if-all, every, every-at}
 
 -- a function that is m + k at k, for every k below n

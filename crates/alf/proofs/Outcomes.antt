@@ -3,16 +3,25 @@
 --   at-fixed, first-fixed, first-of-fixed   the three kinds of rows fix their places
 --   refused-unique    one number and one place
 --   refused-passed    nothing is refused and passed
+--   refused-by-unique   one refusal
+--   refused-among     its number is one of the order's
 --   comes-unique      one outcome
-use mathlib.Core.Path.{_≡_, sym, ap, _∙_}
+use mathlib.Core.Path.{_≡_, refl, sym, ap, _∙_}
 use mathlib.Core.List.{[], _∷_}
+use mathlib.Core.Bool.{true}
+use lib.Dec.{eqb}
+use borrow.Author.Tests.{eq-eqb}
 use mathlib.Core.Logic.{_⊎_, inl, inr}
 use Prim.Native.Nat.{ℕ, _<_, _≤_}
 use native.Mathlib.Omega.{arith}
 use Rattle.basics.specs.declared.Outcome.{Outcome}
 use Rattle.basics.specs.declared.Outcome.the-variants.{Done, Refused}
-use Rattle.alf.specs.Refusals.{Row, At, First, FirstOf, Order, RefusedWith, Passed, Comes}
-use Rattle.basics.proofs.Bools.{below?}
+use Rattle.basics.specs.declared.Refusal.{Refusal}
+use Rattle.alf.specs.States.{among}
+use Rattle.alf.specs.Refusals.{Row, At, First, FirstOf, Order, numbersOf, RefusedWith, RefusedBy, Passed}
+use Rattle.alf.specs.Refusals.{Comes}
+use Rattle.basics.proofs.Refusals.{refusal-same}
+use Rattle.basics.proofs.Bools.{below?, or-yes}
 
 -- a row holds at one place at most
 abbrev pub Fixed : Row → Type 0
@@ -53,6 +62,16 @@ refused-unique (c ∷ cs) f {n} {m} {p} {q} (inl r) (inr s) = absurd (s .0 p (r 
 refused-unique (c ∷ cs) f {n} {m} {p} {q} (inr r) (inl s) = absurd (r .0 q (s .1))
 refused-unique (c ∷ cs) f (inr r) (inr s) = refused-unique cs (f .1) (r .1) (s .1)
 
+pub refused-by-unique : (o : Order) → AllFixed o → {r s : Refusal} → RefusedBy o r → RefusedBy o s → r ≡ s
+refused-by-unique o f x y = refusal-same (refused-unique o f x y)
+
+-- the number of a refusal is one of its order's
+pub refused-among : (o : Order) (n p : ℕ) → RefusedWith o n p → among n (numbersOf o) ≡ true
+unfolding RefusedWith numbersOf among
+refused-among [] n p h = absurd h
+refused-among (c ∷ cs) n p (inl h) = rw (eq-eqb n (c .number) (h .0)) refl
+refused-among (c ∷ cs) n p (inr h) = rw (refused-among cs n p (h .1)) (or-yes (eqb n (c .number)))
+
 pub comes-unique :
     (o : Order) (made : ℕ → Type 0) →
     AllFixed o →
@@ -66,4 +85,4 @@ comes-unique o made f one (Done j) (Done k) x y = ap Done (one j k (x .1) (y .1)
 comes-unique o made f one (Done j) (Refused s) x y = absurd (refused-passed o _ _ (x .0) y)
 comes-unique o made f one (Refused r) (Done k) x y = absurd (refused-passed o _ _ (y .0) x)
 comes-unique o made f one (Refused r) (Refused s) x y =
-    let e = refused-unique o f x y in λ i. Refused (record { number = e .0 i; place = e .1 i })
+    ap Refused (refused-by-unique o f x y)

@@ -9,8 +9,9 @@ use mathlib.Core.Path.{_≡_, refl}
 use mathlib.Core.List.{List}
 use lib.ListN.{getD, length, length-append}
 use borrow.Author.Tests.{lt-ltb, le-ltb}
-use Rattle.alf.specs.Bytes.{booleanBytes, vectorBytes, bytesOf, operationAt, arityAt, run, stackAt}
-use Rattle.alf.specs.Bytes.{Stack, empty, broken, push, under}
+use Rattle.alf.specs.Bytes.{booleanBytes, vectorBytes, bytesOf}
+use Rattle.alf.specs.Decoder.{operationAt, arityAt, run, stackAt}
+use Rattle.alf.specs.Decoder.{Stack, empty, broken, push, under}
 use Rattle.alf.proofs.Made.{Made, a-name, a-literal, a-negation, a-binary, a-choice, an-edge, a-join}
 use Rattle.alf.proofs.Made.{a-condition, a-condition-before, nothing, made}
 

@@ -7,14 +7,13 @@
 use mathlib.Core.Path.{_≡_, refl}
 use mathlib.Core.Bool.{true}
 use mathlib.Core.List.{[], _∷_}
-use Rattle.alf.specs.declared.Answer.the-variants.{No, Yes, Unknown}
 use Rattle.basics.specs.Words.{greatest, least, some, all}
 use Rattle.alf.specs.States.{X, U, reduce, table, among, matches, inCells, inLines, relations}
 use Rattle.alf.specs.Expressions.{edge, join, while, with, on-right, Vector}
-use Rattle.alf.specs.Values.{state, stateAt}
+use Rattle.alf.specs.Values.{value, recordedOr, state, stateAt}
 use Rattle.alf.specs.Windows.{asked, digitAsked, letterAsked, edgeOn, followedBy, together, certainty}
 use Rattle.alf.specs.Windows.{held}
-use Rattle.alf.specs.Windows.{joined, answer, best, named, rowAnswer}
+use Rattle.alf.specs.Windows.{joined, answer, best, numbered, rowAnswer}
 use Rattle.alf.specs.Alternatives.{test, Alternative, padded, zipped, overlaid, isName, halves, literalsAt}
 use Rattle.alf.specs.Alternatives.{possible, contradictory, each, rewritten, alternatives}
 use Rattle.alf.specs.Traces.{corrected}
@@ -34,31 +33,31 @@ pub not-dropped-contradictory : contradictory 1 both-one ≡ true
 unfolding contradictory possible literalsAt halves isName some all asked digitAsked letterAsked reduce
 not-dropped-contradictory = refl
 
-pub not-dropped : rowAnswer (stateAt 1 (X ∷ X ∷ [])) both 1 ≡ Unknown
-unfolding
-    rowAnswer named best answer joined together greatest state edgeOn asked digitAsked letterAsked reduce
+pub not-dropped : rowAnswer (stateAt 1 (X ∷ X ∷ [])) both 1 ≡ 2
+unfolding rowAnswer numbered best answer joined together greatest value recordedOr state edgeOn asked digitAsked
+    letterAsked reduce
 not-dropped = refl
 
-pub not-left-aligned : rowAnswer (stateAt names states) (join with (edge fall C) pulse) 2 ≡ Unknown
-unfolding
-    states rowAnswer named best answer joined together followedBy greatest state edgeOn asked digitAsked letterAsked
-    reduce
+pub not-left-aligned : rowAnswer (stateAt names states) (join with (edge fall C) pulse) 2 ≡ 2
+unfolding states rowAnswer numbered best answer joined together followedBy greatest value recordedOr state edgeOn
+    asked digitAsked letterAsked reduce
 not-left-aligned = refl
 
-pub not-last-row-only : rowAnswer (stateAt names states) (while on-right pulse A) 2 ≡ No
-unfolding
-    states rowAnswer named best answer joined followedBy greatest least held certainty state edgeOn asked digitAsked
-    letterAsked reduce
+pub not-last-row-only : rowAnswer (stateAt names states) (while on-right pulse A) 2 ≡ 0
+unfolding states rowAnswer numbered best answer joined followedBy greatest least held certainty value recordedOr state
+    edgeOn asked digitAsked letterAsked reduce
 not-last-row-only = refl
 
 pub u-equals-u : relations U U .equal ≡ X
 unfolding relations table inLines inCells among matches
 u-equals-u = refl
 
-pub not-only-row-r : rowAnswer (stateAt names (corrected names states 3 (0 ∷ 0 ∷ 1 ∷ []))) (edge rise A) 4 ≡ Yes
-unfolding states corrected rowAnswer named best answer greatest state edgeOn asked digitAsked letterAsked reduce
+pub not-only-row-r : rowAnswer (stateAt names (corrected names states 3 (0 ∷ 0 ∷ 1 ∷ []))) (edge rise A) 4 ≡ 1
+unfolding states corrected rowAnswer numbered best answer greatest value recordedOr state edgeOn asked digitAsked
+    letterAsked reduce
 not-only-row-r = refl
 
-pub not-only-row-r-before : rowAnswer (stateAt names states) (edge rise A) 4 ≡ Unknown
-unfolding states rowAnswer named best answer greatest state edgeOn asked digitAsked letterAsked reduce
+pub not-only-row-r-before : rowAnswer (stateAt names states) (edge rise A) 4 ≡ 2
+unfolding states rowAnswer numbered best answer greatest value recordedOr state edgeOn asked digitAsked letterAsked
+    reduce
 not-only-row-r-before = refl

@@ -14,7 +14,7 @@ use lib.ListN.{length}
 use borrow.Author.Tests.{le-leb, lt-leb}
 use Rattle.basics.specs.Words.{greatest, greatestOf}
 use Rattle.alf.specs.Expressions.{Boolean, Vector}
-use Rattle.alf.specs.Windows.{answer, best, rowAnswer, named}
+use Rattle.alf.specs.Windows.{answer, best, rowAnswer, numbered}
 use Rattle.alf.specs.Alternatives.{Alternative, alternatives, stepsFrom, onWindow, atRow, bestOf, answerOf}
 use Rattle.basics.proofs.Bools.{below?}
 use Rattle.basics.proofs.AllEntries.{none, more}
@@ -65,7 +65,7 @@ module _ (st : Boolean → ℕ → ℕ) where
   pub same-answer : (p : Vector) (i : ℕ) → rowAnswer st p i ≡ answerOf st (alternatives p) i
   unfolding rowAnswer answerOf
   same-answer p zero = refl
-  same-answer p (suc i) = ap named (row-alternatives p (suc i))
+  same-answer p (suc i) = ap numbered (row-alternatives p (suc i))
 
   most-empty : (xs : List Alternative) (a : ℕ) → Steps xs → most st xs a a ≡ 0
   unfolding greatestOf

@@ -7,7 +7,7 @@ use mathlib.Core.Path.{_≡_, refl}
 use mathlib.Core.Bool.{true}
 use Rattle.alf.specs.Expressions.{name, literal, negated, binary, choice, edge, join, while}
 use Rattle.alf.specs.Expressions.{on-right, on-left}
-use Rattle.alf.specs.Bytes.{Stack, binaryAt, joinAt, edgeAt, isBoolean, isVector, topBoolean, topVector, under}
+use Rattle.alf.specs.Decoder.{Stack, binaryAt, joinAt, edgeAt, isBoolean, isVector, topBoolean, topVector, under}
 use Rattle.basics.proofs.Bools.{never}
 use Rattle.alf.proofs.Made.{Made, a-name, a-literal, a-negation, a-binary, a-choice, an-edge, a-join}
 use Rattle.alf.proofs.Made.{a-condition, a-condition-before, nothing}

@@ -4,7 +4,7 @@ use native.Mathlib.Omega.{arith}
 use mathlib.Core.List.{List}
 use lib.ListN.{getD}
 use Rattle.alf.specs.Expressions.{Over, VectorOver, ExpressionOver}
-use Rattle.alf.specs.Bytes.{Stack, empty, broken, push, stackAt}
+use Rattle.alf.specs.Decoder.{Stack, empty, broken, push, stackAt}
 use Rattle.alf.proofs.Made.{Made, a-name, a-literal, a-negation, a-binary, a-choice, an-edge, a-join}
 use Rattle.alf.proofs.Made.{a-condition, a-condition-before, nothing, made}
 use Rattle.alf.proofs.OperatorBytes.{edge-known}

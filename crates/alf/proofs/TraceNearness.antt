@@ -1,5 +1,4 @@
 -- Nearness (Nearness.antt) for traces: a row's answer depends on the names' states in the last K+1 rows.
---   state-same       a boolean expression's state depends on its names' states
 --   SameRows         rows i and j of two traces, and the K rows before each, hold the same states; near the start as
 --   many
 --   rows-near        so a vector expression of at most K steps answers the same, and tries as many alternatives
@@ -14,8 +13,8 @@ use native.Mathlib.Omega.{arith}
 use lib.ListN.{length, getD, take, drop, List·getD-append}
 use lib.Seq.{getD-take, getD-drop, getD-append-add, length-take-le}
 use Rattle.basics.specs.Words.{greatestOf}
-use Rattle.alf.specs.Expressions.{Boolean, name, literal, negated, binary, choice, Vector, Over, VectorOver}
-use Rattle.alf.specs.Values.{state, rowOf, stateAt}
+use Rattle.alf.specs.Expressions.{Vector, Over, VectorOver}
+use Rattle.alf.specs.Values.{rowOf, stateAt}
 use Rattle.alf.specs.Windows.{rowAnswer}
 use Rattle.alf.specs.Alternatives.{Alternative, alternatives, stepsOf, tries}
 use Rattle.alf.specs.Traces.{corrected}
@@ -26,19 +25,8 @@ use Rattle.alf.proofs.WindowsAreAlternatives.{every-has-steps}
 use Rattle.alf.proofs.RowsAreAlternatives.{same-answer}
 use Rattle.alf.proofs.Growth.{some-alternative}
 use Rattle.alf.proofs.Conditions.{Asks, alternatives-ask, over-asked}
+use Rattle.alf.proofs.Values.{state-same}
 use Rattle.alf.proofs.Nearness.{Near, answers-near, tries-near}
-
-pub state-same : (n : ℕ) (row row′ : ℕ → ℕ) (c : Boolean) → Over n c
-    → ((i : ℕ) → i < n → row i ≡ row′ i)
-    → state row c ≡ state row′ c
-unfolding state Over
-state-same n row row′ (name i) o h = h i o
-state-same n row row′ (literal l) o h = refl
-state-same n row row′ (negated a) o h = rw (state-same n row row′ a o h) refl
-state-same n row row′ (binary k a b) o h =
-    rw (state-same n row row′ a (o .0) h, state-same n row row′ b (o .1) h) refl
-state-same n row row′ (choice c a b) o h =
-    rw (state-same n row row′ c (o .0) h, state-same n row row′ a (o .1) h, state-same n row row′ b (o .2) h) refl
 
 -- no alternative has more than K steps, and K is at least 1
 within-greatest : (xs : List Alternative) → All (λ x. length x ≤ greatestOf length xs) xs
@@ -67,7 +55,7 @@ pub record SameRows (names K : ℕ) (states states′ : List ℕ) (i j : ℕ) : 
 module _ (names : ℕ) (p : Vector) (over : VectorOver names p) (states states′ : List ℕ) (i j : ℕ)
     (s : SameRows names (stepsOf p) states states′ i j) where
   near : Near (Over names) (stateAt names states) (stateAt names states′) (stepsOf p) i j
-  near = record { room = s .room; agree = λ d h k c o. state-same names _ _ c o (λ n l. s .same d n h k l) }
+  near = record { room = s .room; agree = λ d h k c o. state-same names _ _ (λ n l. s .same d n h k l) c o }
 
   asks : All (Asks (Over names)) (alternatives p)
   asks = alternatives-ask (Over names) p (over-asked names p over)

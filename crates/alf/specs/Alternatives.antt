@@ -12,14 +12,12 @@ use Prim.Native.Nat.{ℕ, zero, suc, _+_, _-_, min}
 use mathlib.Core.Bool.{Bool, false, not, _||_}
 use mathlib.Core.List.{List, [], _∷_, _++_, map}
 use lib.Dec.{eqb, ltb, leb}
-use lib.ListN.{length, replicate}
-use Rattle.alf.specs.declared.Answer.{Answer}
-use Rattle.alf.specs.declared.Answer.the-variants.{NoEvent}
+use lib.ListN.{length, replicate, getD}
 use Rattle.basics.specs.Words.{if_then_else_, greatestOf, leastOf, sumOf, some, all}
 use Rattle.alf.specs.Expressions.{Boolean, name, literal, negated, binary, choice}
 use Rattle.alf.specs.Expressions.{Half, the, Edge, pair, changes, stays, Vector, edge, join, while}
 use Rattle.alf.specs.Expressions.{Join, followed-by, either-order, with-or-then, any-order, with, or-else}
-use Rattle.alf.specs.Windows.{NO, YES, asked, edgeOn, named}
+use Rattle.alf.specs.Windows.{Rank, NO, YES, asked, edgeOn, numbered}
 
 -- A step is a list of edge tests; an alternative is a list of steps.
 pub data Test : Type 0 where
@@ -75,33 +73,33 @@ alternatives (join j p q) = rewritten j (alternatives p) (alternatives q)
 alternatives (while s p c) = map (conditioned c) (alternatives p)
 
 -- The answer of a test on the event from row a to row a + 1, of a step there, and of an alternative from row a on.
-unfoldable pub testAt : (Boolean → ℕ → ℕ) → ℕ → Test → ℕ
+unfoldable pub testAt : (Boolean → ℕ → ℕ) → ℕ → Test → Rank
 testAt st a (test e c) = edgeOn e (st c a) (st c (a + 1))
 
-unfoldable pub stepAt : (Boolean → ℕ → ℕ) → Step → ℕ → ℕ
+unfoldable pub stepAt : (Boolean → ℕ → ℕ) → Step → ℕ → Rank
 stepAt st s a = leastOf (testAt st a) s
 
-unfoldable pub stepsFrom : (Boolean → ℕ → ℕ) → Alternative → ℕ → ℕ
+unfoldable pub stepsFrom : (Boolean → ℕ → ℕ) → Alternative → ℕ → Rank
 stepsFrom st [] a = YES
 stepsFrom st (s ∷ x) a = min (stepAt st s a) (stepsFrom st x (a + 1))
 
 -- on the rows a to b, where it answers only if it has a step for each event; and at row i, where it ends
-unfoldable pub onWindow : (Boolean → ℕ → ℕ) → ℕ → ℕ → Alternative → ℕ
+unfoldable pub onWindow : (Boolean → ℕ → ℕ) → ℕ → ℕ → Alternative → Rank
 onWindow st a b x = if eqb b (a + length x) then stepsFrom st x a else NO
 
-unfoldable pub atRow : (Boolean → ℕ → ℕ) → ℕ → Alternative → ℕ
+unfoldable pub atRow : (Boolean → ℕ → ℕ) → ℕ → Alternative → Rank
 atRow st i x = if leb (length x) i then stepsFrom st x (i - length x) else NO
 
--- the answer of a list of alternatives at row i; row 0 has no event
-unfoldable pub bestOf : (Boolean → ℕ → ℕ) → List Alternative → ℕ → ℕ
+-- the greatest of a list of alternatives at row i; their answer there, as document 01 numbers it: row 0 has no event
+unfoldable pub bestOf : (Boolean → ℕ → ℕ) → List Alternative → ℕ → Rank
 bestOf st xs i = greatestOf (atRow st i) xs
 
-unfoldable pub answerOf : (Boolean → ℕ → ℕ) → List Alternative → ℕ → Answer
-answerOf st xs zero = NoEvent
-answerOf st xs (suc i) = named (bestOf st xs (suc i))
+unfoldable pub answerOf : (Boolean → ℕ → ℕ) → List Alternative → ℕ → ℕ
+answerOf st xs zero = 3
+answerOf st xs (suc i) = numbered (bestOf st xs (suc i))
 
 -- The number of alternatives tried: in order up to and including the first yes, or all. At row 0 it is 0.
-unfoldable pub tried : List ℕ → ℕ
+unfoldable pub tried : List Rank → ℕ
 tried [] = 0
 tried (r ∷ rs) = if eqb r YES then 1 else 1 + tried rs
 
@@ -131,12 +129,9 @@ first = halves (λ f t. f)
 abbrev pub second : ℕ → Step → List Half
 second = halves (λ f t. t)
 
--- those asked of name n at row j of the window
+-- those asked of name n at row j of the window: by the step that leads to the row (none to row 0), and by the next
 unfoldable pub literalsAt : ℕ → Alternative → ℕ → List Half
-literalsAt n [] j = []
-literalsAt n (s ∷ x) zero = first n s
-literalsAt n (s ∷ x) (suc zero) = second n s ++ literalsAt n x zero
-literalsAt n (s ∷ x) (suc (suc j)) = literalsAt n x (suc j)
+literalsAt n x j = second n (getD ([] ∷ x) j []) ++ first n (getD x j [])
 
 unfoldable pub possible : List Half → Bool
 possible hs = some 8 (λ s. all (λ h. eqb (asked h s) YES) hs)

@@ -7,13 +7,15 @@
 --   not-above (13), cut-short (14), bad-code (15), wrong-count (16), bytes-after (17), NameCount, RowCount and
 --   bad-lists (18), no-such-row (19)
 --   Check, Order, check                  a call's order of rows
---   Never, RefusedWith, Passed, Comes    refused by the first row that holds; passed; the outcome of a call
+--   numbersOf                            the numbers of an order, as document 01 has them in one sentence
+--   Never, RefusedWith, RefusedBy, Passed, Comes   refused by the first row that holds; passed; the outcome of a call
 use Prim.Native.Nat.{ℕ, _-_, _/_, _<_, _≤_}
 use mathlib.Core.Bool.{true}
 use mathlib.Core.Logic.{_⊎_}
 use mathlib.Core.Path.{_≡_}
 use mathlib.Core.List.{List, [], _∷_}
 use lib.ListN.{length, getD}
+use Rattle.basics.specs.declared.Refusal.{Refusal}
 use Rattle.basics.specs.declared.Outcome.{Outcome}
 use Rattle.basics.specs.declared.Outcome.the-variants.{Done, Refused}
 use Rattle.alf.specs.Names.{GoodSlot}
@@ -38,58 +40,69 @@ pub record FirstOf (so : ℕ → Type 0) (place : ℕ → ℕ) (p : ℕ) : Type 
   pub first : First so which
   pub there : p ≡ place which
 
--- 1: text over 4,096 bytes, read or to be written; 4,096
+-- 1: text over 4,096 bytes, read or to be written; 4,096. Filled in tokens/specs/Texts and writer/specs/Writing.
 abbrev pub too-long : ℕ → Row
 too-long bytes = At 4096 (4096 < bytes)
 
--- 2: bytes that form no token; byte
+-- 2: bytes that form no token; byte. Filled in tokens/specs/Texts.
 abbrev pub no-token : (ℕ → Type 0) → Row
 no-token formsNone = First formsNone
 
 -- 3: brackets open more than 32 deep; byte. `depth` is how many are open behind the token at a byte.
+-- Filled in tokens/specs/Texts.
 abbrev pub too-deep : (ℕ → ℕ) → Row
 too-deep depth = First (λ p. 32 < depth p)
 
 -- 4: more than 256 tokens, brackets and `:` not counted; byte. `counted` is how many there are up to a token's byte.
+-- Filled in tokens/specs/Texts.
 abbrev pub too-many-tokens : (ℕ → ℕ) → Row
 too-many-tokens counted = First (λ p. 256 < counted p)
 
--- 5: grammar; the first token with which no expression goes on; byte, or text length
+-- 5: grammar; the first token with which no expression goes on; byte, or text length. Filled in reader/specs/Reading by
+-- the grammar of grammar/specs/Grammar.
 abbrev pub no-grammar : (ℕ → Type 0) → Row
 no-grammar stuck = First stuck
 
--- 6: name not in the list handed in; byte
+-- 6: name not in the list handed in; byte. Filled in reader/specs/Reading.
 abbrev pub unknown-name : (ℕ → Type 0) → Row
 unknown-name unknown = First unknown
 
 -- 7: sort; byte. The first faulty operator, operands before operator, left before right: counted in that order.
+-- Filled in reader/specs/Reading by the sorts of sorting/specs/Sorts.
 abbrev pub wrong-sort : (ℕ → Type 0) → (ℕ → ℕ) → Row
 wrong-sort faulty byte = FirstOf faulty byte
 
--- 8: over 64 alternatives, 16 steps, or 64 tests in one alternative; 0
+-- 8: over 64 alternatives, 16 steps, or 64 tests in one alternative; 0. Filled in reader/specs/Reading.
 abbrev pub over-limits : List Alternative → Row
 over-limits xs = At 0 (overLimit xs ≡ true)
 
 -- 9: output longer than the lent buffer; length needed. Of several outputs, the first short one.
+-- Filled by each call that is lent a list to write to: writer/specs/Writing, trace_reader/specs/Reading,
+-- trace_writer/specs/Writing, rewriting/specs/Calls, contradictions/specs/Calls, figures/specs/Delivering for texts.
 abbrev pub no-room : ℕ → ℕ → Row
 no-room needed room = At needed (room < needed)
 
--- 10: handed-in tree that no text gives, alternatives or a queue that cannot be; 0
+-- 10: handed-in tree that no text gives, alternatives or a queue that cannot be; 0. A tree: acceptance/specs/Accepted;
+-- alternatives: listed_calls/specs; a queue: update_calls/specs/Pushing. Filled in judging/specs/Orders, writer/specs/
+-- Writing and rewriting/specs/Calls.
 abbrev pub cannot-be : Type 0 → Row
 cannot-be bad = At 0 bad
 
 -- 11: wrong mark at this place, 33rd name, or 65,536th row; byte. `due` is that the mark there may stand there.
+-- 11, 14, 16, 17, and 12, 13, 15 of a file, are filled in trace_format/specs/Records.
 abbrev pub wrong-mark : ℕ → Type 0 → Row
 wrong-mark byte due = At byte (due → ⊥)
 
--- 12: name empty, over 32, not a name, or a repeat; byte (of a file's name record), or index (of the first bad slot)
+-- 12: name empty, over 32, not a name, or a repeat; byte (of a file's name record), or index (of the first bad slot). A
+-- slot of a list: filled in names/specs/Check.
 abbrev pub bad-name : ℕ → Type 0 → Row
 bad-name byte good = At byte (good → ⊥)
 
 abbrev pub bad-slot : List ℕ → Row
 bad-slot names = First (λ k. (k < length names / 32) × (GoodSlot names k → ⊥))
 
--- 13: time not above the last row's; byte (of a file's row record), or index r of a list of times
+-- 13: time not above the last row's; byte (of a file's row record), or index r of a list of times. A
+-- list: filled in trace_writer/specs/Writing.
 abbrev pub early-time : ℕ → Type 0 → Row
 early-time byte early = At byte early
 
@@ -100,7 +113,8 @@ not-above times r = At r ((0 < r) × (getD times r 0 ≤ getD times (r - 1) 0))
 abbrev pub cut-short : ℕ → Type 0 → Row
 cut-short bytes ends = At bytes ends
 
--- 15: state code above 7; byte, or index: the first entry of a list that is so
+-- 15: state code above 7; byte, or index: the first entry of a list that is so. A list: filled in judging/specs/Orders
+-- and changes/specs/Call, row by row in trace_writer/specs/Writing.
 abbrev pub bad-code : List ℕ → Row
 bad-code states = First (λ i. (i < length states) × (7 < getD states i 0))
 
@@ -112,7 +126,8 @@ wrong-count byte counted rows = At byte (counted ≡ rows → ⊥)
 abbrev pub bytes-after : ℕ → ℕ → Row
 bytes-after byte bytes = At byte (byte < bytes)
 
--- 18: not 1 to 32 names, or, where rows or answers are lent, lists not of exactly n entries, n from 1 to 65,535; 0
+-- 18: not 1 to 32 names, or, where rows or answers are lent, lists not of exactly n entries, n from 1 to 65,535; 0.
+-- Filled by each call: names/specs/Check for a list of names, judging/specs/Orders where rows are lent.
 abbrev pub NameCount : ℕ → Type 0
 NameCount k = (1 ≤ k) × (k ≤ 32)
 
@@ -122,7 +137,7 @@ RowCount n = (1 ≤ n) × (n ≤ 65535)
 abbrev pub bad-lists : Type 0 → Row
 bad-lists good = At 0 (good → ⊥)
 
--- 19: row number not below n; 0
+-- 19: row number not below n; 0. Filled in judging/specs/Orders and changes/specs/Call.
 abbrev pub no-such-row : ℕ → ℕ → Row
 no-such-row row n = At 0 (n ≤ row)
 
@@ -137,6 +152,11 @@ Order = List Check
 abbrev pub check : ℕ → Row → Check
 check n r = record { number = n; row = r }
 
+-- its numbers
+unfoldable pub numbersOf : Order → List ℕ
+numbersOf [] = []
+numbersOf (c ∷ cs) = c .number ∷ numbersOf cs
+
 -- nothing of the row holds anywhere
 abbrev pub Never : Check → Type 0
 Never c = (p : ℕ) → c .row p → ⊥
@@ -146,6 +166,9 @@ unfoldable pub RefusedWith : Order → ℕ → ℕ → Type 0
 RefusedWith [] n p = ⊥
 RefusedWith (c ∷ cs) n p = ((n ≡ c .number) × c .row p) ⊎ (Never c × RefusedWith cs n p)
 
+abbrev pub RefusedBy : Order → Refusal → Type 0
+RefusedBy order r = RefusedWith order (r .number) (r .place)
+
 -- not refused
 unfoldable pub Passed : Order → Type 0
 Passed [] = Unit {0}
@@ -154,4 +177,4 @@ Passed (c ∷ cs) = Never c × Passed cs
 -- the outcome of a call: done where no row of its order holds, with the count that is made; else refused
 unfoldable pub Comes : Order → (ℕ → Type 0) → Outcome → Type 0
 Comes order made (Done k) = Passed order × made k
-Comes order made (Refused r) = RefusedWith order (r .number) (r .place)
+Comes order made (Refused r) = RefusedBy order r

@@ -9,12 +9,10 @@ use mathlib.Core.Bool.{Bool, false, not}
 use mathlib.Core.List.{List, _++_}
 use lib.Dec.{eqb}
 use lib.ListN.{take, drop}
-use Rattle.alf.specs.declared.Answer.{Answer}
-use Rattle.alf.specs.declared.Answer.the-variants.{No, Yes, Unknown}
 use Rattle.basics.specs.Words.{if_then_else_, count}
 use Rattle.alf.specs.Expressions.{Boolean, Vector}
 use Rattle.alf.specs.Values.{rowOf}
-use Rattle.alf.specs.Windows.{rowAnswer, numberOf}
+use Rattle.alf.specs.Windows.{rowAnswer}
 
 -- For each row there is the set of changed variables, bit i for name i, and how many they are; row 0 has none.
 abbrev pub differAt : (ℕ → ℕ) → (ℕ → ℕ) → ℕ → Bool
@@ -35,14 +33,14 @@ changeMask names states r = mask names (changed names states r)
 unfoldable pub changeCount : ℕ → List ℕ → ℕ → ℕ
 changeCount names states r = count names (changed names states r)
 
--- Totals: how many of the n rows have an answer
-unfoldable pub total : (Boolean → ℕ → ℕ) → Vector → ℕ → Answer → ℕ
-total st p n a = count n (λ i. eqb (numberOf (rowAnswer st p i)) (numberOf a))
+-- Totals: how many of the n rows have an answer, by its number: 1 yes, 0 no, 2 unknown
+unfoldable pub total : (Boolean → ℕ → ℕ) → Vector → ℕ → ℕ → ℕ
+total st p n a = count n (λ i. eqb (rowAnswer st p i) a)
 
 pub record Totals (st : Boolean → ℕ → ℕ) (p : Vector) (n yes no unknown : ℕ) : Type 0 where
-  pub yeses : yes ≡ total st p n Yes
-  pub noes : no ≡ total st p n No
-  pub unknowns : unknown ≡ total st p n Unknown
+  pub yeses : yes ≡ total st p n 1
+  pub noes : no ≡ total st p n 0
+  pub unknowns : unknown ≡ total st p n 2
 
 -- A correction stores the new states as row r; other rows stay. It rewrites the answers r to min(r+K, n-1), no others.
 unfoldable pub corrected : ℕ → List ℕ → ℕ → List ℕ → List ℕ

@@ -1,8 +1,8 @@
--- Document 01, "States and values": the state and the value of a boolean expression at a row of a trace.
+-- Document 01, "States and values": the value and the state of a boolean expression at a row of a trace.
 -- A row is the function from a name's number to its recorded state.
 --   operate, chosen              an operator on two states; the ternary
---   settled, state, value        the value of what has a state; state and value of an expression at a row
---   rowOf, stateAt, valueAt      a row of a trace; state and value there
+--   value, recordedOr, state     the value of an expression at a row; for a name the recorded state; its state
+--   rowOf, valueAt, stateAt      a row of a trace; value and state there
 use Prim.Native.Nat.{ℕ, _+_, _*_}
 use mathlib.Core.List.{List}
 use lib.Dec.{eqb}
@@ -29,32 +29,33 @@ operate at-most x y = atMost x y
 unfoldable pub chosen : ℕ → ℕ → ℕ → ℕ
 chosen c x y = if eqb (reduce c) X then X else if eqb (reduce c) 1 then x else y
 
--- the value of an expression whose state is s: a name gives its reduced state; of any other the state is the value
-unfoldable pub settled : Boolean → ℕ → ℕ
-settled (name i) s = reduce s
-settled (literal l) s = s
-settled (negated a) s = s
-settled (binary o a b) s = s
-settled (choice c a b) s = s
-
--- the state: for a name the recorded state, else its value
-unfoldable pub state : (ℕ → ℕ) → Boolean → ℕ
-state row (name i) = row i
-state row (literal l) = l
-state row (negated a) = notOf (state row a)
-state row (binary o a b) = operate o (state row a) (state row b)
-state row (choice c a b) = chosen (state row c) (settled a (state row a)) (settled b (state row b))
+-- Each boolean expression has a value: a name gives its reduced state; a literal gives itself; `c ? a : b` gives the
+-- value of a or b, and X where c reduces to X; every other operator gives 0, 1 or X. It also has a state: for a name
+-- the recorded state, else its value. An operator of two works on states; `& | ^ ~^` reduce them.
+unfoldable pub recordedOr : (ℕ → ℕ) → Boolean → ℕ → ℕ
+recordedOr row (name i) v = row i
+recordedOr row (literal l) v = v
+recordedOr row (negated a) v = v
+recordedOr row (binary o a b) v = v
+recordedOr row (choice c a b) v = v
 
 unfoldable pub value : (ℕ → ℕ) → Boolean → ℕ
-value row e = settled e (state row e)
+value row (name i) = reduce (row i)
+value row (literal l) = l
+value row (negated a) = notOf (value row a)
+value row (binary o a b) = operate o (recordedOr row a (value row a)) (recordedOr row b (value row b))
+value row (choice c a b) = chosen (value row c) (value row a) (value row b)
+
+unfoldable pub state : (ℕ → ℕ) → Boolean → ℕ
+state row e = recordedOr row e (value row e)
 
 -- row i of a trace of some names, whose states are one list, row by row
 abbrev pub rowOf : ℕ → List ℕ → ℕ → ℕ → ℕ
 rowOf names states i = λ n. getD states (i * names + n) 0
 
--- the state, and the value, of an expression at row i of a trace
-abbrev pub stateAt : ℕ → List ℕ → Boolean → ℕ → ℕ
-stateAt names states = λ e i. state (rowOf names states i) e
-
+-- the value, and the state, of an expression at row i of a trace
 abbrev pub valueAt : ℕ → List ℕ → Boolean → ℕ → ℕ
 valueAt names states = λ e i. value (rowOf names states i) e
+
+abbrev pub stateAt : ℕ → List ℕ → Boolean → ℕ → ℕ
+stateAt names states = λ e i. state (rowOf names states i) e

@@ -1,33 +1,35 @@
 -- Document 01, "What a pattern says": the answer of a vector expression on the rows from a to b, and at a row.
 -- `st` is the state of each boolean expression at each row; all that follows depends on a trace by it alone.
---   NO, UNKNOWN, YES                                 answers in their order
+--   Rank, NO, UNKNOWN, YES                           answers in their order
 --   isDigit, digitAsked, letterAsked, asked, edgeOn  a literal asked of a state, an edge of two states
 --   Window                                           what answers on windows
 --   followedBy, either, together, joined             the operators of two vectors
 --   certainty, held                                  a condition at every row
---   answer, best, rowAnswer   the answer on a window, the greatest of those that end at a row, a row's answer
---   named, numberOf                                  an answer by its place in the order; document 01's number of it
+--   answer, best      the answer on a window, the greatest of those that end at a row
+--   numbered, rowAnswer                              document 01's number of an answer; a row's answer, as its number
 use Prim.Native.Nat.{ℕ, zero, suc, _+_, _-_, min, max}
 use mathlib.Core.Bool.{Bool}
 use mathlib.Core.List.{[], _∷_}
 use lib.Dec.{eqb, ltb}
 use lib.ListN.{getD}
-use Rattle.alf.specs.declared.Answer.{Answer}
-use Rattle.alf.specs.declared.Answer.the-variants.{No, Yes, Unknown, NoEvent}
 use Rattle.basics.specs.Words.{if_then_else_, greatest, least}
 use Rattle.alf.specs.States.{X, reduce}
 use Rattle.alf.specs.Expressions.{Boolean, Half, any, the, Edge, pair, changes, stays}
 use Rattle.alf.specs.Expressions.{Vector, edge, join, while}
 use Rattle.alf.specs.Expressions.{Join, followed-by, either-order, with-or-then, any-order, with, or-else}
 
--- Answers are ordered no < unknown < yes: as numbers 0, 1, 2, so that the lesser is `min` and the greater `max`.
-abbrev pub NO : ℕ
+-- Answers are ordered no < unknown < yes. A rank is the place of an answer in this order, so that the lesser is `min`
+-- and the greater `max`; it is written as a word. It is not document 01's number of the answer: see `numbered`.
+abbrev pub Rank : Type 0
+Rank = ℕ
+
+abbrev pub NO : Rank
 NO = 0
 
-abbrev pub UNKNOWN : ℕ
+abbrev pub UNKNOWN : Rank
 UNKNOWN = 1
 
-abbrev pub YES : ℕ
+abbrev pub YES : Rank
 YES = 2
 
 -- A literal asked of a state: `?` is yes. A digit is yes if the state reduces to it, unknown if it reduces to X, else
@@ -35,26 +37,26 @@ YES = 2
 abbrev pub isDigit : ℕ → Bool
 isDigit l = ltb l 2
 
-unfoldable pub digitAsked : ℕ → ℕ → ℕ
+unfoldable pub digitAsked : ℕ → ℕ → Rank
 digitAsked l s = if eqb (reduce s) l then YES else if eqb (reduce s) X then UNKNOWN else NO
 
-unfoldable pub letterAsked : ℕ → ℕ → ℕ
+unfoldable pub letterAsked : ℕ → ℕ → Rank
 letterAsked l s = if eqb s l then YES else NO
 
-unfoldable pub asked : Half → ℕ → ℕ
+unfoldable pub asked : Half → ℕ → Rank
 asked any s = YES
 asked (the l) s = if isDigit l then digitAsked l s else letterAsked l s
 
 -- an edge on the states before and after: the lesser of its two literals' answers; `?!` is yes if the states differ,
 -- else no; `?-` the reverse
-unfoldable pub edgeOn : Edge → ℕ → ℕ → ℕ
+unfoldable pub edgeOn : Edge → ℕ → ℕ → Rank
 edgeOn (pair f t) x y = min (asked f x) (asked t y)
 edgeOn changes x y = if eqb x y then NO else YES
 edgeOn stays x y = if eqb x y then YES else NO
 
 -- What answers on windows: a function of the first and the last row.
 abbrev pub Window : Type 0
-Window = ℕ → ℕ → ℕ
+Window = ℕ → ℕ → Rank
 
 -- P -> Q: the greatest, over m with a < m < b, of the lesser of P on a to m and Q on m to b. Here m is a + 1 + i.
 unfoldable pub followedBy : Window → Window → Window
@@ -70,7 +72,7 @@ unfoldable pub together : Window → Window → Window
 together P Q a b = greatest (b + 1 - a) (λ i. max (min (P a b) (Q (a + i) b)) (min (P (a + i) b) (Q a b)))
 
 -- P & c: the lesser of P and of c's reduced value at every row from a to b (1 yes, X unknown, 0 no)
-unfoldable pub certainty : ℕ → ℕ
+unfoldable pub certainty : ℕ → Rank
 certainty s = getD (NO ∷ YES ∷ UNKNOWN ∷ []) (reduce s) NO
 
 unfoldable pub held : (ℕ → ℕ) → Window
@@ -91,22 +93,17 @@ answer st (edge e c) a b = if eqb b (a + 1) then edgeOn e (st c a) (st c b) else
 answer st (join j p q) a b = joined j (answer st p) (answer st q) a b
 answer st (while s p c) a b = min (answer st p a b) (held (st c) a b)
 
--- Row i's answer is the greatest over all windows that end at i; row 0 has no event.
-unfoldable pub best : (Boolean → ℕ → ℕ) → Vector → ℕ → ℕ
+-- Row i's answer is the greatest over all windows that end at i.
+unfoldable pub best : (Boolean → ℕ → ℕ) → Vector → ℕ → Rank
 best st p i = greatest (i + 1) (λ a. answer st p a i)
 
-unfoldable pub named : ℕ → Answer
-named zero = No
-named (suc zero) = Unknown
-named (suc (suc r)) = Yes
+-- Document 01's numbers: 0 no, 1 yes, 2 unknown. By rank, from NO over UNKNOWN to YES:
+unfoldable pub numbered : Rank → ℕ
+numbered zero = 0
+numbered (suc zero) = 2
+numbered (suc (suc r)) = 1
 
-unfoldable pub rowAnswer : (Boolean → ℕ → ℕ) → Vector → ℕ → Answer
-rowAnswer st p zero = NoEvent
-rowAnswer st p (suc i) = named (best st p (suc i))
-
--- document 01's numbers: 0 no, 1 yes, 2 unknown, 3 no event
-unfoldable pub numberOf : Answer → ℕ
-numberOf No = 0
-numberOf Yes = 1
-numberOf Unknown = 2
-numberOf NoEvent = 3
+-- Row 0 has 3, no event.
+unfoldable pub rowAnswer : (Boolean → ℕ → ℕ) → Vector → ℕ → ℕ
+rowAnswer st p zero = 3
+rowAnswer st p (suc i) = numbered (best st p (suc i))

@@ -20,7 +20,7 @@ use Rattle.basics.specs.Memory.{Put}
 use Rattle.writer.specs.Writing.{countOf}
 use Rattle.basics.specs.Memory.{Holds}
 use Rattle.basics.proofs.PartByPart.{put-as}
-use Rattle.figures.specs.Text.{bytes, joined}
+use Rattle.basics.specs.Text.{bytes, joined}
 use Rattle.figures.specs.Numbers.{decimal}
 use Rattle.basics.proofs.PartByPart.{put-then}
 use Rattle.figures.proofs.Digits.{decimal-short}

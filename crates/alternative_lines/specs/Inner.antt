@@ -13,7 +13,7 @@ use Rattle.alf.specs.declared.Sort.the-variants.{Vector}
 use Rattle.acceptance.specs.Accepted.{Accepted}
 use Rattle.alternatives.specs.InMemory.{Shape}
 use Rattle.writer.specs.Writing.{countOf, Named}
-use Rattle.figures.specs.Text.{bytes, joined}
+use Rattle.basics.specs.Text.{bytes, joined}
 use Rattle.figures.specs.Numbers.{decimal}
 use Rattle.alternative_lines.specs.Listing.{note, lineOf}
 

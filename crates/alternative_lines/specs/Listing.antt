@@ -8,7 +8,7 @@ use mathlib.Core.Bool.{Bool, true, false}
 use mathlib.Core.List.{List, [], _∷_, _++_}
 use Rattle.alf.specs.Alternatives.{Alternative, contradictory}
 use Rattle.writer.specs.Writing.{countOf}
-use Rattle.figures.specs.Text.{bytes, joined}
+use Rattle.basics.specs.Text.{bytes, joined}
 use Rattle.figures.specs.Numbers.{decimal}
 use Rattle.alternative_texts.specs.Texts.{alternativeText}
 

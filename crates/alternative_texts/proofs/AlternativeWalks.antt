@@ -10,7 +10,7 @@ use Rattle.alf.specs.Alternatives.{Test}
 use Rattle.alternatives.specs.InMemory.{cut, sum, stepIn, alternativeIn}
 use Rattle.alternatives.proofs.Cuts.{cut-at, sum-next, tests-length}
 use Rattle.writer.specs.Writing.{countOf}
-use Rattle.figures.specs.Text.{bytes}
+use Rattle.basics.specs.Text.{bytes}
 use Rattle.alternative_texts.specs.Texts.{stepText, alternativeText}
 use Rattle.alternative_texts.specs.Inner.{Puts, lead, OneStep}
 use Rattle.alternative_texts.specs.Inner.{OneAlternative, allTests}

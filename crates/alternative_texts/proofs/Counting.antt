@@ -11,14 +11,14 @@ use lib.ListN.{length, getD, take, drop, drop-of-length-le}
 use lib.Seq.{drop-cons, take-add, take-all}
 use Rattle.basics.specs.Words.{if_then_else_, sumOf}
 use Rattle.alf.specs.Expressions.{Expression, stays, literal, vector, edge}
-use Rattle.alf.specs.Bytes.{edgeAt}
+use Rattle.alf.specs.Decoder.{edgeAt}
 use Rattle.alf.specs.Alternatives.{Test, test}
 use Rattle.trees.specs.Parts.{booleanAt}
 use Rattle.alternatives.specs.InMemory.{cut, testOf, sum}
 use Rattle.alternatives.proofs.Cuts.{cut-length, sum-nil, sum-cons, test-at, tests-length}
 use Rattle.writer.specs.Writing.{countOf}
 use Rattle.alternative_texts.specs.Texts.{readable, missing, expressionOf, untoldTest, untold}
-use Rattle.alternative_texts.specs.Inner.{Tells, Testable, Tested, Untold, allTests}
+use Rattle.alternative_texts.specs.Inner.{ShowsTest, Testable, Tested, Untold, allTests}
 
 missing-few : (names : List ℕ) (e : Expression) → missing names e ≤ 1
 unfolding missing
@@ -28,7 +28,7 @@ missing-few names e = go (readable names e)
     go true = omega arith
     go false = omega arith
 
-pub told-few : {names text : List ℕ} {e : Expression} {n u : ℕ} → Tells names e text n u → Untold names e u
+pub told-few : {names text : List ℕ} {e : Expression} {n u : ℕ} → ShowsTest names e text n u → Untold names e u
 told-few {names} {e = e} t =
     record { is = t .untold-is; few = omega (arith, t .untold-is, missing-few names e) }
 

@@ -17,8 +17,10 @@ use lib.ListN.{length, getD, take, drop, length-append, length-take}
 use borrow.Author.Tests.{le-ltb, ne-eqb}
 use lib.Seq.{take-suc, take-add, drop-at, length-take-le}
 use Rattle.alf.specs.Expressions.{boolean, vector, edge, stays, EdgeKnown, Over, VectorOver, ExpressionOver}
-use Rattle.alf.specs.Bytes.{booleanBytes, vectorBytes, bytesOf, Stack, empty, broken, push, stackAt, arityAt}
-use Rattle.alf.specs.Bytes.{isBoolean, topBoolean, edgeNumber, edgeAt, Decodes}
+use Rattle.alf.specs.Bytes.{booleanBytes, vectorBytes, bytesOf}
+use Rattle.alf.specs.Decoder.{Stack, empty, broken, push, stackAt, arityAt}
+use Rattle.alf.specs.Bytes.{edgeNumber}
+use Rattle.alf.specs.Decoder.{isBoolean, topBoolean, edgeAt, Decodes}
 use Rattle.basics.proofs.Bools.{never, below?}
 use Rattle.alf.proofs.OperatorBytes.{binary-byte, join-byte, edge-byte, edge-known}
 use Rattle.alf.proofs.Encoding.{decode-bytes}

@@ -8,7 +8,7 @@ use mathlib.Core.Path.{_≡_, refl, sym, ap, _∙_}
 use mathlib.Core.List.{List, [], _∷_, _++_, map}
 use lib.ListN.{length, getD, take, drop, length-append, length-take, length-drop}
 use Rattle.alf.specs.Expressions.{vector, edge}
-use Rattle.alf.specs.Bytes.{edgeAt}
+use Rattle.alf.specs.Decoder.{edgeAt}
 use Rattle.alf.specs.Alternatives.{Test, Step}
 use Rattle.trees.specs.Parts.{booleanAt}
 use Rattle.alternatives.specs.InMemory.{testOf, stepIn}
@@ -16,10 +16,10 @@ use Rattle.alternatives.proofs.Cuts.{part, part-first, part-next, part-last, te
 use Rattle.basics.specs.Memory.{Put}
 use Rattle.writer.specs.Writing.{countOf}
 use Rattle.basics.proofs.PartByPart.{put-as}
-use Rattle.figures.specs.Text.{bytes}
+use Rattle.basics.specs.Text.{bytes}
 use Rattle.basics.proofs.PartByPart.{put-then}
 use Rattle.alternative_texts.specs.Texts.{expressionOf, testText, between, stepText}
-use Rattle.alternative_texts.specs.Inner.{Countable, Puts, lead, Tells, Testable, OneTest, OneStep}
+use Rattle.alternative_texts.specs.Inner.{Countable, Puts, lead, ShowsTest, Testable, OneTest, OneStep}
 use Rattle.alternative_texts.specs.Inner.{allTests, textOfTest}
 use Rattle.alternative_texts.proofs.Clipped.{Laying, lead-short}
 use Rattle.alternative_texts.proofs.Counting.{no-test}
@@ -32,7 +32,7 @@ module _ {names tree edges operands : List ℕ} {k at : ℕ} (h : OneTest names 
       record { named = h .tested .named; few = h .tested .few; ends = h .tested .known .boolean k (h .there) }
 
   module _ {text : List ℕ} {size u : ℕ}
-      (w : Tells names
+      (w : ShowsTest names
       (vector (edge (edgeAt (getD edges k 0)) (booleanAt tree (countOf names) (getD operands k 0)))) text size u)
       (gap : List ℕ) (three : length gap ≡ 3) (i : ℕ) {out out′ : List ℕ} {p : ℕ}
       (g : Put out at (lead gap i) out′ p) where

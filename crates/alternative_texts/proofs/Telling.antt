@@ -17,24 +17,26 @@ use Rattle.basics.specs.declared.Refusal.{Refusal}
 use Rattle.alf.specs.declared.Sort.the-variants.{Vector}
 use Rattle.basics.specs.Words.{greatestOf, sumOf}
 use Rattle.alf.specs.Expressions.{Boolean, Edge, Expression, vector, edge}
-use Rattle.alf.specs.Bytes.{bytesOf, vectorBytes, edgeAt, Decodes}
+use Rattle.alf.specs.Bytes.{bytesOf, vectorBytes}
+use Rattle.alf.specs.Decoder.{edgeAt, Decodes}
 use Rattle.alf.specs.Alternatives.{alternatives, overLimit, tests}
 use Rattle.alf.specs.Refusals.{Passed, Comes}
 use Rattle.basics.proofs.Bools.{and-left, and-right}
 use Rattle.alf.proofs.Decoding.{bytes-decode, decode-unique}
+use Rattle.alf.proofs.FewNames.{decodes-encoded}
 use Rattle.alf.proofs.Outcomes.{refused-passed}
 use Rattle.trees.specs.Parts.{expressionAt, booleanAt}
 use Rattle.trees.specs.Brackets.{depthOf}
 use Rattle.acceptance.specs.Accepted.{Accepted, sortOf, overSize}
-use Rattle.acceptance.proofs.Acceptance.{decoded}
+use Rattle.acceptance.proofs.Acceptance.{decoded, accepted-decodes}
 use Rattle.writer.specs.Trees.{text}
 use Rattle.writer.specs.Writing.{countOf, textAt, order, Writes}
 use Rattle.basics.specs.Memory.{Holds}
 use Rattle.basics.specs.Memory.{after}
 use Rattle.writer.proofs.Calls.{names-few}
-use Rattle.figures.specs.Text.{bytes}
+use Rattle.basics.specs.Text.{bytes}
 use Rattle.alternative_texts.specs.Texts.{readable, shown, missing}
-use Rattle.alternative_texts.specs.Inner.{Tells, Tellable, Testable}
+use Rattle.alternative_texts.specs.Inner.{ShowsTest, Tellable, Testable}
 use Rattle.alternative_texts.proofs.PartBytes.{laid-decodes}
 
 -- an edge of an operand has one alternative with one step and one test
@@ -60,7 +62,7 @@ module _ {names tree list : List ℕ} (h : Tellable names tree list) where
   accepted l d =
       record {
         expression = x;
-        decodes = h .decodes;
+        encodes = decodes-encoded (countOf names) tree x (h .decodes);
         sorted = refl;
         tokens = l;
         brackets = d;
@@ -69,7 +71,7 @@ module _ {names tree list : List ℕ} (h : Tellable names tree list) where
 
   shallow : Accepted (countOf names) Vector tree → depthOf x ≤ 32
   shallow a =
-      rw (decode-unique (countOf names) tree x (a .expression) (h .decodes) (a .decodes)) (a .brackets)
+      rw (decode-unique (countOf names) tree x (a .expression) (h .decodes) (accepted-decodes a)) (a .brackets)
 
   text-is : textAt names tree ≡ text names x
   unfolding textAt
@@ -136,7 +138,7 @@ module _ {names tree list : List ℕ} (h : Tellable names tree list) where
   one-missing e = rw (is, e) refl
 
   module _ {list′ : List ℕ} {o : Outcome} (w : Writes names tree Vector list list′ o) where
-    pub told : {n : ℕ} → o ≡ Done n → Tells names it list′ n 0
+    pub told : {n : ℕ} → o ≡ Done n → ShowsTest names it list′ n 0
     unfolding Comes Passed after order
     told {n} e =
         let u = rw e at (w .outcome) in
@@ -162,7 +164,7 @@ module _ {names tree list : List ℕ} (h : Tellable names tree list) where
         go false d = d
 
     pub untold : {r : Refusal} {list″ : List ℕ} {n : ℕ} → o ≡ Refused r → Holds list″ n (bytes "...")
-        → Tells names it list″ n 1
+        → ShowsTest names it list″ n 1
     unfolding bytes
     untold e d =
         let f = refused e in
@@ -175,7 +177,7 @@ module _ {names tree list : List ℕ} (h : Tellable names tree list) where
 -- of other bytes of the same expression
 tells-as : {names : List ℕ} (tree : List ℕ) {list : List ℕ} {e : Expression} {n m : ℕ}
     → Decodes (countOf names) tree e
-    → Tells names (expressionAt tree (countOf names) (length tree)) list n m → Tells names e list n m
+    → ShowsTest names (expressionAt tree (countOf names) (length tree)) list n m → ShowsTest names e list n m
 tells-as {names} tree {e = e} d t = rw (decoded (countOf names) tree e d) at t
 
 -- a test, by the bytes that are laid
@@ -195,6 +197,6 @@ module _ {names tree list : List ℕ} {end n : ℕ} (k : ℕ) (h : Testable name
       }
 
   pub test-told : {text : List ℕ} {m u : ℕ}
-      → Tells names (expressionAt (take n list) (countOf names) (length (take n list))) text m u
-      → Tells names (vector (edge (edgeAt k) (booleanAt tree (countOf names) end))) text m u
+      → ShowsTest names (expressionAt (take n list) (countOf names) (length (take n list))) text m u
+      → ShowsTest names (vector (edge (edgeAt k) (booleanAt tree (countOf names) end))) text m u
   test-told t = tells-as (take n list) decodes t

@@ -1,7 +1,7 @@
 -- What the functions inside ask and give. Writing behind what is written is Put; here a text may go past the end of
 -- what is lent, and then only what has room is written. So a text is measured by writing it where there is no room.
 --   Countable, Puts, lead                     a text from a place on, with the gap before it
---   Joinable, Tells, Tellable, Untold         a test's expression, shown or not
+--   Joinable, ShowsTest, Tellable, Untold         a test's expression, shown or not
 --   Testable, Tested, OneTest, OneStep, OneAlternative    a test, a step, an alternative in the lists
 --   allTests, textOfTest                      the tests of the lists and their texts
 use Prim.Native.Nat.{ℕ, zero, suc, _+_, _^_, _<_, _≤_}
@@ -10,7 +10,7 @@ use mathlib.Core.List.{List, []}
 use lib.ListN.{length, getD, drop}
 use Rattle.alf.specs.Alternatives.{Test}
 use Rattle.alf.specs.Expressions.{Boolean, Edge, Expression, vector, edge}
-use Rattle.alf.specs.Bytes.{Decodes}
+use Rattle.alf.specs.Decoder.{Decodes}
 use Rattle.trees.specs.Parts.{EndsBoolean}
 use Rattle.alternatives.specs.InMemory.{sum, testOf, testsOf, Tests}
 use Rattle.basics.specs.Memory.{Put}
@@ -39,7 +39,7 @@ pub record Joinable (names : ℕ) (tree : List ℕ) (end : ℕ) (list : List ℕ
   pub room : 257 ≤ length list
 
 -- the text of an expression at the front of a list, and 1 where it is `...`, else 0
-pub record Tells (names : List ℕ) (e : Expression) (list : List ℕ) (size untold : ℕ) : Type 0 where
+pub record ShowsTest (names : List ℕ) (e : Expression) (list : List ℕ) (size untold : ℕ) : Type 0 where
   pub holds : Holds list size (shown names e)
   pub few : size ≤ 4096
   pub untold-is : untold ≡ missing names e

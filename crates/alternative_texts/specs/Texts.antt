@@ -15,7 +15,7 @@ use Rattle.alf.specs.Bytes.{bytesOf}
 use Rattle.alf.specs.Alternatives.{Test, test, Step, Alternative}
 use Rattle.trees.specs.Brackets.{depthOf}
 use Rattle.writer.specs.Trees.{text}
-use Rattle.figures.specs.Text.{bytes}
+use Rattle.basics.specs.Text.{bytes}
 
 -- an expression has a text that can be read back: at most 256 nodes, brackets at most 32 deep, at most 4,096 bytes
 unfoldable pub readable : List ℕ → Expression → Bool

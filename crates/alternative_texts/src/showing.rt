@@ -2,13 +2,14 @@
 ghost use mathlib.Core.Path.{_≡_};
 ghost use Prim.Native.Nat.{_+_, _≤_};
 ghost use lib.ListN.{length};
-ghost use Rattle.alf.specs.Bytes.{edgeAt, edgeNumber, vectorBytes};
+ghost use Rattle.alf.specs.Bytes.{edgeNumber, vectorBytes};
+ghost use Rattle.alf.specs.Decoder.{edgeAt};
 ghost use Rattle.alf.specs.Expressions.{edge, vector};
 ghost use Rattle.trees.specs.Parts.{booleanAt, expressionAt};
 ghost use Rattle.writer.specs.Writing.{countOf};
 ghost use Rattle.basics.specs.Memory.{Holds};
-ghost use Rattle.figures.specs.Text.{bytes};
-ghost use Rattle.alternative_texts.specs.Inner.{Joinable, Tells, Tellable, Testable};
+ghost use Rattle.basics.specs.Text.{bytes};
+ghost use Rattle.alternative_texts.specs.Inner.{Joinable, ShowsTest, Tellable, Testable};
 ghost use Rattle.alternative_texts.specs.Inner.{Tested, Untold, allTests};
 ghost use Rattle.alternative_texts.specs.Texts.{untoldTest};
 ghost use Rattle.basics.specs.Words.{sumOf};
@@ -57,7 +58,7 @@ fn lay_dots(text: &mut [u8]) -> usize
 // The text of an expression, by its bytes.
 fn tell(names: &[u8], tree: &[u8], text: &mut [u8]) -> Shown
     requires { ⌜ Tellable (now names) (now tree) (now text) ⌝ }
-    ensures { λ r. ⌜ Tells (now (names .entry))
+    ensures { λ r. ⌜ ShowsTest (now (names .entry))
         (expressionAt (now (tree .entry)) (countOf (now (names .entry))) (length (now (tree .entry))))
         (now (text .exit)) (r .size) (r .untold) ⌝ }
 {
@@ -83,7 +84,7 @@ fn lay_array(names: usize, tree: &[u8], number: u8, end: usize, list: &mut [u8; 
 // The text of a test, by its edge's number and the place in the tree where its operand ends.
 pub fn show_test(names: &[u8], tree: &[u8], number: u8, end: usize, text: &mut [u8; 4096]) -> Shown
     requires { ⌜ Testable (now names) (now tree) end ⌝ }
-    ensures { λ r. ⌜ Tells (now (names .entry))
+    ensures { λ r. ⌜ ShowsTest (now (names .entry))
         (vector (edge (edgeAt number) (booleanAt (now (tree .entry)) (countOf (now (names .entry))) end)))
         (now (text .exit)) (r .size) (r .untold) ⌝ }
 {

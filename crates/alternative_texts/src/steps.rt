@@ -2,7 +2,7 @@
 ghost use Prim.Native.Nat.{_+_};
 ghost use mathlib.Core.List.{_++_, map};
 ghost use Rattle.alternatives.specs.InMemory.{stepIn, alternativeIn};
-ghost use Rattle.figures.specs.Text.{bytes};
+ghost use Rattle.basics.specs.Text.{bytes};
 ghost use Rattle.alternative_texts.specs.Texts.{testText, between, stepText, alternativeText};
 ghost use Rattle.alternative_texts.specs.Inner.{Puts, lead, OneTest, OneStep, OneAlternative};
 ghost use Rattle.alternative_texts.specs.Inner.{allTests, textOfTest};

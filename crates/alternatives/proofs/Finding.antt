@@ -6,7 +6,7 @@ use native.Mathlib.Omega.{arith}
 use native.Mathlib.Nat.{mul-le-mul}
 use mathlib.Core.Path.{_≡_, refl, ap, _∙_, subst}
 use Rattle.alf.specs.Expressions.{Join, any-order}
-use Rattle.alf.specs.Bytes.{joinAt}
+use Rattle.alf.specs.Decoder.{joinAt}
 use Rattle.alternatives.specs.declared.picking.How.{How}
 use Rattle.alternatives.specs.declared.picking.How.the-variants.{Left, Right, LeftFirst, RightFirst, Together}
 use Rattle.alternatives.specs.Picks.{countOf, Picked, Operands, Picking, PickingOn}

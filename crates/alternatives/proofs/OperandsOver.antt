@@ -8,7 +8,7 @@ use Prim.Native.Nat.{ℕ, zero, suc, _<_}
 use native.Mathlib.Omega.{arith}
 use lib.ListN.{length, getD, take, drop}
 use Rattle.alf.specs.Expressions.{boolean, vector, Over, ExpressionOver}
-use Rattle.alf.specs.Bytes.{Stack, empty, broken, push, isBoolean, topBoolean, stackAt}
+use Rattle.alf.specs.Decoder.{Stack, empty, broken, push, isBoolean, topBoolean, stackAt}
 use Rattle.basics.proofs.Bools.{never}
 use Rattle.basics.proofs.AllEntries.{All, none, more}
 use Rattle.alf.proofs.Conditions.{AsksTest, Asks}

@@ -13,7 +13,7 @@ use lib.Dec.{ltb}
 use lib.ListN.{getD, length, length-append, length-map, List·getD-append}
 use borrow.Author.Tests.{ltb-true, ltb-false}
 use Rattle.alf.specs.Expressions.{Join, followed-by, either-order, with-or-then, any-order, with, or-else}
-use Rattle.alf.specs.Bytes.{joinAt}
+use Rattle.alf.specs.Decoder.{joinAt}
 use Rattle.alf.specs.Alternatives.{Alternative, each, chained, overlaid, overlapped, rewritten}
 use Rattle.alf.proofs.Growth.{length-each}
 use Rattle.alternatives.specs.declared.picking.How.the-variants.{Left, Right, LeftFirst, RightFirst, Together}

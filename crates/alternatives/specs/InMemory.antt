@@ -12,7 +12,7 @@ use Prim.Native.Nat.{ℕ, _+_, _^_, _<_, _≤_}
 use mathlib.Core.List.{List, [], _∷_}
 use lib.ListN.{length, getD, take, drop}
 use Rattle.basics.specs.Words.{sumOf, greatestOf}
-use Rattle.alf.specs.Bytes.{edgeAt}
+use Rattle.alf.specs.Decoder.{edgeAt}
 use Rattle.alf.specs.Alternatives.{Test, test, Step, Alternative}
 use Rattle.trees.specs.Parts.{EndsBoolean, booleanAt}
 

@@ -8,7 +8,7 @@ use mathlib.Core.Path.{_≡_}
 use mathlib.Core.List.{List, [], _++_}
 use lib.ListN.{length, getD}
 use Rattle.alf.specs.Expressions.{Join, followed-by, either-order, with-or-then, any-order, with, or-else}
-use Rattle.alf.specs.Bytes.{joinAt}
+use Rattle.alf.specs.Decoder.{joinAt}
 use Rattle.alf.specs.Alternatives.{Alternative, overlaid, rewritten}
 use Rattle.alternatives.specs.declared.picking.How.{How}
 use Rattle.alternatives.specs.declared.picking.How.the-variants.{Left, Right, LeftFirst, RightFirst, Together}

@@ -1,7 +1,7 @@
 // Alternative t of those that an operator of two vectors makes, found by division.
 ghost use mathlib.Core.Path.{_≡_};
 ghost use Prim.Native.Nat.{_+_, _-_, _*_, _/_, _%_, _<_};
-ghost use Rattle.alf.specs.Bytes.{joinAt};
+ghost use Rattle.alf.specs.Decoder.{joinAt};
 ghost use Rattle.alternatives.specs.Picks.{Picking, PickingOn, Picked};
 
 // How an alternative is put together from one of the left operand and one of the right.

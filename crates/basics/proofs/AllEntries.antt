@@ -1,10 +1,7 @@
 -- What holds of each entry of a list: All, and how it goes through `++`, `map` and `each`.
 --   all-append, all-map, all-each, all-left, all-right, all-weaken
 use mathlib.Core.List.{List, [], _∷_, _++_, map}
-
-pub data All {A : Type 0} (P : A → Type 0) : List A → Type 0 where
-  none : All P []
-  more : {x : A} {xs : List A} → P x → All P xs → All P (x ∷ xs)
+pub use Rattle.basics.specs.Words.{All, none, more}
 
 module _ {A : Type 0} where
   pub all-append : {P : A → Type 0} {xs ys : List A} → All P xs → All P ys → All P (xs ++ ys)

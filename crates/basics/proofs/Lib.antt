@@ -13,6 +13,7 @@ pub mod Seeking
 pub mod AllEntries
 pub mod Entries
 pub mod Memory
+pub mod Refusals
 pub mod Stores
 pub mod Listed
 pub mod Tables

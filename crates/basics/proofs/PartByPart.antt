@@ -7,25 +7,18 @@
 --   put-as      what is written may be called by an equal name
 --   copy-more   one more byte of a list is copied
 --   going-byte, going-two   the next part is one byte; the next two parts are written as one
-use Prim.Native.Nat.{ℕ, suc, _+_, _<_, _≤_}
+use Prim.Native.Nat.{ℕ, _+_, _<_, _≤_}
 use native.Mathlib.Omega.{arith}
-use native.Mathlib.Numerals.{add-one}
 use mathlib.Core.Path.{_≡_, refl, sym, ap, _∙_}
 use mathlib.Core.List.{List, [], _∷_, _++_, append-assoc, append-nil}
 use lib.ListN.{length, getD, take, drop, set, length-append, length-take}
-use lib.Seq.{sets, sets-eq, length-sets, take-at, take-suc, length-take-le}
+use lib.Seq.{sets, sets-eq, length-sets, take-at, length-take-le}
 use Rattle.basics.specs.Memory.{Put, Room, Holds, front}
-use Rattle.basics.proofs.Stores.{sets-front}
+use Rattle.basics.proofs.Stores.{sets-front, sets-append, writing-next}
 
 abbrev pub flat : List (List ℕ) → List ℕ
 flat [] = []
 flat (x ∷ xs) = x ++ flat xs
-
-pub sets-append : (xs ys out : List ℕ) (at : ℕ)
-    → sets (sets out at xs) (at + length xs) ys ≡ sets out at (xs ++ ys)
-sets-append [] ys out at = ap (λ (n : ℕ). sets out n ys) (omega arith)
-sets-append (x ∷ xs) ys out at =
-    ap (λ (n : ℕ). sets (sets out at (x ∷ xs)) n ys) (omega arith) ∙ sets-append xs ys _ (suc at)
 
 pub record Going (out : List ℕ) (at : ℕ) (whole : List ℕ) (left : List (List ℕ)) (out′ : List ℕ) (p : ℕ)
     : Type 0 where
@@ -45,7 +38,7 @@ put-then {out} {x} {out′} {y} {at = at} {p = p} h u =
       bytes =
           u .bytes ∙ ap (λ (l : List ℕ). sets l p y) (h .bytes)
           ∙ ap (λ (n : ℕ). sets (sets out at x) n y) (h .next)
-          ∙ sets-append x y out at;
+          ∙ sets-append out at x y;
       next = omega (arith, u .next, h .next, length-append x y);
     }
 
@@ -133,22 +126,13 @@ holds-count h = h .size ∙ sym (ap length (h .front))
 pub holds-within : {list w : List ℕ} {r : ℕ} → Holds list r w → r ≤ length list
 holds-within {list} {r = r} h = omega (arith, holds-count h, length-take r list)
 
--- one more byte of a list copied
-copied-more : (from out : List ℕ) (at i : ℕ) → i < length from
-    → set (sets out at (take i from)) (at + i) (getD from i 0) ≡ sets out at (take (i + 1) from)
-copied-more from out at i h =
-    rw (add-one i, take-suc from i 0 h)
-    (ap (λ (n : ℕ). set (sets out at (take i from)) (at + n) (getD from i 0))
-    (sym (length-take-le i from (omega arith)))
-    ∙ sets-append (take i from) (getD from i 0 ∷ []) out at)
-
 -- copying, byte by byte
 pub copy-more : (from : List ℕ) (i : ℕ) {out₀ out : List ℕ} {at : ℕ} → i < length from
     → Put out₀ at (take i from) out (at + i)
     → Put out₀ at (take (i + 1) from) (set out (at + i) (getD from i 0)) (at + (i + 1))
 copy-more from i {out₀} {out} {at} h p =
     record {
-      bytes = ap (λ (l : List ℕ). set l (at + i) (getD from i 0)) (p .bytes) ∙ copied-more from out₀ at i h;
+      bytes = writing-next (record { within = omega arith; is = p .bytes }) h refl .is;
       next = omega (arith, length-take-le (i + 1) from (omega arith));
     }
 

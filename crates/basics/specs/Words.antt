@@ -4,6 +4,7 @@
 --   greatest, least, some, count     of f 0, f 1, .. up to a number
 --   greatestOf, leastOf, all, sumOf  of f x for the x of a list
 --   listed                           a list from a rule
+--   All                              each entry of a list is so
 --   same                             two lists are the same, as a test
 use Prim.Native.Nat.{ℕ, zero, suc, _+_, min, max}
 use mathlib.Core.Bool.{Bool, true, false, _&&_, _||_}
@@ -55,6 +56,11 @@ module _ {A : Type 0} where
   unfoldable pub sumOf : (A → ℕ) → List A → ℕ
   sumOf f [] = 0
   sumOf f (x ∷ xs) = f x + sumOf f xs
+
+-- each entry of a list is so
+pub data All {A : Type 0} (P : A → Type 0) : List A → Type 0 where
+  none : All P []
+  more : {x : A} {xs : List A} → P x → All P xs → All P (x ∷ xs)
 
 -- two lists are the same, as a test
 unfoldable pub same : List ℕ → List ℕ → Bool

@@ -4,7 +4,7 @@
 --   answered, matched, taken      a call whose input is good is done, and with what
 --   Holding, push-holds           a queue that was pushed may be pushed again
 --   never-refused                 so no push of a good row is refused, for a feed of any length
---   three-routes
+--   pushed-found, three-routes
 use mathlib.Core.Path.{_≡_, refl, ap, sym, _∙_, subst}
 use mathlib.Core.List.{List}
 use Prim.Native.Nat.{ℕ, zero, suc, _+_, _-_, _*_, _<_, _≤_}
@@ -15,8 +15,6 @@ use lib.ListN.{length, take, length-append}
 use Rattle.alf.specs.declared.Answer.{Answer}
 use Rattle.alf.specs.declared.Answer.the-variants.{NoEvent}
 use Rattle.alf.specs.declared.Sort.the-variants.{Vector}
-use Rattle.alf.specs.Values.{stateAt}
-use Rattle.alf.specs.Windows.{rowAnswer}
 use Rattle.alf.specs.Alternatives.{alternatives, stepsOf}
 use Rattle.alf.specs.Refusals.{NameCount, RowCount, Passed, bad-code}
 use Rattle.alf.proofs.Outcomes.{refused-passed}
@@ -33,10 +31,10 @@ use Rattle.row_calls.specs.declared.written.Told.the-variants as told
 use Rattle.matching_calls.specs.declared.matching.Matching.{Matching}
 use Rattle.matching_calls.specs.declared.matching.Matching.the-variants.{Found, Refused}
 use Rattle.judging.specs.Orders.{Rows, order, codes, codesRow}
-use Rattle.row_calls.specs.Written.{Tells, RowAnswer}
-use Rattle.matching_calls.specs.Matching.{expression, triesOn, Finds, RowMatch}
+use Rattle.row_calls.specs.Written.{Tells, AnsweredAs, RowAnswer}
+use Rattle.matching_calls.specs.Matching.{expression, answersOn, triesOn, Finds, FoundAs, RowMatch}
 use Rattle.update_calls.specs.Pushing.{RowFits, Handed, pushOrder, PushesTree, Takes, Push}
-use Rattle.call_laws.proofs.Theorems.{routes-taken}
+use Rattle.call_laws.proofs.Theorems.{push-answers}
 
 -- what is good is passed
 pub codes-never : (states : List ℕ) → Codes states → (p : ℕ) → bad-code states p → ⊥
@@ -53,29 +51,27 @@ unfolding Passed
 codes-passed states x y s = (λ p a. a .given x, (λ p a. a .given y, (codes-never states s, tt)))
 
 -- the answer at a row, and the number tried
-abbrev pub found : ℕ → List ℕ → List ℕ → ℕ → Matching
-found names tree states row =
-    Found
-    (record {
-      answer = rowAnswer (stateAt names states) (expression tree names) row;
-      tries = triesOn names tree states row;
-    })
+abbrev pub FoundAt : ℕ → List ℕ → List ℕ → ℕ → Matching → Type 0
+FoundAt names tree states row = FoundAs (answersOn names tree states row) (triesOn names tree states row)
 
 module _ {names n : ℕ} {tree states : List ℕ} {row : ℕ} (l : Rows names n (length states))
     (a : Accepted names Vector tree) (s : Codes states) (h : row < n) where
   pub answered : (x : Told) → RowAnswer names n tree states row x
-      → x ≡ told.Answered (rowAnswer (stateAt names states) (expression tree names) row)
+      → AnsweredAs (answersOn names tree states row) x
   unfolding Tells
-  answered (told.Answered b) w = ap told.Answered (w .comes .1)
+  answered (told.Answered b) w = record { answer = b; is = refl; numbered = w .comes .1 }
   answered (told.Refused r) w = absurd (refused-passed _ _ _ (row-passed states n row l a s h) (w .comes))
 
   pub matched : (y : Matching) → RowMatch names n tree states row y
-      → y ≡ found names tree states row
+      → FoundAt names tree states row y
   unfolding Finds
   matched (Found m) w =
-      let e = w .comes .1 .is in
       let d = w .comes .1 .count in
-      λ i. Found (record { answer = e i; tries = d i })
+      record {
+        answer = m .answer;
+        is = λ i. Found (record { answer = m .answer; tries = d i });
+        numbered = w .comes .1 .is;
+      }
   matched (Refused r) w = absurd (refused-passed _ _ _ (row-passed states n row l a s h) (w .comes))
 
 taken : {names : ℕ} {tree : List ℕ} {q : Queue} {row : List ℕ} {q′ : Queue} → Handed names tree q
@@ -109,7 +105,7 @@ holding-first names k q e =
 module _ {names : ℕ} (tree : List ℕ) {q : Queue} {row : List ℕ} {a : Answer} {t : ℕ} {q′ : Queue} where
   pub push-holds : Holding names (K tree names) q → length row ≡ names → Codes row
       → PushesTree names tree q row a t q′ → Holding names (K tree names) q′
-  unfolding lastRows
+  unfolding lastRows stepsOf
   push-holds h f s p =
       let kept = q .kept .0 in
       let trace = traceOf names q row in
@@ -172,22 +168,26 @@ module _ {names n : ℕ} {tree : List ℕ} {rows : ℕ → List ℕ} {queues : �
   taken-pushes i l =
       subst (λ (z : Matching). Push names tree (queues i) (rows i) z (queues (suc i))) (never-refused i l) (pushed i l)
 
+  -- each push answers for its row
+  pub pushed-found : (i : ℕ) → i < n → FoundAt names tree (fed rows n) i (results i)
+  pushed-found i l =
+      let r = push-answers accepted first full taken-pushes i l in
+      let answer = told-by (results i) .answer in
+      let tried = r .count in
+      record {
+        answer = answer;
+        is = never-refused i l ∙ (λ j. Found (record { answer = answer; tries = tried j }));
+        numbered = r .is;
+      }
+
   module _ (enough : RowCount n) (i : ℕ) (l : i < n) where
     fits : Rows names n (length (fed rows n))
     fits = record { name-count = some; row-count = enough; all = fed-length names rows n full }
 
     pub three-routes : (x : Told) → RowAnswer names n tree (fed rows n) i x
         → (y : Matching) → RowMatch names n tree (fed rows n) i y
-        → (x ≡ told.Answered (rowAnswer (stateAt names (fed rows n)) (expression tree names) i))
-        × (y ≡ found names tree (fed rows n) i) × (results i ≡ found names tree (fed rows n) i)
+        → AnsweredAs (answersOn names tree (fed rows n) i) x
+        × FoundAt names tree (fed rows n) i y × FoundAt names tree (fed rows n) i (results i)
     three-routes x w y k =
         let s = fed-codes rows n good in
-        let e = answered fits accepted s l x w in
-        let d = matched fits accepted s l y k in
-        let w′ = subst (λ (z : Told). RowAnswer names n tree (fed rows n) i z) e w in
-        let k′ = subst (λ (z : Matching). RowMatch names n tree (fed rows n) i z) d k in
-        let r = routes-taken accepted first full taken-pushes i l w′ k′ in (
-          e,
-          d,
-          never-refused i l ∙ (λ j. Found (record { answer = r .1 j; tries = r .2 j })),
-        )
+        (answered fits accepted s l x w, matched fits accepted s l y k, pushed-found i l)

@@ -16,9 +16,10 @@ use Rattle.alf.specs.declared.Sort.{Sort}
 use Rattle.alf.specs.declared.Sort.the-variants as sort
 use Rattle.basics.specs.declared.Outcome.the-variants as outcome
 use Rattle.alf.specs.Expressions.{Expression, boolean, vector, Over, VectorOver, ExpressionOver}
-use Rattle.alf.specs.Bytes.{Decodes, topVector}
+use Rattle.alf.specs.Decoder.{Decodes, topVector}
 use Rattle.alf.specs.Values.{stateAt}
-use Rattle.alf.specs.Windows.{numberOf}
+use Rattle.alf.proofs.Answers.{number-same}
+use Rattle.update_calls.proofs.ByAlternatives.{tree-pushed}
 use Rattle.alf.specs.Alternatives.{alternatives, stepsOf}
 use Rattle.alf.specs.Traces.{corrected, lastRewritten}
 use Rattle.alf.specs.Refusals.{Passed, Comes}
@@ -30,6 +31,7 @@ use Rattle.alf.proofs.Decoding.{decode-over}
 use Rattle.alf.proofs.RowsAreAlternatives.{same-answer}
 use Rattle.alf.proofs.TraceNearness.{steps-pos, correction-elsewhere}
 use Rattle.alf.proofs.Totals.{totals-sum}
+use Rattle.acceptance.proofs.Acceptance.{accepted-decodes}
 use Rattle.acceptance.specs.Accepted.{sortOf, Accepted}
 use Rattle.matcher.specs.declared.answers.Matched.{Matched}
 use Rattle.matcher.specs.declared.tables.Total.{Total}
@@ -44,7 +46,7 @@ use Rattle.matching_calls.specs.declared.matching.Counting.the-variants.{Counte
 use Rattle.judging.specs.Orders.{Rows}
 use Rattle.row_calls.specs.Written.{Tells, RowAnswer}
 use Rattle.basics.specs.Memory.{after}
-use Rattle.matching_calls.specs.Matching.{expression, answersOn, Finds, RowMatch, Counts, RowTotals}
+use Rattle.matching_calls.specs.Matching.{MatchesTree, expression, answersOn, Finds, RowMatch, Counts, RowTotals}
 use Rattle.update_calls.specs.Correcting.{Lists, correctionOrder, Correction, rewritten}
 use Rattle.update_calls.specs.Pushing.{Takes, Push}
 
@@ -78,7 +80,7 @@ isVectorSort sort.Vector = true
 expression-over : (names : ℕ) (tree : List ℕ) → Accepted names sort.Vector tree
     → VectorOver names (expression tree names)
 unfolding Decodes topVector sortOf isVectorSort ExpressionOver
-expression-over names tree a = go (a .expression) (a .decodes) (a .sorted)
+expression-over names tree a = go (a .expression) (accepted-decodes a) (a .sorted)
   where
     go : (e : Expression) → Decodes names tree e → sortOf e ≡ sort.Vector
         → VectorOver names (expression tree names)
@@ -93,7 +95,7 @@ module _ {names n : ℕ} {tree : List ℕ} {rows : ℕ → List ℕ} {queues : �
     (pushed : (i : ℕ) → i < n → Push names tree (queues i) (rows i) (Found (told i)) (queues (suc i))) where
   feed : Feed names (alternatives (expression tree names)) n rows queues (λ i. told i .answer) (λ i. told i .tries)
   unfolding Takes
-  feed = record { first = first; full = full; pushes = λ i l. pushed i l .comes .1 }
+  feed = record { first = first; full = full; pushes = λ i l. tree-pushed (pushed i l .comes .1) }
 
   asks : All (Asks (Over names)) (alternatives (expression tree names))
   asks = alternatives-ask (Over names) _ (over-asked names _ (expression-over names tree accepted))
@@ -102,15 +104,22 @@ module _ {names n : ℕ} {tree : List ℕ} {rows : ℕ → List ℕ} {queues : �
   unfolding stepsOf
   longest-pos = steps-pos (expression tree names)
 
+  pub push-answers : (i : ℕ) → i < n → MatchesTree names tree (fed rows n) i (told i .answer) (told i .tries)
+  push-answers i l =
+      let q = row-so-far feed asks longest-pos i l in
+      record {
+        is = q .is ∙ sym (same-answer (stateAt names (fed rows n)) (expression tree names) i);
+        count = q .count;
+      }
+
   pub routes-taken : (i : ℕ) → i < n → {a : Answer} {m : Matched}
       → RowAnswer names n tree (fed rows n) i (Answered a) → RowMatch names n tree (fed rows n) i (Found m)
       → (m .answer ≡ a) × (told i .answer ≡ a) × (told i .tries ≡ m .tries)
   unfolding Tells Finds
   routes-taken i l w k =
-      let q = row-so-far feed asks longest-pos i l in
-      let same = same-answer (stateAt names (fed rows n)) (expression tree names) i in (
-        k .comes .1 .is ∙ sym (w .comes .1),
-        q .is ∙ sym same ∙ sym (w .comes .1),
+      let q = push-answers i l in (
+        number-same _ _ (k .comes .1 .is ∙ sym (w .comes .1)),
+        number-same _ _ (q .is ∙ sym (w .comes .1)),
         q .count ∙ sym (k .comes .1 .count),
       )
 
@@ -178,7 +187,7 @@ module _ {names n : ℕ} {tree states answers : List ℕ} {r : ℕ} {new states�
   stays-right i w =
       let o = expression-over names tree accepted in
       rw stored
-      (ap numberOf (sym (correction-elsewhere names states new r whole (lists .full) (expression tree names) o i w)))
+      (sym (correction-elsewhere names states new r whole (lists .full) (expression tree names) o i w))
 
   beyond : (i : ℕ) → i < n → last < i → r + stepsOf (expression tree names) < i
   unfolding lastRewritten

@@ -14,12 +14,14 @@ use Rattle.alf.specs.declared.Answer.{Answer}
 use Rattle.alf.specs.Expressions.{Vector, Over}
 use Rattle.alf.specs.Values.{rowOf, stateAt}
 use Rattle.alf.specs.Windows.{rowAnswer}
+use Rattle.alf.specs.Answers.{numberOf}
+use Rattle.alf.proofs.Answers.{number-same}
 use Rattle.alf.specs.Alternatives.{Alternative, alternatives}
 use Rattle.basics.proofs.Bools.{equal?}
 use Rattle.basics.proofs.AllEntries.{All}
 use Rattle.alf.proofs.Conditions.{Asks}
 use Rattle.alf.proofs.Nearness.{Near, answers-near, tries-near}
-use Rattle.alf.proofs.TraceNearness.{state-same}
+use Rattle.alf.proofs.Values.{state-same}
 use Rattle.matcher.specs.Answers.{Matches}
 use Rattle.matcher.proofs.Agreement.{matches-windows}
 use Rattle.queue.specs.declared.queues.Queue.{Queue}
@@ -64,7 +66,7 @@ module _ {names : ℕ} {xs : List Alternative} {n : ℕ} {rows : ℕ → List �
   near =
       record {
         room = refl;
-        agree = λ d a b c o. state-same names _ _ c o (λ k m. same-row (i - d) k (omega arith) m);
+        agree = λ d a b c o. state-same names _ _ (λ k m. same-row (i - d) k (omega arith) m) c o;
       }
 
   pub row-so-far : Matches (stateAt names (fed rows n)) xs i (answers i) (counts i)
@@ -77,10 +79,10 @@ module _ {names : ℕ} {xs : List Alternative} {n : ℕ} {rows : ℕ → List �
 
   pub three-routes : (p : Vector) → xs ≡ alternatives p → {a : Answer} {t : ℕ}
       → Matches (stateAt names (fed rows n)) xs i a t
-      → (a ≡ rowAnswer (stateAt names (fed rows n)) p i) × (answers i ≡ a) × (counts i ≡ t)
+      → (numberOf a ≡ rowAnswer (stateAt names (fed rows n)) p i) × (answers i ≡ a) × (counts i ≡ t)
   three-routes p same m =
       let q = row-so-far in (
         matches-windows (stateAt names (fed rows n)) p same m,
-        q .is ∙ sym (m .is),
+        number-same _ _ (q .is ∙ sym (m .is)),
         q .count ∙ sym (m .count),
       )

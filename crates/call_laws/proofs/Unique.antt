@@ -8,12 +8,13 @@
 use mathlib.Core.Path.{_≡_, refl, ap, sym, _∙_}
 use mathlib.Core.List.{List}
 use Prim.Native.Nat.{ℕ}
-use Rattle.basics.specs.Refusing.{refusal}
 use Rattle.alf.specs.declared.Answer.{Answer}
 use Rattle.basics.specs.declared.Outcome.{Outcome}
 use Rattle.basics.specs.declared.Outcome.the-variants as outcome
 use Rattle.alf.specs.Refusals.{Order, Comes}
-use Rattle.alf.proofs.Outcomes.{AllFixed, at-fixed, first-fixed, refused-passed, refused-unique, comes-unique}
+use Rattle.alf.proofs.Answers.{number-same}
+use Rattle.update_calls.proofs.ByAlternatives.{tree-pushed}
+use Rattle.alf.proofs.Outcomes.{AllFixed, at-fixed, first-fixed, refused-passed, refused-by-unique, comes-unique}
 use Rattle.queue.specs.declared.queues.Queue.{Queue}
 use Rattle.queue.proofs.Unique.{pushes-unique}
 use Rattle.judging.specs.declared.checks.Verdict.{Verdict}
@@ -62,7 +63,7 @@ verdict-unique o f (passes p x) (passes q y) = refl
 verdict-unique o f (passes p x) (refuses s) = absurd (refused-passed o _ _ p s)
 verdict-unique o f (refuses r) (passes q y) = absurd (refused-passed o _ _ q r)
 verdict-unique o f (refuses r) (refuses s) =
-    let e = refused-unique o f r s in λ i. verdict.Refused (refusal (e .0 i) (e .1 i))
+    ap verdict.Refused (refused-by-unique o f r s)
 
 module _ {names n : ℕ} {tree states : List ℕ} where
   pub state-unique : {row : ℕ} {a b : Outcome} → RowState names n tree states row a
@@ -83,13 +84,14 @@ module _ {names n : ℕ} {tree states : List ℕ} where
       let e = outcome-unique _ _ (codes-fixed _ _ states) _ _ (x .comes) (y .comes) in
       (e, after-unique _ out e (x .memory) (y .memory))
 
-pub tells-unique : (o : Order) (a : Answer) → AllFixed o → (x y : Told) → Tells o a x → Tells o a y → x ≡ y
+pub tells-unique : (o : Order) (a : ℕ) → AllFixed o → (x y : Told) → Tells o a x → Tells o a y → x ≡ y
 unfolding Tells
-tells-unique o a f (told.Answered b) (told.Answered c) x y = ap told.Answered (x .1 ∙ sym (y .1))
+tells-unique o a f (told.Answered b) (told.Answered c) x y =
+    ap told.Answered (number-same b c (x .1 ∙ sym (y .1)))
 tells-unique o a f (told.Answered b) (told.Refused s) x y = absurd (refused-passed o _ _ (x .0) y)
 tells-unique o a f (told.Refused r) (told.Answered c) x y = absurd (refused-passed o _ _ (y .0) x)
 tells-unique o a f (told.Refused r) (told.Refused s) x y =
-    let e = refused-unique o f x y in λ i. told.Refused (refusal (e .0 i) (e .1 i))
+    ap told.Refused (refused-by-unique o f x y)
 
 pub finds-unique : (o : Order) (right : Answer → ℕ → Type 0) → AllFixed o
     → ((a b : Answer) (t u : ℕ) → right a t → right b u → (a ≡ b) × (t ≡ u))
@@ -100,7 +102,7 @@ finds-unique o right f one (Found m) (Found k) x y =
 finds-unique o right f one (Found m) (Refused s) x y = absurd (refused-passed o _ _ (x .0) y)
 finds-unique o right f one (Refused r) (Found k) x y = absurd (refused-passed o _ _ (y .0) x)
 finds-unique o right f one (Refused r) (Refused s) x y =
-    let e = refused-unique o f x y in λ i. Refused (refusal (e .0 i) (e .1 i))
+    ap Refused (refused-by-unique o f x y)
 
 pub counts-unique : (o : Order) (right : ℕ → ℕ → ℕ → Type 0) → AllFixed o
     → ((a b c x y z : ℕ) → right a b c → right x y z → (a ≡ x) × (b ≡ y) × (c ≡ z))
@@ -112,7 +114,7 @@ counts-unique o right f one (counting.Counted t) (counting.Counted u) x y =
 counts-unique o right f one (counting.Counted t) (counting.Refused s) x y = absurd (refused-passed o _ _ (x .0) y)
 counts-unique o right f one (counting.Refused r) (counting.Counted u) x y = absurd (refused-passed o _ _ (y .0) x)
 counts-unique o right f one (counting.Refused r) (counting.Refused s) x y =
-    let e = refused-unique o f x y in λ i. counting.Refused (refusal (e .0 i) (e .1 i))
+    ap counting.Refused (refused-by-unique o f x y)
 
 module _ {names n : ℕ} {tree states : List ℕ} where
   pub answer-unique : {row : ℕ} {a b : Told} → RowAnswer names n tree states row a
@@ -126,7 +128,7 @@ module _ {names n : ℕ} {tree states : List ℕ} where
       → a ≡ b
   match-unique {row} x y =
       finds-unique _ _ (row-fixed _ _ states n row)
-      (λ a b t u p q. (p .is ∙ sym (q .is), p .count ∙ sym (q .count))) _ _ (x .comes) (y .comes)
+      (λ a b t u p q. (number-same a b (p .is ∙ sym (q .is)), p .count ∙ sym (q .count))) _ _ (x .comes) (y .comes)
 
   pub all-unique : {answers tried a t b u : List ℕ} {x y : Outcome}
       → AllMatched names n tree states answers tried a t x → AllMatched names n tree states answers tried b u y
@@ -161,14 +163,15 @@ takes-unique : (names : ℕ) (tree : List ℕ) (q : Queue) (row : List ℕ) (x y
     → Takes names tree q row x p → Takes names tree q row y r → (x ≡ y) × (p ≡ r)
 unfolding Takes
 takes-unique names tree q row (Found m) (Found k) p r a b =
-    let e = pushes-unique (a .1) (b .1) in (λ i. Found (record { answer = e .0 i; tries = e .1 i }), e .2)
+    let e = pushes-unique (tree-pushed (a .1)) (tree-pushed (b .1)) in
+    (λ i. Found (record { answer = e .0 i; tries = e .1 i }), e .2)
 takes-unique names tree q row (Found m) (Refused s) p r a b =
     absurd (refused-passed (pushOrder names tree q row) _ _ (a .0) (b .0))
 takes-unique names tree q row (Refused s) (Found k) p r a b =
     absurd (refused-passed (pushOrder names tree q row) _ _ (b .0) (a .0))
 takes-unique names tree q row (Refused s) (Refused t) p r a b =
-    let e = refused-unique (pushOrder names tree q row) (codes-fixed _ _ row) (a .0) (b .0) in
-    (λ i. Refused (refusal (e .0 i) (e .1 i)), a .1 ∙ sym (b .1))
+    let e = refused-by-unique (pushOrder names tree q row) (codes-fixed _ _ row) (a .0) (b .0) in
+    (ap Refused e, a .1 ∙ sym (b .1))
 
 pub push-unique : {names : ℕ} {tree : List ℕ} {q : Queue} {row : List ℕ} {x y : Matching} {p r : Queue}
     → Push names tree q row x p → Push names tree q row y r → (x ≡ y) × (p ≡ r)

@@ -15,15 +15,15 @@ use Rattle.states.specs.FirstBadCode.{FirstBad}
 use Rattle.states.proofs.BadCodes.{bad-given, bad-never}
 use Rattle.changes.specs.declared.RowChanges.{RowChanges}
 use Rattle.changes.specs.declared.RowChanges.the-variants.{Changed, Refused}
-use Rattle.changes.specs.Call.{Lists, Inside, RowSet, Comes}
+use Rattle.changes.specs.Call.{Lists, Inside, RowSet, RowChanged}
 
 module _ (names n : ℕ) (states : List ℕ) (row : ℕ) where
   abbrev Result : RowChanges → Type 0
-  Result r = Comes names n states row r
+  Result r = RowChanged names n states row r
 
   pub refused-18 : {r : Refusal} → (Lists names n (length states) → ⊥)
       → r ≡ refusal 18 0 → Result (Refused r)
-  unfolding Comes RefusedWith
+  unfolding RowChanged RefusedWith
   refused-18 h e = rw e (inl (refl, record { given = h; there = refl }))
 
   module _ (l : Lists names n (length states)) where
@@ -38,7 +38,7 @@ module _ (names n : ℕ) (states : List ℕ) (row : ℕ) where
 
     module _ {bad : ℕ} (c : FirstBad states bad) where
       pub refused-15 : {r : Refusal} → bad < length states → r ≡ refusal 15 bad → Result (Refused r)
-      unfolding Comes RefusedWith
+      unfolding RowChanged RefusedWith
       refused-15 h e =
           rw e
           (inr (
@@ -52,7 +52,7 @@ module _ (names n : ℕ) (states : List ℕ) (row : ℕ) where
 
       pub refused-19 : {r : Refusal} → length states ≤ bad → n ≤ row → r ≡ refusal 19 0
           → Result (Refused r)
-      unfolding Comes RefusedWith
+      unfolding RowChanged RefusedWith
       refused-19 h k e =
           rw e
           (inr (
@@ -65,7 +65,7 @@ module _ (names n : ℕ) (states : List ℕ) (row : ℕ) where
 
       pub changed-row : (m : Changes) → length states ≤ bad → row < n
           → RowSet names states row (m .mask) (m .many) → Result (Changed m)
-      unfolding Comes Passed
+      unfolding RowChanged Passed
       changed-row m h k s = (
         (λ p a. a .given l, (none-bad h, (λ p a. omega (arith, a .given), tt))),
         s,

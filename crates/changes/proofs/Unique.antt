@@ -1,18 +1,18 @@
 -- Any two results that the contract of `changes_at` allows coincide. Main name: changes-unique.
-use mathlib.Core.Path.{_≡_, sym, _∙_}
+use mathlib.Core.Path.{_≡_, sym, ap, _∙_}
 use mathlib.Core.List.{List}
 use Prim.Native.Nat.{ℕ}
-use Rattle.alf.proofs.Outcomes.{AllFixed, at-fixed, first-fixed, refused-passed, refused-unique}
+use Rattle.alf.proofs.Outcomes.{AllFixed, at-fixed, first-fixed, refused-passed, refused-by-unique}
 use Rattle.changes.specs.declared.RowChanges.{RowChanges}
 use Rattle.changes.specs.declared.RowChanges.the-variants.{Changed, Refused}
-use Rattle.changes.specs.Call.{order, Comes}
+use Rattle.changes.specs.Call.{order, RowChanged}
 
 order-fixed : (names n : ℕ) (states : List ℕ) (row : ℕ) → AllFixed (order names n states row)
 order-fixed names n states row = (at-fixed _ _, (first-fixed _, (at-fixed _ _, tt)))
 
 pub changes-unique : (names n : ℕ) (states : List ℕ) (row : ℕ) (a b : RowChanges)
-    → Comes names n states row a → Comes names n states row b → a ≡ b
-unfolding Comes
+    → RowChanged names n states row a → RowChanged names n states row b → a ≡ b
+unfolding RowChanged
 changes-unique names n states row (Changed c) (Changed d) x y =
     let p = x .1 .changed ∙ sym (y .1 .changed) in
     let q = x .1 .number ∙ sym (y .1 .number) in
@@ -22,5 +22,4 @@ changes-unique names n states row (Changed c) (Refused s) x y =
 changes-unique names n states row (Refused r) (Changed d) x y =
     absurd (refused-passed (order names n states row) _ _ (y .0) x)
 changes-unique names n states row (Refused r) (Refused s) x y =
-    let e = refused-unique (order names n states row) (order-fixed names n states row) x y in
-    λ i. Refused (record { number = e .0 i; place = e .1 i })
+    ap Refused (refused-by-unique (order names n states row) (order-fixed names n states row) x y)

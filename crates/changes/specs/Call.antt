@@ -1,7 +1,7 @@
 -- Document 01, "Totals, .., changes of a row: 18, 10, 15, 19": the call for the changes of a row, which is handed no
 -- tree.
 --   Lists, order     what 18 looks at, and the order of the call
---   RowSet, Comes    the set of changed variables, and what the call comes to
+--   RowSet, RowChanged    the set of changed variables, and what the call comes to
 --   Inside           the row stands in the states
 -- The set and its size are alf's changeMask and changeCount.
 use Prim.Native.Nat.{ℕ, _+_, _*_, _<_, _≤_}
@@ -9,7 +9,7 @@ use mathlib.Core.Path.{_≡_}
 use mathlib.Core.List.{List, [], _∷_}
 use lib.ListN.{length}
 use Rattle.alf.specs.Refusals.{Order, check, bad-lists, bad-code, no-such-row, NameCount, RowCount}
-use Rattle.alf.specs.Refusals.{RefusedWith, Passed}
+use Rattle.alf.specs.Refusals.{RefusedBy, Passed}
 use Rattle.alf.specs.Traces.{changeMask, changeCount}
 use Rattle.changes.specs.declared.RowChanges.{RowChanges}
 use Rattle.changes.specs.declared.RowChanges.the-variants.{Changed, Refused}
@@ -33,9 +33,10 @@ pub record RowSet (names : ℕ) (states : List ℕ) (row set many : ℕ) : Type 
   pub changed : set ≡ changeMask names states row
   pub number : many ≡ changeCount names states row
 
-unfoldable pub Comes : ℕ → ℕ → List ℕ → ℕ → RowChanges → Type 0
-Comes names n states row (Changed c) = Passed (order names n states row) × RowSet names states row (c .mask) (c .many)
-Comes names n states row (Refused r) = RefusedWith (order names n states row) (r .number) (r .place)
+unfoldable pub RowChanged : ℕ → ℕ → List ℕ → ℕ → RowChanges → Type 0
+RowChanged names n states row (Changed c) =
+    Passed (order names n states row) × RowSet names states row (c .mask) (c .many)
+RowChanged names n states row (Refused r) = RefusedBy (order names n states row) r
 
 -- for the functions inside: the row stands in the states, of 1 to 32 names
 pub record Inside (names : ℕ) (states : List ℕ) (row : ℕ) : Type 0 where

@@ -1,6 +1,7 @@
 // The changes of a row as a call: the set of changed variables and how many they are, or refused with 18, 15, 19.
 ghost use Rattle.basics.specs.Deciding.{Decides};
-ghost use Rattle.changes.specs.Call.{Lists, Inside, RowSet, Comes};
+ghost use Rattle.changes.specs.Call.{Lists, Inside, RowSet, RowChanged};
+use alf::RowNo;
 use basics::Refusal;
 use basics::refusing::refusal_of;
 use states::changes::Changes;
@@ -36,7 +37,7 @@ fn lists_fit(names: usize, n: usize, len: usize) -> bool
 }
 
 // The changes of a row of the trace; row 0 has none.
-fn of_row(names: usize, states: &[u8], row: usize) -> Changes
+pub fn of_row(names: usize, states: &[u8], row: usize) -> Changes
     requires { ⌜ Inside names (now states) row ⌝ }
     ensures { λ r. ⌜ RowSet names (now (states .entry)) row (r .mask) (r .many) ⌝ }
 {
@@ -50,9 +51,10 @@ fn of_row(names: usize, states: &[u8], row: usize) -> Changes
 }
 
 // Bit i of the mask says whether name i changed at the row.
-pub fn changes_at(names: usize, n: usize, states: &[u8], row: usize) -> RowChanges
-    ensures { λ r. ⌜ Comes names n (now (states .entry)) row r ⌝ }
+pub fn changes_at(names: usize, n: usize, states: &[u8], row: RowNo) -> RowChanges
+    ensures { λ r. ⌜ RowChanged names n (now (states .entry)) (row .0) r ⌝ }
 {
+    let at = row.0 as usize;
     if !lists_fit(names, n, states.len()) {
         return RowChanges::Refused(refusal_of(18, 0));
     }
@@ -60,8 +62,8 @@ pub fn changes_at(names: usize, n: usize, states: &[u8], row: usize) -> RowChang
     if bad < states.len() {
         return RowChanges::Refused(refusal_of(15, bad));
     }
-    if n <= row {
+    if n <= at {
         return RowChanges::Refused(refusal_of(19, 0));
     }
-    RowChanges::Changed(of_row(names, states, row))
+    RowChanges::Changed(of_row(names, states, at))
 }

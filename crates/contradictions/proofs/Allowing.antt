@@ -14,7 +14,7 @@ use lib.ListN.{getD}
 use borrow.Author.Tests.{eq-eqb, ne-eqb}
 use Rattle.basics.specs.Words.{all}
 use Rattle.alf.specs.Expressions.{Half, pair, changes, stays}
-use Rattle.alf.specs.Bytes.{Stack, halfAt, isBoolean, topBoolean}
+use Rattle.alf.specs.Decoder.{Stack, halfAt, isBoolean, topBoolean}
 use Rattle.alf.specs.Windows.{asked, YES}
 use Rattle.alf.specs.Alternatives.{Test, test, isName, halves}
 use Rattle.basics.proofs.Bools.{never, equal?}

@@ -27,7 +27,7 @@ use Rattle.step_tests.proofs.Exchanging.{placed-number}
 use Rattle.rewriting.proofs.Calls.{comes-18, comes-10, comes-on}
 use Rattle.basics.proofs.Memory.{after-unique}
 
-flag-entries : (names : ℕ) (xs : List Alternative) → length (flagList names xs) ≡ length xs
+pub flag-entries : (names : ℕ) (xs : List Alternative) → length (flagList names xs) ≡ length xs
 unfolding flagList
 flag-entries names xs = length-map xs _
 

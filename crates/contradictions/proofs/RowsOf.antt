@@ -26,11 +26,8 @@ stepBefore x (suc j) = getD x j []
 pub literals-at : (n : ℕ) (x : Alternative) (j : ℕ)
     → literalsAt n x j ≡ second n (stepBefore x j) ++ first n (getD x j [])
 unfolding literalsAt stepBefore halves
-literals-at n [] zero = refl
-literals-at n [] (suc j) = refl
-literals-at n (s ∷ x) zero = refl
-literals-at n (s ∷ x) (suc zero) = ap (_++_ (second n s)) (literals-at n x zero)
-literals-at n (s ∷ x) (suc (suc j)) = literals-at n x (suc j)
+literals-at n x zero = refl
+literals-at n x (suc j) = refl
 
 -- piece j of a list that is cut
 cut-piece : {A : Type 0} (ns : List ℕ) (xs : List A) (j : ℕ) → j < length ns

@@ -13,10 +13,10 @@ use lib.ListN.{length, take, drop, length-append, length-drop}
 use lib.Seq.{length-take-le}
 use Rattle.basics.specs.Words.{greatestOf, listed}
 use Rattle.alf.specs.Values.{stateAt}
-use Rattle.alf.specs.Alternatives.{Alternative}
+use Rattle.alf.specs.Alternatives.{Alternative, answerOf}
 use Rattle.alf.specs.Traces.{corrected, lastRewritten}
 use Rattle.alternatives.specs.InMemory.{alternativesOf}
-use Rattle.matcher.specs.Tables.{RowsAsked, numberAt}
+use Rattle.matcher.specs.Tables.{RowsAsked}
 use Rattle.basics.specs.Memory.{placed, Room, Put}
 use Rattle.basics.proofs.Stores.{put-placed}
 use Rattle.correction.specs.Corrections.{RewriteAsked, CorrectionAsked, Corrects}
@@ -82,7 +82,7 @@ module _ {tree : List ℕ} {names : ℕ} {states steps tests edges operands : Li
     xs = alternativesOf tree names steps tests edges operands
 
     pub corrects : {answers′ : List ℕ}
-        → answers′ ≡ placed answers r (listed r m (numberAt (stateAt names states′) xs))
+        → answers′ ≡ placed answers r (listed r m (answerOf (stateAt names states′) xs))
         → Corrects names xs n r states answers new states′ answers′
     corrects {answers′} e =
         let i = put-corrected stored in

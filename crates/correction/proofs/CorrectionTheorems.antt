@@ -12,15 +12,15 @@ use native.Mathlib.Omega.{arith}
 use lib.ListN.{length, getD}
 use Rattle.alf.specs.Expressions.{Boolean, Vector, Over}
 use Rattle.alf.specs.Values.{stateAt}
-use Rattle.alf.specs.Windows.{rowAnswer, numberOf}
+use Rattle.alf.specs.Windows.{rowAnswer}
 use Rattle.alf.specs.Alternatives.{Alternative, alternatives, answerOf}
 use Rattle.alf.specs.Traces.{corrected, lastRewritten}
 use Rattle.basics.proofs.Bools.{below?}
 use Rattle.alf.proofs.Nearness.{Near, answers-near}
-use Rattle.alf.proofs.TraceNearness.{state-same, corrected-other}
+use Rattle.alf.proofs.Values.{state-same}
+use Rattle.alf.proofs.TraceNearness.{corrected-other}
 use Rattle.alternatives.specs.InMemory.{alternativesOf}
-use Rattle.matcher.specs.Tables.{numberAt}
-use Rattle.matcher.proofs.Agreement.{matches-windows}
+use Rattle.matcher.proofs.Agreement.{answers-same}
 use Rattle.basics.proofs.Listed.{ruled-inside, ruled-before, ruled-behind}
 use Rattle.correction.specs.Corrections.{CorrectionAsked, Corrects}
 use Rattle.alternatives.specs.InMemory.{longestOf}
@@ -56,27 +56,25 @@ module _ {tree : List ℕ} {names : ℕ} {states steps tests edges operands : Li
   fits = let e = reach in omega (arith, c .room)
 
   module _ {states′ answers′ : List ℕ} (k : Corrects names xs n r states answers new states′ answers′) where
-    pub correction-here : (i : ℕ) → r ≤ i → i ≤ last → getD answers′ i 0 ≡ numberAt new-states xs i
+    pub correction-here : (i : ℕ) → r ≤ i → i ≤ last → getD answers′ i 0 ≡ answerOf new-states xs i
     correction-here i a b =
         ap (λ (l : List ℕ). getD l i 0) (k .rewritten)
-        ∙ ruled-inside answers r (last + 1 - r) (numberAt new-states xs) fits i a (omega arith)
+        ∙ ruled-inside answers r (last + 1 - r) (answerOf new-states xs) fits i a (omega arith)
 
     -- where the alternatives are those of a vector expression, they are its answers on windows
     pub correction-windows : (p : Vector) → xs ≡ alternatives p → (i : ℕ) → r ≤ i → i ≤ last
-        → getD answers′ i 0 ≡ numberOf (rowAnswer new-states p i)
+        → getD answers′ i 0 ≡ rowAnswer new-states p i
     correction-windows p same i a b =
         correction-here i a b
-        ∙ ap numberOf
-        (matches-windows new-states p same {row = i} {a = answerOf new-states xs i}
-        (record { is = refl; count = refl }))
+        ∙ answers-same new-states p same i
 
     pub correction-only : (i : ℕ) → (i < r) ⊎ (last < i) → getD answers′ i 0 ≡ getD answers i 0
     correction-only i (inl l) =
         ap (λ (a : List ℕ). getD a i 0) (k .rewritten)
-        ∙ ruled-before answers r (last + 1 - r) (numberAt new-states xs) fits i l
+        ∙ ruled-before answers r (last + 1 - r) (answerOf new-states xs) fits i l
     correction-only i (inr l) =
         ap (λ (a : List ℕ). getD a i 0) (k .rewritten)
-        ∙ ruled-behind answers r (last + 1 - r) (numberAt new-states xs) fits i (omega (arith, reach))
+        ∙ ruled-behind answers r (last + 1 - r) (answerOf new-states xs) fits i (omega (arith, reach))
 
     -- with no alternative without a step
     module _ (some : 0 < longestOf xs) where
@@ -86,8 +84,8 @@ module _ {tree : List ℕ} {names : ℕ} {states steps tests edges operands : Li
             room = refl;
             agree =
                 λ d h m b o.
-                state-same names _ _ b o
-                (λ j l. corrected-other names states new r (row-fits c) (c .full) (i - d) j (apart w d h m) l);
+                state-same names _ _
+                (λ j l. corrected-other names states new r (row-fits c) (c .full) (i - d) j (apart w d h m) l) b o;
           }
         where
           apart : (i < r) ⊎ (r + longestOf xs < i) → (d : ℕ) → d ≤ longestOf xs → d ≤ i → i - d ≡ r
@@ -101,13 +99,13 @@ module _ {tree : List ℕ} {names : ℕ} {states steps tests edges operands : Li
           answers-near (Over names) new-states old (longestOf xs) i i xs some (near i w)
           (lists-ask steps tests (c .asked .shape .known)) (longest-within xs)
 
-      pub correction-right : ((i : ℕ) → i < n → getD answers i 0 ≡ numberAt old xs i)
-          → (i : ℕ) → i < n → getD answers′ i 0 ≡ numberAt new-states xs i
+      pub correction-right : ((i : ℕ) → i < n → getD answers i 0 ≡ answerOf old xs i)
+          → (i : ℕ) → i < n → getD answers′ i 0 ≡ answerOf new-states xs i
       correction-right right i l = go (below? i r) (below? last i)
         where
           go : (i < r) ⊎ (r ≤ i) → (last < i) ⊎ (i ≤ last)
-              → getD answers′ i 0 ≡ numberAt new-states xs i
-          go (inl a) b = correction-only i (inl a) ∙ right i l ∙ ap numberOf (sym (elsewhere i (inl a)))
+              → getD answers′ i 0 ≡ answerOf new-states xs i
+          go (inl a) b = correction-only i (inl a) ∙ right i l ∙ sym (elsewhere i (inl a))
           go (inr a) (inl b) =
-              correction-only i (inr b) ∙ right i l ∙ ap numberOf (sym (elsewhere i (inr (beyond i l b))))
+              correction-only i (inr b) ∙ right i l ∙ sym (elsewhere i (inr (beyond i l b)))
           go (inr a) (inr b) = correction-here i a b

@@ -6,10 +6,10 @@ use mathlib.Core.Path.{_≡_}
 use mathlib.Core.List.{List}
 use lib.ListN.{length}
 use Rattle.alf.specs.Values.{stateAt}
-use Rattle.alf.specs.Alternatives.{Alternative}
+use Rattle.alf.specs.Alternatives.{Alternative, answerOf}
 use Rattle.alf.specs.Traces.{corrected, lastRewritten}
 use Rattle.states.specs.FirstBadCode.{Codes}
-use Rattle.matcher.specs.Tables.{RowsAsked, numberAt}
+use Rattle.matcher.specs.Tables.{RowsAsked}
 use Rattle.basics.specs.Words.{listed}
 use Rattle.basics.specs.Memory.{placed}
 use Rattle.alternatives.specs.InMemory.{longestOf}
@@ -43,4 +43,4 @@ pub record Corrects (names : ℕ) (xs : List Alternative) (n r : ℕ)
   pub stored : states′ ≡ corrected names states r new
   pub rewritten : answers′
       ≡ placed answers r (listed r (lastRewritten (longestOf xs) n r + 1 - r)
-      (numberAt (stateAt names (corrected names states r new)) xs))
+      (answerOf (stateAt names (corrected names states r new)) xs))

@@ -1,10 +1,10 @@
 // The correction of one row: the new states are stored, and the answers that depend on them are rewritten.
 ghost use mathlib.Core.Path.{_≡_};
 ghost use Prim.Native.Nat.{_+_, _-_};
+ghost use Rattle.alf.specs.Alternatives.{answerOf};
 ghost use Rattle.alf.specs.Values.{stateAt};
 ghost use Rattle.alf.specs.Traces.{lastRewritten};
 ghost use Rattle.alternatives.specs.InMemory.{alternativesOf};
-ghost use Rattle.matcher.specs.Tables.{numberAt};
 ghost use Rattle.basics.specs.Words.{listed};
 ghost use Rattle.basics.specs.Memory.{placed};
 ghost use Rattle.correction.specs.Corrections.{Reaching, RewriteAsked, CorrectionAsked, Corrects};
@@ -30,7 +30,7 @@ pub fn rewrite(
     requires { ⌜ RewriteAsked (now tree) names (now states) (now steps) (now tests) (now edges) (now operands) n r m
         (now answers) ⌝ }
     ensures { λ _. ⌜ now (answers .exit) ≡ placed (now (answers .entry)) r (listed r m
-        (numberAt (stateAt names (now (states .entry)))
+        (answerOf (stateAt names (now (states .entry)))
         (alternativesOf (now (tree .entry)) names (now (steps .entry)) (now (tests .entry)) (now (edges .entry))
         (now (operands .entry))))) ⌝ }
 {

@@ -1,12 +1,12 @@
 // Matching by alternatives that are handed in as lists, for C: whether they are accepted, a row, all rows, the totals,
 // the queue.
-ghost use Rattle.basics.specs.Deciding.{Decides};
-ghost use Rattle.listed_calls.specs.Lists.{AcceptedAlternatives};
+ghost use Rattle.listed_calls.specs.Fitting.{ListedFits};
 ghost use Rattle.listed_calls.specs.Listed.{ListedMatch, ListedAll, ListedTotals};
 ghost use Rattle.telling.specs.Handing.{Hands, told};
 ghost use Rattle.telling.specs.Matching.{toldMatch, toldCounts, queueOf, toldPush};
 ghost use Rattle.telling.specs.Listed.{ListedPushes};
-use listed_calls::accepting::fits;
+use alf::RowNo;
+use listed_calls::accepting::count_listed;
 use listed_calls::listed::match_all;
 use listed_calls::listed::match_row;
 use listed_calls::listed::push;
@@ -22,7 +22,7 @@ use telling::matching::tell_match;
 use telling::matching::tell_push;
 use telling::outcomes::tell;
 
-// Whether alternatives are accepted that are handed in.
+// How many alternatives are handed in, where they are accepted.
 #[no_mangle]
 pub extern "C" fn dachsmond_listed_fits(
     names: usize,
@@ -31,11 +31,11 @@ pub extern "C" fn dachsmond_listed_fits(
     tests: &[u8],
     edges: &[u8],
     operands: &[u16],
-) -> bool
-    ensures { λ r. ⌜ Decides r (AcceptedAlternatives names (now (tree .entry)) (now (steps .entry))
-        (now (tests .entry)) (now (edges .entry)) (now (operands .entry))) ⌝ }
+) -> Told
+    ensures { λ r. ⌜ Hands (ListedFits names (now (tree .entry)) (now (steps .entry)) (now (tests .entry))
+        (now (edges .entry)) (now (operands .entry))) told r ⌝ }
 {
-    fits(names, tree, steps, tests, edges, operands)
+    tell(count_listed(names, tree, steps, tests, edges, operands))
 }
 
 // Their answer at a row, and the number of them tried.
@@ -49,12 +49,22 @@ pub extern "C" fn dachsmond_listed_match_row(
     edges: &[u8],
     operands: &[u16],
     states: &[u8],
-    row: usize,
+    row: u32,
 ) -> Matched
     ensures { λ r. ⌜ Hands (ListedMatch names n (now (tree .entry)) (now (steps .entry)) (now (tests .entry))
         (now (edges .entry)) (now (operands .entry)) (now (states .entry)) row) toldMatch r ⌝ }
 {
-    tell_match(match_row(names, n, tree, steps, tests, edges, operands, states, row))
+    tell_match(match_row(
+        names,
+        n,
+        tree,
+        steps,
+        tests,
+        edges,
+        operands,
+        states,
+        RowNo(row),
+    ))
 }
 
 // The same for all rows, into lent lists.

@@ -1,28 +1,33 @@
 // The text that the laboratory gets, for C: the listing of a pattern's answers, and the lines of the table, each into
-// a lent buffer.
-ghost use Rattle.table_lines.specs.Table.{headingLine, patternLine, refusedLine, totalLine};
-ghost use Rattle.listing.specs.Calls.{ListsText};
+// a lent buffer. The answers and a pattern's totals are found here; the line of all patterns has the sums handed in.
+ghost use Rattle.table_lines.specs.Table.{headingLine, refusedLine, totalLine};
+ghost use Rattle.tree_listings.specs.TreeTexts.{ListsTree, LinesTree};
 ghost use Rattle.figures.specs.Delivering.{Delivers};
 ghost use Rattle.telling.specs.Handing.{Hands, told};
 use basics::refusing::refusal_of;
-use listing::listings::list;
-use matcher::tables::Total;
 use table_lines::lines::Sums;
 use table_lines::lines::write_heading;
-use table_lines::lines::write_line;
 use table_lines::lines::write_refused;
 use table_lines::lines::write_total;
 use telling::Told;
 use telling::outcomes::tell;
+use tree_listings::lines::write_totals;
+use tree_listings::listings::list;
 
-// The listing of answers, which are document 01's numbers.
+// The listing of the answers of a pattern's tree on a trace of n rows.
 #[no_mangle]
-pub extern "C" fn dachsmond_list(times: &[u32], answers: &[u8], out: &mut [u8]) -> Told
-    ensures { λ r. ⌜ Hands (ListsText (now (times .entry)) (now (answers .entry)) (now (out .entry))
-        (now (out .exit)))
-        told r ⌝ }
+pub extern "C" fn dachsmond_list(
+    names: usize,
+    n: usize,
+    tree: &[u8],
+    times: &[u32],
+    states: &[u8],
+    out: &mut [u8],
+) -> Told
+    ensures { λ r. ⌜ Hands (ListsTree names n (now (tree .entry)) (now (times .entry)) (now (states .entry))
+        (now (out .entry)) (now (out .exit))) told r ⌝ }
 {
-    tell(list(times, answers, out))
+    tell(list(names, n, tree, times, states, out))
 }
 
 // The line of the table's heading.
@@ -33,21 +38,20 @@ pub extern "C" fn dachsmond_table_heading(out: &mut [u8]) -> Told
     tell(write_heading(out))
 }
 
-// The line of a pattern with such totals on n rows.
+// The line of a pattern with the totals of its tree on a trace of n rows.
 #[no_mangle]
 pub extern "C" fn dachsmond_table_line(
+    names: usize,
+    n: usize,
+    tree: &[u8],
+    states: &[u8],
     pattern: &[u8],
-    yes: u32,
-    unknown: u32,
-    no: u32,
-    n: u32,
     out: &mut [u8],
 ) -> Told
-    ensures { λ r. ⌜ Hands (Delivers (patternLine (now (pattern .entry)) yes unknown no n) (now (out .entry))
-        (now (out .exit))) told r ⌝ }
+    ensures { λ r. ⌜ Hands (LinesTree names n (now (tree .entry)) (now (states .entry)) (now (pattern .entry))
+        (now (out .entry)) (now (out .exit))) told r ⌝ }
 {
-    let total = Total { yes, no, unknown };
-    tell(write_line(pattern, total, n, out))
+    tell(write_totals(names, n, tree, states, pattern, out))
 }
 
 // The line of a pattern that is refused.
@@ -64,7 +68,7 @@ pub extern "C" fn dachsmond_table_refused(
     tell(write_refused(pattern, refusal_of(number, place), out))
 }
 
-// The line of the totals of so many patterns on a trace of so many events.
+// The line of the sums over so many patterns on a trace of so many events.
 #[no_mangle]
 pub extern "C" fn dachsmond_table_total(
     yes: u64,

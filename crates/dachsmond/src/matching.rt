@@ -4,6 +4,7 @@ ghost use Rattle.rewriting.specs.Calls.{Rewrites};
 ghost use Rattle.contradictions.specs.Calls.{Contradicts};
 ghost use Rattle.telling.specs.Handing.{Hands, told};
 ghost use Rattle.telling.specs.Matching.{toldMatch, toldCounts};
+use alf::RowNo;
 use contradictions::reports::contradictions;
 use matching_calls::matching::match_all;
 use matching_calls::matching::match_row;
@@ -23,11 +24,11 @@ pub extern "C" fn dachsmond_match_row(
     n: usize,
     tree: &[u8],
     states: &[u8],
-    row: usize,
+    row: u32,
 ) -> Matched
     ensures { λ r. ⌜ Hands (RowMatch names n (now (tree .entry)) (now (states .entry)) row) toldMatch r ⌝ }
 {
-    tell_match(match_row(names, n, tree, states, row))
+    tell_match(match_row(names, n, tree, states, RowNo(row)))
 }
 
 // The same for all rows, into lent lists.

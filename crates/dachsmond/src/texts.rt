@@ -4,7 +4,7 @@ ghost use mathlib.Core.Path.{_≡_};
 ghost use lib.ListN.{length};
 ghost use Rattle.alf.specs.Refusals.{Comes};
 ghost use Rattle.names.specs.Check.{namesOrder};
-ghost use Rattle.reader.specs.Reading.{Reading};
+ghost use Rattle.reader.specs.Reading.{ReadsText};
 ghost use Rattle.writer.specs.Writing.{Writes};
 ghost use Rattle.telling.specs.Handing.{Hands, told, toldExpression, sortOf};
 use names::check_names;
@@ -28,7 +28,7 @@ pub extern "C" fn dachsmond_check_names(names: &[u8]) -> Told
 // The expression that a text is, as a tree over a list of names.
 #[no_mangle]
 pub extern "C" fn dachsmond_read_expression(names: &[u8], text: &[u8], vector: bool) -> Expression
-    ensures { λ r. ⌜ Hands (Reading (now (names .entry)) (now (text .entry)) (sortOf vector)) toldExpression r ⌝ }
+    ensures { λ r. ⌜ Hands (ReadsText (now (names .entry)) (now (text .entry)) (sortOf vector)) toldExpression r ⌝ }
 {
     tell_expression(read_expression(names, text, sort_of(vector)))
 }

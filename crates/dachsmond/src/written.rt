@@ -2,6 +2,7 @@
 ghost use Rattle.row_calls.specs.Written.{RowState, RowValue, AllValues, RowAnswer};
 ghost use Rattle.row_calls.specs.Windows.{WindowAnswer};
 ghost use Rattle.telling.specs.Handing.{Hands, told, toldAnswer};
+use alf::RowNo;
 use row_calls::windows::window_answer;
 use row_calls::written::row_answer;
 use row_calls::written::row_state;
@@ -19,11 +20,11 @@ pub extern "C" fn dachsmond_row_state(
     n: usize,
     tree: &[u8],
     states: &[u8],
-    row: usize,
+    row: u32,
 ) -> Told
     ensures { λ r. ⌜ Hands (RowState names n (now (tree .entry)) (now (states .entry)) row) told r ⌝ }
 {
-    tell(row_state(names, n, tree, states, row))
+    tell(row_state(names, n, tree, states, RowNo(row)))
 }
 
 // Its value.
@@ -33,11 +34,11 @@ pub extern "C" fn dachsmond_row_value(
     n: usize,
     tree: &[u8],
     states: &[u8],
-    row: usize,
+    row: u32,
 ) -> Told
     ensures { λ r. ⌜ Hands (RowValue names n (now (tree .entry)) (now (states .entry)) row) told r ⌝ }
 {
-    tell(row_value(names, n, tree, states, row))
+    tell(row_value(names, n, tree, states, RowNo(row)))
 }
 
 // Its values at all rows, into a lent list.
@@ -62,11 +63,11 @@ pub extern "C" fn dachsmond_row_answer(
     n: usize,
     tree: &[u8],
     states: &[u8],
-    row: usize,
+    row: u32,
 ) -> Answered
     ensures { λ r. ⌜ Hands (RowAnswer names n (now (tree .entry)) (now (states .entry)) row) toldAnswer r ⌝ }
 {
-    tell_answer(row_answer(names, n, tree, states, row))
+    tell_answer(row_answer(names, n, tree, states, RowNo(row)))
 }
 
 // The answer of a vector expression on the window of rows a to b.
@@ -76,10 +77,10 @@ pub extern "C" fn dachsmond_window_answer(
     n: usize,
     tree: &[u8],
     states: &[u8],
-    a: usize,
-    b: usize,
+    a: u32,
+    b: u32,
 ) -> Answered
     ensures { λ r. ⌜ Hands (WindowAnswer names n (now (tree .entry)) (now (states .entry)) a b) toldAnswer r ⌝ }
 {
-    tell_answer(window_answer(names, n, tree, states, a, b))
+    tell_answer(window_answer(names, n, tree, states, RowNo(a), RowNo(b)))
 }

@@ -66,7 +66,7 @@ fn help() {
   dachsmond list TRACE PATTERN             a pattern's answer at each row
   dachsmond values TRACE EXPRESSION        a boolean expression's value at each row
   dachsmond rewrite TRACE PATTERN          a pattern's alternatives, contradictory ones marked
-  dachsmond show TRACE                     the trace as a table, with the number of changed pins
+  dachsmond show TRACE                     the trace as a table, with the pins that changed
   dachsmond correct TRACE ROW STATES OUT   the trace with one row replaced, written to OUT
   dachsmond --help, dachsmond --version
 

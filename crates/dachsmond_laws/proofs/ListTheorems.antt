@@ -1,22 +1,21 @@
 -- The same as Theorems.antt for the functions that check names, match by alternatives handed in as lists, and write
 -- the listing and the table's lines. Names: the function's, and `-unique`.
 use mathlib.Core.Path.{_≡_}
-use mathlib.Core.Bool.{Bool}
 use mathlib.Core.List.{List}
 use Prim.Native.Nat.{ℕ, _/_}
 use lib.ListN.{length}
 use Rattle.alf.specs.Refusals.{Comes}
 use Rattle.names.specs.Check.{namesOrder}
 use Rattle.names.proofs.Unique.{names-unique}
-use Rattle.basics.specs.Deciding.{Decides}
 use Rattle.queue.specs.declared.queues.Queue.{Queue}
-use Rattle.listed_calls.specs.Lists.{AcceptedAlternatives}
+use Rattle.listed_calls.specs.Fitting.{ListedFits}
 use Rattle.listed_calls.specs.Listed.{ListedMatch, ListedAll, ListedTotals}
+use Rattle.listed_calls.proofs.Fitting as fitting
 use Rattle.listed_calls.proofs.Unique as listed
-use Rattle.table_lines.specs.Table.{headingLine, patternLine, refusedLine, totalLine}
-use Rattle.listing.specs.Calls.{ListsText}
+use Rattle.table_lines.specs.Table.{headingLine, refusedLine, totalLine}
+use Rattle.tree_listings.specs.TreeTexts.{ListsTree, LinesTree}
+use Rattle.tree_listings.proofs.Theorems as trees
 use Rattle.figures.specs.Delivering.{Delivers}
-use Rattle.listing.proofs.Theorems.{lists-unique}
 use Rattle.figures.proofs.Delivering.{delivers-unique}
 use Rattle.telling.specs.declared.Told.{Told}
 use Rattle.telling.specs.declared.Matched.{Matched}
@@ -34,12 +33,11 @@ pub check-names-unique : (names : List ℕ) {r s : Told}
 check-names-unique names x y = hands-unique (names-unique names) x y
 
 -- alternatives in lists
-pub listed-fits-unique : (names : ℕ) (tree steps tests edges operands : List ℕ) (q r : Bool)
-    → Decides q (AcceptedAlternatives names tree steps tests edges operands)
-    → Decides r (AcceptedAlternatives names tree steps tests edges operands) → q ≡ r
-listed-fits-unique = listed.fits-unique
-
 module _ {tree steps tests edges operands : List ℕ} where
+  pub listed-fits-unique : {names : ℕ} {r s : Told} → Hands (ListedFits names tree steps tests edges operands) told r
+      → Hands (ListedFits names tree steps tests edges operands) told s → r ≡ s
+  listed-fits-unique x y = hands-unique (λ a b p q. fitting.listed-fits-unique p q) x y
+
   module _ {names n : ℕ} {states : List ℕ} where
     pub listed-match-row-unique : {row : ℕ} {r s : Matched}
         → Hands (ListedMatch names n tree steps tests edges operands states row) toldMatch r
@@ -68,15 +66,25 @@ module _ {tree steps tests edges operands : List ℕ} where
       hands-unique
       (λ a b p q. let e = listed.listed-push-unique p q in λ i. record { told = e .0 i; queue = e .1 i }) x y
 
--- the listing, and a line of the table, whatever it holds
-pub list-unique : (times answers out : List ℕ) {a b : List ℕ} {r s : Told}
-    → Hands (ListsText times answers out a) told r → Hands (ListsText times answers out b) told s
-    → (r ≡ s) × (a ≡ b)
-list-unique times answers out x y = (
-  hands-unique (λ a b p q. lists-unique times answers out p q .0) x y,
-  from-both (λ a b p q. lists-unique times answers out p q .1) x y,
-)
+-- the listing, and the line of a pattern
+module _ {names n : ℕ} {tree states out a b : List ℕ} {r s : Told} where
+  pub list-unique : {times : List ℕ} → Hands (ListsTree names n tree times states out a) told r
+      → Hands (ListsTree names n tree times states out b) told s
+      → (r ≡ s) × (a ≡ b)
+  list-unique x y = (
+    hands-unique (λ a b p q. trees.list-unique p q .0) x y,
+    from-both (λ a b p q. trees.list-unique p q .1) x y,
+  )
 
+  pub table-line-unique : {pattern : List ℕ} → Hands (LinesTree names n tree states pattern out a) told r
+      → Hands (LinesTree names n tree states pattern out b) told s
+      → (r ≡ s) × (a ≡ b)
+  table-line-unique x y = (
+    hands-unique (λ a b p q. trees.line-unique p q .0) x y,
+    from-both (λ a b p q. trees.line-unique p q .1) x y,
+  )
+
+-- another line of the table, whatever it holds
 line-unique : (text out : List ℕ) {a b : List ℕ} {r s : Told}
     → Hands (Delivers text out a) told r → Hands (Delivers text out b) told s → (r ≡ s) × (a ≡ b)
 line-unique text out x y = (
@@ -88,11 +96,6 @@ module _ (out : List ℕ) {a b : List ℕ} {r s : Told} where
   pub table-heading-unique : Hands (Delivers headingLine out a) told r → Hands (Delivers headingLine out b) told s
       → (r ≡ s) × (a ≡ b)
   table-heading-unique = line-unique headingLine out
-
-  pub table-line-unique : (pattern : List ℕ) (yeses unknowns noes n : ℕ)
-      → Hands (Delivers (patternLine pattern yeses unknowns noes n) out a) told r
-      → Hands (Delivers (patternLine pattern yeses unknowns noes n) out b) told s → (r ≡ s) × (a ≡ b)
-  table-line-unique pattern yeses unknowns noes n = line-unique (patternLine pattern yeses unknowns noes n) out
 
   pub table-refused-unique : (pattern : List ℕ) (number place : ℕ)
       → Hands (Delivers (refusedLine pattern number place) out a) told r

@@ -5,14 +5,14 @@ use mathlib.Core.List.{List}
 use Prim.Native.Nat.{ℕ}
 use Rattle.alf.specs.declared.Sort.{Sort}
 use Rattle.queue.specs.declared.queues.Queue as updates
-use Rattle.reader.specs.Reading.{Reading}
+use Rattle.reader.specs.Reading.{ReadsText}
 use Rattle.reader.proofs.Unique.{read-unique}
 use Rattle.writer.specs.Writing as writer
 use Rattle.writer.proofs.Theorems as writer-laws
 use Rattle.trace_reader.specs.Reading.{Reads}
 use Rattle.trace_writer.specs.Writing as traces
 use Rattle.trace_laws.proofs.RoundTrips as trace-laws
-use Rattle.changes.specs.Call.{Comes}
+use Rattle.changes.specs.Call.{RowChanged}
 use Rattle.changes.proofs.Unique.{changes-unique}
 use Rattle.row_calls.specs.Written.{RowState, RowValue, AllValues, RowAnswer}
 use Rattle.row_calls.specs.Windows.{WindowAnswer}
@@ -39,7 +39,7 @@ use Rattle.telling.proofs.Unique.{from-both, hands-unique}
 
 -- texts
 pub read-expression-unique : {names text : List ℕ} {sort : Sort} {r s : Expression}
-    → Hands (Reading names text sort) toldExpression r → Hands (Reading names text sort) toldExpression s
+    → Hands (ReadsText names text sort) toldExpression r → Hands (ReadsText names text sort) toldExpression s
     → r ≡ s
 read-expression-unique x y = hands-unique (λ a b p q. read-unique p q) x y
 
@@ -74,7 +74,7 @@ write-trace-unique x y = (
 
 -- rows
 pub changes-at-unique : (names n : ℕ) (states : List ℕ) (row : ℕ) {r s : Changed}
-    → Hands (Comes names n states row) toldChanges r → Hands (Comes names n states row) toldChanges s → r ≡ s
+    → Hands (RowChanged names n states row) toldChanges r → Hands (RowChanged names n states row) toldChanges s → r ≡ s
 changes-at-unique names n states row x y = hands-unique (changes-unique names n states row) x y
 
 module _ {names n : ℕ} {tree states : List ℕ} where

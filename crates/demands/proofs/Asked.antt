@@ -1,30 +1,35 @@
--- What a question brings with it: its names are good, its lists fit, its tree is accepted and is its pattern.
---   names-good, lists-fit, codes-good     18, 12 and 15 are given nowhere
---   tree-accepted, tree-is, tree-whole    10 is not given, and the tree stands for the pattern
---   question-of                           each trace and each accepted tree make one, so that something is said
-use Prim.Native.Nat.{ℕ, _≤_}
+-- What a question brings with it: its names are good, its lists fit, its tree is accepted and is its expression.
+--   names-good, lists-fit, codes-good         18, 12 and 15 are given nowhere
+--   tree-accepted, tree-whole, tree-text      10 is not given, and the tree stands for the expression
+--   tree-is, formula-is                       the pattern, the boolean expression
+--   question-of                               each trace and each accepted tree make one, so that something is said
+use Prim.Native.Nat.{ℕ}
 use native.Mathlib.Omega.{arith}
 use mathlib.Core.Path.{_≡_, refl, ap}
 use mathlib.Core.List.{List}
 use lib.ListN.{length}
+use Rattle.alf.specs.declared.Sort.{Sort}
 use Rattle.alf.specs.declared.Sort.the-variants as sort
-use Rattle.alf.specs.Expressions.{vector}
-use Rattle.alf.specs.Bytes.{Decodes, topVector}
+use Rattle.alf.specs.Expressions.{Expression, vector}
+use Rattle.alf.specs.Decoder.{Decodes, topBoolean, topVector}
 use Rattle.alf.specs.Refusals.{Passed}
 use Rattle.names.specs.Check.{namesOrder}
 use Rattle.trace_format.specs.Format.{Trace, fileOf, count}
-use Rattle.trees.specs.Parts.{top, expressionAt}
+use Rattle.trees.specs.Parts.{top, expressionAt, booleanAt}
+use Rattle.acceptance.proofs.Acceptance.{accepted-decodes}
 use Rattle.acceptance.specs.Accepted.{Accepted}
 use Rattle.states.specs.FirstBadCode.{Codes}
 use Rattle.judging.specs.Orders.{Rows}
 use Rattle.matching_calls.specs.Matching.{expression}
+use Rattle.writer.specs.Trees.{text}
 use Rattle.writer.specs.Writing.{textAt, Named}
 use Rattle.text_laws.proofs.WrittenGives.{written-gives}
 use Rattle.text_laws.proofs.GivenAccepted.{gives-accepted, gives-decodes}
 use Rattle.text_laws.proofs.ReadTrees.{sorted-vector}
-use Rattle.demands.specs.Questions.{Question, treeOf}
+use Rattle.demands.specs.Questions.{Asked, Question, Formula, namesOf, treeOf}
 
-module _ {file text : List ℕ} (q : Question file text) where
+module _ {A : Type 0} {into : A → Expression} {sort : Sort} {file given-text : List ℕ}
+    (q : Asked into sort file given-text) where
   pub names-good : Passed (namesOrder (q .names))
   unfolding Passed
   names-good = (
@@ -32,7 +37,10 @@ module _ {file text : List ℕ} (q : Question file text) where
     (λ p a. a .given .1 (q .trace .good p (a .given .0)), tt),
   )
 
-  pub lists-fit : Rows (count (q .names)) (q .rows) (length (q .states))
+  pub named : Named (q .names)
+  named = record { passed = names-good }
+
+  pub lists-fit : Rows (namesOf q) (q .rows) (length (q .states))
   lists-fit =
       record {
         name-count = (q .trace .slots .some, q .trace .slots .few);
@@ -43,23 +51,32 @@ module _ {file text : List ℕ} (q : Question file text) where
   pub codes-good : Codes (q .states)
   codes-good i l = omega (arith, q .trace .codes i l)
 
-  pub tree-accepted : Accepted (count (q .names)) sort.Vector (treeOf q)
+  pub tree-accepted : Accepted (namesOf q) sort (treeOf q)
   tree-accepted = gives-accepted names-good (q .given)
 
-  pub tree-is : expression (treeOf q) (count (q .names)) ≡ q .pattern
-  unfolding Decodes topVector
-  tree-is = ap topVector (gives-decodes names-good (q .given))
-
-  pub tree-whole : expressionAt (treeOf q) (count (q .names)) (length (treeOf q)) ≡ vector (q .pattern)
+  pub tree-whole : expressionAt (treeOf q) (namesOf q) (length (treeOf q)) ≡ into (q .pattern)
   unfolding Decodes top
   tree-whole = ap top (gives-decodes names-good (q .given))
 
--- a trace and an accepted tree, whose text is not too long, are asked by the trace's file and the tree's text
+  pub tree-text : textAt (q .names) (treeOf q) ≡ text (q .names) (into (q .pattern))
+  unfolding textAt
+  tree-text = ap (text (q .names)) tree-whole
+
+module _ {file given-text : List ℕ} where
+  pub tree-is : (q : Question file given-text) → expression (treeOf q) (namesOf q) ≡ q .pattern
+  unfolding Decodes topVector
+  tree-is q = ap topVector (gives-decodes (names-good q) (q .given))
+
+  pub formula-is : (q : Formula file given-text) → booleanAt (treeOf q) (namesOf q) (length (treeOf q)) ≡ q .pattern
+  unfolding Decodes topBoolean
+  formula-is q = ap topBoolean (gives-decodes (names-good q) (q .given))
+
+-- a trace and an accepted tree are asked by the trace's file and the tree's text
 module _ {names times states : List ℕ} {rows : ℕ} (t : Trace names times states rows) {tree : List ℕ}
-    (a : Accepted (count names) sort.Vector tree) (l : length (textAt names tree) ≤ 4096) where
-  named : Named names
+    (a : Accepted (count names) sort.Vector tree) where
+  slots-named : Named names
   unfolding Passed
-  named =
+  slots-named =
       record {
         passed = (λ p x. x .given (t .slots), (λ p x. x .given .1 (t .good p (x .given .0)), tt));
       }
@@ -68,7 +85,7 @@ module _ {names times states : List ℕ} {rows : ℕ} (t : Trace names times sta
   unfolding Decodes top
   question-of =
       let v = sorted-vector (a .expression) (a .sorted) in
-      let d : Decodes (count names) tree (vector (v .p)) = rw (v .is-vector) at (a .decodes) in
+      let d : Decodes (count names) tree (vector (v .p)) = rw (v .is-vector) at (accepted-decodes a) in
       record {
         names = names;
         times = times;
@@ -77,6 +94,5 @@ module _ {names times states : List ℕ} {rows : ℕ} (t : Trace names times sta
         trace = t;
         read = refl;
         pattern = v .p;
-        given = rw (ap top d) at (written-gives named a);
-        short = l;
+        given = rw (ap top d) at (written-gives slots-named a);
       }

@@ -1,14 +1,6 @@
--- Demand 2: each row's answer is the one that document 01 defines for the expression as written; alternatives and the
--- queue give the same, unknown included; expression and trace survive writing and reading. Said of a question, a trace
--- file and a pattern's text, and of whatever the calls' contracts allow; so no call on the way is refused.
---   file-read, text-read             the file is read as its trace, the text as its pattern
---   as-written, on-window            the answers by recursion over the tree
---   by-alternatives, all-rows        the same by alternatives, and the numbers tried
---   by-queue                         the same, row by row, for the rows of the trace
---   any-feed                         and for any rows over its names, and any number of them
---   totals-right                     the totals are of these answers
---   file-survives, text-survives     what is written is read again as it was
-use Prim.Native.Nat.{ℕ, zero, suc, _*_, _<_, _≤_, max}
+-- Demand 2 holds, of a pattern. Main name: demand-2.
+--   fed-rows        the rows of a trace, one after the other, are the trace
+use Prim.Native.Nat.{ℕ, zero, suc, _+_, _-_, _*_, _<_, _≤_, max}
 use native.Mathlib.Nat.{suc-mul, zero-mul}
 use native.Mathlib.Omega.{arith}
 use mathlib.Core.Path.{_≡_, refl, sym, ap, _∙_, subst}
@@ -17,31 +9,19 @@ use lib.ListN.{length, take, drop}
 use lib.Seq.{take-add, take-all}
 use Rattle.basics.specs.declared.Outcome.{Outcome}
 use Rattle.basics.specs.declared.Outcome.the-variants as outcome
-use Rattle.alf.specs.declared.Sort.the-variants as sort
 use Rattle.basics.specs.Words.{listed}
-use Rattle.alf.specs.Expressions.{Vector, vector}
+use Rattle.basics.specs.Memory.{after}
+use Rattle.alf.specs.Expressions.{Vector}
 use Rattle.alf.specs.Values.{stateAt}
-use Rattle.alf.specs.Windows.{rowAnswer, answer, named, numberOf}
+use Rattle.alf.specs.Windows.{rowAnswer, answer, numbered}
 use Rattle.alf.specs.Alternatives.{alternatives, tries, stepsOf}
 use Rattle.alf.specs.Traces.{Totals}
 use Rattle.alf.specs.Refusals.{Comes}
 use Rattle.alf.proofs.Outcomes.{refused-passed}
 use Rattle.alf.proofs.TraceNearness.{steps-pos}
-use Rattle.trace_reader.specs.declared.Reading.the-variants.{Read}
-use Rattle.trace_reader.specs.declared.Reading as files
-use Rattle.trace_format.specs.Format.{count, codesOf}
-use Rattle.trace_reader.specs.Reading.{Reads}
-use Rattle.trace_writer.specs.Writing as trace-writing
+use Rattle.alf.proofs.Totals.{totals-sum}
+use Rattle.trace_format.specs.Format.{codesOf}
 use Rattle.trace_writer.proofs.Putting.{codes-all}
-use Rattle.trace_laws.proofs.Theorems.{OneReading}
-use Rattle.trace_laws.proofs.RoundTrips.{OneWriting, writes-bytes}
-use Rattle.trace_laws.proofs.RoundTrips as trace-laws
-use Rattle.reader.specs.declared.Read as texts
-use Rattle.reader.specs.Reads.{made}
-use Rattle.reader.specs.Reading.{Reading}
-use Rattle.reader.proofs.Unique.{read-complete, read-unique}
-use Rattle.writer.specs.Writing.{Writes}
-use Rattle.text_laws.proofs.RoundTrips.{written-read}
 use Rattle.matcher.specs.declared.tables.Total.{Total}
 use Rattle.queue.specs.declared.queues.Queue.{Queue}
 use Rattle.states.specs.FirstBadCode.{Codes}
@@ -55,16 +35,21 @@ use Rattle.matching_calls.specs.declared.matching.Matching.{Matching}
 use Rattle.matching_calls.specs.declared.matching.Matching.the-variants.{Found}
 use Rattle.matching_calls.specs.declared.matching.Counting.{Counting}
 use Rattle.matching_calls.specs.declared.matching.Counting.the-variants as counting
-use Rattle.judging.specs.Orders.{Rows}
-use Rattle.row_calls.specs.Written.{Tells, RowAnswer}
-use Rattle.basics.specs.Memory.{after, front}
+use Rattle.row_calls.specs.Written.{Tells, AnsweredAs, RowAnswer}
 use Rattle.row_calls.specs.Windows.{WindowAnswer}
-use Rattle.matching_calls.specs.Matching.{Finds, RowMatch, AllMatched, Counts, RowTotals, expression}
+use Rattle.matching_calls.specs.Matching.{FoundAs, RowMatch, AllMatched, Counts, RowTotals, expression}
 use Rattle.update_calls.specs.Pushing.{Takes, Push}
-use Rattle.call_laws.proofs.Routes.{answered, matched, three-routes, found, row-passed, codes-passed}
+use Rattle.update_calls.proofs.ByAlternatives.{tree-pushed}
+use Rattle.call_laws.proofs.Routes.{answered, matched, pushed-found, row-passed, codes-passed}
 use Rattle.call_laws.proofs.Routes.{told-by, never-refused}
-use Rattle.demands.specs.Questions.{Question, answerOn, triesOn, answerAt, triesAt, treeOf}
-use Rattle.demands.proofs.Asked.{names-good, lists-fit, codes-good, tree-accepted, tree-is, tree-whole}
+use Rattle.demands.specs.Questions.{Question, namesOf, treeOf, answerOn, triesOn, answerAt, triesAt}
+use Rattle.rewritten_laws.specs.WrittenOut.{WrittenOut}
+use Rattle.rewritten_laws.proofs.Theorems.{rewritten-accepted, written-are, match-as-tree, all-as-tree}
+use Rattle.rewritten_laws.proofs.Theorems.{totals-as-tree, push-as-tree}
+use Rattle.demands.specs.Demand2.{ByLists, Demand2}
+use Rattle.demands.proofs.Asked.{lists-fit, codes-good, tree-accepted, tree-is}
+use Rattle.demands.proofs.Surviving.{survives}
+use Rattle.demands.proofs.Flagging.{own-is, flagged, never-yes}
 
 -- the rows of a trace, one after the other, are the trace
 fed-rows : (k : ℕ) (states : List ℕ) (n : ℕ) → fed (codesOf k states) n ≡ take (n * k) states
@@ -74,70 +59,47 @@ fed-rows k states (suc n) = rw (fed-rows k states n, suc-mul n k) (sym (take-add
 
 module _ {file text : List ℕ} (q : Question file text) where
   abbrev k : ℕ
-  k = count (q .names)
+  k = namesOf q
 
   -- what the calls tell of row i
-  abbrev answer-told : ℕ → Told
-  answer-told i = told.Answered (answerAt q i)
+  abbrev AnswerTold : ℕ → Told → Type 0
+  AnswerTold i = AnsweredAs (answerAt q i)
 
-  abbrev match-told : ℕ → Matching
-  match-told i = Found (record { answer = answerAt q i; tries = triesAt q i })
-
-  -- Reading. The file, given room for its trace.
-  pub file-read : (n₀ t₀ s₀ : List ℕ) {n₁ t₁ s₁ : List ℕ} (r : files.Reading)
-      → length (q .names) ≤ length n₀
-      → q .rows ≤ length t₀ → q .rows * k ≤ length s₀ → Reads file n₀ t₀ s₀ n₁ t₁ s₁ r
-      → OneReading r n₁ t₁ s₁ (Read k (q .rows)) (front (q .names) n₀) (front (q .times) t₀)
-      (front (q .states) s₀)
-  file-read n₀ t₀ s₀ r a b c w = trace-laws.read-write (q .trace) n₀ t₀ s₀ r a b c (rw (q .read) at w)
-
-  pub text-read : {r : texts.Read} → Reading (q .names) text sort.Vector r → r ≡ made (vector (q .pattern))
-  text-read w = read-complete (names-good q) (q .short) (q .given) w
+  abbrev MatchTold : ℕ → Matching → Type 0
+  MatchTold i = FoundAs (answerAt q i) (triesAt q i)
 
   -- As written.
-  pub as-written : (i : ℕ) → i < q .rows → (x : Told) → RowAnswer k (q .rows) (treeOf q) (q .states) i x
-      → x ≡ answer-told i
-  as-written i l x w =
-      answered (lists-fit q) (tree-accepted q) (codes-good q) l x w
-      ∙ ap (λ (p : Vector). told.Answered (rowAnswer (stateAt k (q .states)) p i)) (tree-is q)
+  as-written : (i : ℕ) → i < q .rows → (x : Told) → RowAnswer k (q .rows) (treeOf q) (q .states) i x
+      → AnswerTold i x
+  as-written i l x w = rw (tree-is q) at (answered (lists-fit q) (tree-accepted q) (codes-good q) l x w)
 
-  pub on-window : (a b : ℕ) → max a b < q .rows → (x : Told)
+  on-window : (a b : ℕ) → max a b < q .rows → (x : Told)
       → WindowAnswer k (q .rows) (treeOf q) (q .states) a b x
-      → x ≡ told.Answered (named (answer (stateAt k (q .states)) (q .pattern) a b))
+      → AnsweredAs (numbered (answer (stateAt k (q .states)) (q .pattern) a b)) x
   unfolding Tells
-  on-window a b l (told.Answered c) w =
-      ap told.Answered (w .comes .1)
-      ∙ ap (λ (p : Vector). told.Answered (named (answer (stateAt k (q .states)) p a b))) (tree-is q)
+  on-window a b l (told.Answered c) w = record { answer = c; is = refl; numbered = rw (tree-is q) at (w .comes .1) }
   on-window a b l (told.Refused r) w =
       absurd
       (refused-passed _ _ _
       (row-passed (q .states) (q .rows) (max a b) (lists-fit q) (tree-accepted q) (codes-good q) l) (w .comes))
 
   -- By alternatives.
-  found-is : (i : ℕ) → found k (treeOf q) (q .states) i ≡ match-told i
-  found-is i =
-      ap (λ (p : Vector). Found
-      (record {
-        answer = rowAnswer (stateAt k (q .states)) p i;
-        tries = tries (stateAt k (q .states)) (alternatives p) i;
-      })) (tree-is q)
+  by-alternatives : (i : ℕ) → i < q .rows → (y : Matching) → RowMatch k (q .rows) (treeOf q) (q .states) i y
+      → MatchTold i y
+  by-alternatives i l y w = rw (tree-is q) at (matched (lists-fit q) (tree-accepted q) (codes-good q) l y w)
 
-  pub by-alternatives : (i : ℕ) → i < q .rows → (y : Matching) → RowMatch k (q .rows) (treeOf q) (q .states) i y
-      → y ≡ match-told i
-  by-alternatives i l y w = matched (lists-fit q) (tree-accepted q) (codes-good q) l y w ∙ found-is i
-
-  pub all-rows : {answers tried answers′ tried′ : List ℕ} (r : Outcome) → length answers ≡ q .rows
+  all-rows : {answers tried answers′ tried′ : List ℕ} (r : Outcome) → length answers ≡ q .rows
       → length tried ≡ q .rows → AllMatched k (q .rows) (treeOf q) (q .states) answers tried answers′ tried′ r
-      → (r ≡ outcome.Done (q .rows)) × (answers′ ≡ listed 0 (q .rows) (λ i. numberOf (answerAt q i)))
+      → (r ≡ outcome.Done (q .rows)) × (answers′ ≡ listed 0 (q .rows) (answerAt q))
       × (tried′ ≡ listed 0 (q .rows) (triesAt q))
   unfolding Comes after
   all-rows (outcome.Done m) a t w = (
     ap outcome.Done (w .comes .1),
     w .answers-memory
-        ∙ ap (λ (p : Vector). listed 0 (q .rows) (λ i. numberOf (rowAnswer (stateAt k (q .states)) p i)))
+        ∙ ap (λ (p : Vector). listed 0 (q .rows) (rowAnswer (stateAt k (q .states)) p))
         (tree-is q),
     w .tried-memory
-        ∙ ap (λ (p : Vector). listed 0 (q .rows) (λ i. tries (stateAt k (q .states)) (alternatives p) i))
+        ∙ ap (λ (p : Vector). listed 0 (q .rows) (tries (stateAt k (q .states)) (alternatives p)))
         (tree-is q),
   )
   all-rows (outcome.Refused r) a t w =
@@ -146,11 +108,15 @@ module _ {file text : List ℕ} (q : Question file text) where
       (w .comes))
 
   -- The totals.
-  pub totals-right : (z : Counting) → RowTotals k (q .rows) (treeOf q) (q .states) z
+  totals-right : (z : Counting) → RowTotals k (q .rows) (treeOf q) (q .states) z
       → (t : Total) × ((z ≡ counting.Counted t)
-      × Totals (stateAt k (q .states)) (q .pattern) (q .rows) (t .yes) (t .no) (t .unknown))
+      × Totals (stateAt k (q .states)) (q .pattern) (q .rows) (t .yes) (t .no) (t .unknown)
+      × (t .yes + t .no + t .unknown ≡ q .rows - 1))
   unfolding Counts
-  totals-right (counting.Counted t) w = (t, (refl, rw (tree-is q) at (w .comes .1)))
+  totals-right (counting.Counted t) w =
+      let c = rw (tree-is q) at (w .comes .1) in
+      let n = totals-sum (stateAt k (q .states)) (q .pattern) (q .rows) (lists-fit q .row-count .0) in
+      (t, (refl, c, omega (arith, c .yeses, c .noes, c .unknowns, n)))
   totals-right (counting.Refused r) w =
       absurd
       (refused-passed _ _ _ (codes-passed (q .states) (lists-fit q) (tree-accepted q) (codes-good q)) (w .comes))
@@ -175,18 +141,10 @@ module _ {file text : List ℕ} (q : Question file text) where
   module _ {queues : ℕ → Queue} {results : ℕ → Matching} (first : queues 0 .kept .0 ≡ 0)
       (pushed : (i : ℕ) → i < q .rows
       → Push k (treeOf q) (queues i) (codesOf k (q .states) i) (results i) (queues (suc i))) where
-    pub by-queue : (i : ℕ) → i < q .rows → results i ≡ match-told i
-    unfolding Tells Finds
+    by-queue : (i : ℕ) → i < q .rows → MatchTold i (results i)
     by-queue i l =
-        let fits : Rows k (q .rows) (length fed-states) = rw fed-is (lists-fit q) in
-        let codes : Codes fed-states = rw fed-is (codes-good q) in
-        let passed = row-passed fed-states (q .rows) i fits (tree-accepted q) codes l in
-        let r = three-routes (lists-fit q .name-count) (tree-accepted q) first rows-full rows-codes pushed
-        (lists-fit q .row-count) i l
-        (told.Answered (rowAnswer (stateAt k fed-states) (expression (treeOf q) k) i))
-        (record { comes = (passed, refl) }) (found k (treeOf q) fed-states i)
-        (record { comes = (passed, record { is = refl; count = refl }) }) in
-        r .2 ∙ ap (λ (s : List ℕ). found k (treeOf q) s i) fed-is ∙ found-is i
+        rw (fed-is, tree-is q) at
+        (pushed-found (lists-fit q .name-count) (tree-accepted q) first rows-full rows-codes pushed i l)
 
   -- Any rows over the same names, and any number of pushes: push i answers for row i of what was fed so far.
   longest-pos : 0 < longestOf (alternatives (expression (treeOf q) k))
@@ -208,29 +166,48 @@ module _ {file text : List ℕ} (q : Question file text) where
     feed : Feed k (alternatives (expression (treeOf q) k)) n rows queues (λ i. told-by (results i) .answer)
         (λ i. told-by (results i) .tries)
     unfolding Takes
-    feed = record { first = first; full = full; pushes = λ i l. taken i l .comes .1 }
+    feed = record { first = first; full = full; pushes = λ i l. tree-pushed (taken i l .comes .1) }
 
-    pub any-feed : (i : ℕ) → i < n
-        → results i ≡ Found
-        (record { answer = answerOn q (fed rows (suc i)) i; tries = triesOn q (fed rows (suc i)) i })
+    any-feed : (i : ℕ) → i < n
+        → FoundAs (answerOn q (fed rows (suc i)) i) (triesOn q (fed rows (suc i)) i) (results i)
     any-feed i l =
-        let a = queue-windows feed (expression (treeOf q) k) refl longest-pos i l in
-        let t = queue-answers feed longest-pos i l .count in
-        not-refused i l
-        ∙ (λ j. Found (record { answer = a j; tries = t j }))
-        ∙ ap (λ (p : Vector). Found
-        (record {
-          answer = rowAnswer (stateAt k (fed rows (suc i))) p i;
-          tries = tries (stateAt k (fed rows (suc i))) (alternatives p) i;
-        })) (tree-is q)
+        let answer = told-by (results i) .answer in
+        let tried = queue-answers feed longest-pos i l .count in
+        let found : FoundAs (rowAnswer (stateAt k (fed rows (suc i))) (expression (treeOf q) k) i)
+        (tries (stateAt k (fed rows (suc i))) (alternatives (expression (treeOf q) k)) i) (results i) =
+        record {
+          answer = answer;
+          is = not-refused i l ∙ (λ j. Found (record { answer = answer; tries = tried j }));
+          numbered = queue-windows feed (expression (treeOf q) k) refl longest-pos i l;
+        } in
+        rw (tree-is q) at found
 
-  -- Writing, and reading again.
-  pub text-survives : {out out′ : List ℕ} {m : ℕ} {r : texts.Read}
-      → Writes (q .names) (treeOf q) sort.Vector out out′ (outcome.Done m)
-      → Reading (q .names) (take m out′) sort.Vector r → r ≡ made (vector (q .pattern))
-  text-survives w v = read-unique v (written-read w) ∙ ap made (tree-whole q)
+  -- By the lists that `rewrite` writes: what they come to, the tree's call may come to.
+  by-lists : (steps tests edges operands : List ℕ) → WrittenOut k (treeOf q) steps tests edges operands
+      → ByLists q steps tests edges operands
+  by-lists steps tests edges operands w =
+      record {
+        accepted = rewritten-accepted w;
+        all-kept = written-are w ∙ own-is q;
+        at-row = λ i y l h. by-alternatives i l y (match-as-tree w y h);
+        at-all = λ answers tried answers′ tried′ o a t h. all-rows o a t (all-as-tree w o h);
+        counted = λ z h. totals-right z (totals-as-tree w z h);
+        fed-to = λ n rows queues results first full codes pushed i l.
+            any-feed first full codes (λ j m. push-as-tree w (results j) (pushed j m)) i l;
+      }
 
-  pub file-survives : {out out′ : List ℕ} (r : Outcome) → length file ≤ length out
-      → trace-writing.Writes (q .names) (q .times) (q .states) (q .rows) out out′ r
-      → OneWriting r out′ (outcome.Done (length file)) (front file out)
-  file-survives r l w = rw (q .read) (writes-bytes (q .trace) r (rw (q .read) at l) w)
+  pub demand-2 : Demand2 q
+  demand-2 =
+      record {
+        survives = survives q;
+        as-written = λ i x l w. as-written i l x w;
+        on-window = λ a b x l w. on-window a b l x w;
+        by-alternatives = λ i y l w. by-alternatives i l y w;
+        all-rows = λ answers tried answers′ tried′ o a t w. all-rows o a t w;
+        by-queue = λ queues results first pushed i l. by-queue first pushed i l;
+        any-feed = λ n rows queues results first full codes pushed i l. any-feed first full codes pushed i l;
+        totals-right = totals-right;
+        by-lists = by-lists;
+        flagged = flagged q;
+        never-yes = never-yes q;
+      }

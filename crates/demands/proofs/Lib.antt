@@ -1,5 +1,10 @@
--- The three demands. To read: Demand1, Demand2, Demand3; Asked leads there.
+-- The three demands hold: demand-1, demand-2, demand-2-values, demand-3. Asked, Surviving and Flagging lead there.
 pub mod Asked
+pub mod Surviving
 pub mod Demand1
+pub mod Flagging
 pub mod Demand2
+pub mod Values
 pub mod Demand3
+pub mod Numbers
+pub mod Cases

@@ -1,3 +1,10 @@
--- What the demands speak of: what is asked, a trace file and a pattern's text; what is promised of each call.
-pub mod Questions
+-- The three demands, a page each, as records of what is promised: Demand1 of every public call, Demand2 and Demand3 of
+-- what the laboratory is asked (Questions). Promises says what Demand1 promises of a call; Numbers, with what numbers
+-- each call refuses.
 pub mod Promises
+pub mod Questions
+pub mod Demand1
+pub mod Demand2
+pub mod Demand3
+pub mod Numbers
+pub mod Cases

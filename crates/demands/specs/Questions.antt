@@ -1,55 +1,75 @@
--- What the laboratory is asked: a trace file and the text of a pattern. As document 01 reads them, the file is the
--- bytes of a trace and the text gives a vector expression for the trace's names; the answers are those of this
--- expression on this trace.
---   Question                  the file, the text, and what document 01 reads in them
---   answerOn, triesOn         its answer at a row of a trace, and how many alternatives are tried there
+-- What the laboratory is asked: a trace file, and a text. As document 01 reads them, the file is the bytes of a trace,
+-- and the text, of whatever length, gives an expression for the trace's names. The answers are those of this
+-- expression on this trace. A text over 4,096 bytes is refused, but its tree can be handed to the calls as any other,
+-- so a question is as good as a trace and an accepted tree.
+--   Asked                     the file, the text, and what document 01 reads in them
+--   Question, Formula         asked for a vector expression, a pattern; for a boolean expression
+--   answerOn, triesOn         a pattern's answer at a row of a trace, and how many alternatives are tried there
 --   answerAt, triesAt         the same on the question's own trace
---   K                         the steps of its longest alternative
+--   valueOf, stateOf          a boolean expression's value and state at a row of the question's trace
+--   K                         the steps of a pattern's longest alternative
 --   treeOf                    the bytes that the calls take for the expression
-use Prim.Native.Nat.{ℕ, _≤_}
+--   namesOf                   how many names there are
+use Prim.Native.Nat.{ℕ}
 use mathlib.Core.Path.{_≡_}
 use mathlib.Core.List.{List}
-use lib.ListN.{length}
-use Rattle.alf.specs.declared.Answer.{Answer}
+use Rattle.alf.specs.declared.Sort.{Sort}
 use Rattle.alf.specs.declared.Sort.the-variants as sort
-use Rattle.alf.specs.Expressions.{Vector, vector}
+use Rattle.alf.specs.Expressions.{Boolean, Vector, Expression, boolean, vector}
 use Rattle.alf.specs.Bytes.{bytesOf}
-use Rattle.alf.specs.Values.{stateAt}
+use Rattle.alf.specs.Values.{stateAt, valueAt}
 use Rattle.alf.specs.Windows.{rowAnswer}
 use Rattle.alf.specs.Alternatives.{alternatives, tries, stepsOf}
 use Rattle.trace_format.specs.Format.{Trace, fileOf, count}
 use Rattle.reader.specs.Reading.{Gives}
 
-pub record Question (file text : List ℕ) : Type 0 where
+pub record Asked {A : Type 0} (into : A → Expression) (sort : Sort) (file text : List ℕ) : Type 0 where
   pub names : List ℕ
   pub times : List ℕ
   pub states : List ℕ
   pub rows : ℕ
   pub trace : Trace names times states rows
   pub read : file ≡ fileOf names times states rows
-  pub pattern : Vector
-  pub given : Gives names text sort.Vector (vector pattern)
-  pub short : length text ≤ 4096
+  pub pattern : A
+  pub given : Gives names text sort (into pattern)
 
--- the answer of the pattern at a row of a trace with the question's names, as document 01 defines it on windows; and
--- how many of its alternatives are tried there
-abbrev pub answerOn : {file text : List ℕ} → Question file text → List ℕ → ℕ → Answer
-answerOn q states i = rowAnswer (stateAt (count (q .names)) states) (q .pattern) i
+abbrev pub Question : List ℕ → List ℕ → Type 0
+Question = Asked vector sort.Vector
 
-abbrev pub triesOn : {file text : List ℕ} → Question file text → List ℕ → ℕ → ℕ
-triesOn q states i = tries (stateAt (count (q .names)) states) (alternatives (q .pattern)) i
+abbrev pub Formula : List ℕ → List ℕ → Type 0
+Formula = Asked boolean sort.Boolean
 
--- on the question's own trace
-abbrev pub answerAt : {file text : List ℕ} → Question file text → ℕ → Answer
-answerAt q i = answerOn q (q .states) i
+module _ {A : Type 0} {into : A → Expression} {sort : Sort} {file text : List ℕ} where
+  -- how many names; the bytes of the expression, as the calls take it
+  abbrev pub namesOf : Asked into sort file text → ℕ
+  namesOf q = count (q .names)
 
-abbrev pub triesAt : {file text : List ℕ} → Question file text → ℕ → ℕ
-triesAt q i = triesOn q (q .states) i
+  abbrev pub treeOf : Asked into sort file text → List ℕ
+  treeOf q = bytesOf (into (q .pattern))
 
--- the steps of the longest alternative
-abbrev pub K : {file text : List ℕ} → Question file text → ℕ
-K q = stepsOf (q .pattern)
+module _ {file text : List ℕ} where
+  -- the answer of the pattern at a row of a trace with the question's names, as document 01 defines and numbers it; and
+  -- how many of its alternatives are tried there
+  abbrev pub answerOn : Question file text → List ℕ → ℕ → ℕ
+  answerOn q states = rowAnswer (stateAt (namesOf q) states) (q .pattern)
 
--- the bytes of the expression, as the calls take it
-abbrev pub treeOf : {file text : List ℕ} → Question file text → List ℕ
-treeOf q = bytesOf (vector (q .pattern))
+  abbrev pub triesOn : Question file text → List ℕ → ℕ → ℕ
+  triesOn q states = tries (stateAt (namesOf q) states) (alternatives (q .pattern))
+
+  -- on the question's own trace
+  abbrev pub answerAt : Question file text → ℕ → ℕ
+  answerAt q = answerOn q (q .states)
+
+  abbrev pub triesAt : Question file text → ℕ → ℕ
+  triesAt q = triesOn q (q .states)
+
+  -- the steps of the longest alternative
+  abbrev pub K : Question file text → ℕ
+  K q = stepsOf (q .pattern)
+
+  -- the value and the state of a boolean expression at a row
+  abbrev pub valueOf : Formula file text → ℕ → ℕ
+  valueOf q = valueAt (namesOf q) (q .states) (q .pattern)
+
+  abbrev pub stateOf : Formula file text → ℕ → ℕ
+  stateOf q = stateAt (namesOf q) (q .states) (q .pattern)

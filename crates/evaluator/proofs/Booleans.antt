@@ -13,8 +13,9 @@ use lib.ListN.{getD, length}
 use borrow.Author.Tests.{lt-ltb, le-ltb}
 use Rattle.alf.specs.States.{notOf}
 use Rattle.alf.specs.Expressions.{literal}
-use Rattle.alf.specs.Values.{operate, chosen, settled, state, value}
-use Rattle.alf.specs.Bytes.{binaryAt, isBoolean, under, stackAt}
+use Rattle.alf.specs.Values.{operate, chosen, value, recordedOr, state}
+use Rattle.alf.proofs.Values.{settled, value-settled, state-negated, state-binary, state-choice}
+use Rattle.alf.specs.Decoder.{binaryAt, isBoolean, under, stackAt}
 use Rattle.basics.proofs.Bools.{below?}
 use Rattle.alf.proofs.Made.{Made}
 use Rattle.alf.proofs.Parts.{made-last}
@@ -109,38 +110,35 @@ module _ {t : List ℕ} {names end : ℕ} (h : EndsBoolean t names end) where
     name-room k = let l = name-known k in let r = w .room in omega arith
 
     pub name-state : lastByte t end < 32 → At end (getD states (row * names + lastByte t end) 0)
-    unfolding state
+    unfolding state recordedOr
     name-state k = record { is = rw (name-is k .is) refl; code = w .codes _ (name-room k) }
 
     pub literal-state : 32 ≤ lastByte t end → lastByte t end < 40 → At end (lastByte t end - 32)
-    unfolding state
+    unfolding state recordedOr value
     literal-state k j = record { is = rw (literal-is k j) refl; code = omega arith }
 
     pub negation-state : {x r : ℕ} → 64 ≤ lastByte t end → At (end - 1) x → (r ≡ notOf x) × (r < 8)
         → At end r
-    unfolding state
-    negation-state k a q = record { is = rw (negation-is k .is, ← a .is) (q .0); code = q .1 }
+    negation-state k a q =
+        record { is = rw (negation-is k .is, state-negated, ← a .is) (q .0); code = q .1 }
 
     pub binary-state : {m x y r : ℕ} → 40 ≤ lastByte t end → lastByte t end < 60 → Start t names (end - 1) m
         → At m x → At (end - 1) y → IsState (operate (binaryAt (lastByte t end - 40)) x y) r → At end r
-    unfolding state
     binary-state k j g a d q =
-        record { is = rw (binary-is k j .is, ← g .left, ← a .is, ← d .is) (q .is); code = q .code }
+        record { is = rw (binary-is k j .is, state-binary, ← g .left, ← a .is, ← d .is) (q .is); code = q .code }
 
     abbrev ValueAt : ℕ → ℕ → Type 0
     ValueAt e r = IsState (valueOf t names states e row) r
 
     pub value-state : {x r : ℕ} → At end x → IsState (settledBy (lastByte t end) x) r → ValueAt end r
-    unfolding value
-    value-state a q = record { is = rw (settled-is, ← a .is) (q .is); code = q .code }
+    value-state a q = record { is = rw (value-settled, settled-is, ← a .is) (q .is); code = q .code }
 
     pub choice-state : {m o c x y r : ℕ} → 60 ≤ lastByte t end → lastByte t end < 64
         → Start t names (end - 1) m
         → Start t names m o → At o c → ValueAt m x → ValueAt (end - 1) y → IsState (chosen c x y) r
         → At end r
-    unfolding state value
     choice-state k j g f a d e q =
         record {
-          is = rw (choice-is k j .is, ← g .left, ← f .left, ← a .is, ← d .is, ← e .is) (q .is);
+          is = rw (choice-is k j .is, state-choice, ← g .left, ← f .left, ← a .is, ← d .is, ← e .is) (q .is);
           code = q .code;
         }

@@ -4,5 +4,8 @@ pub mod Booleans
 pub mod Spans
 pub mod Joining
 pub mod Vectors
+pub mod LongWindows
+pub mod Longest
+pub mod LongestSteps
 pub mod RowAnswers
 pub mod Traces

@@ -8,7 +8,7 @@ use mathlib.Core.Path.{_≡_, refl}
 use borrow.Author.Tests.{lt-ltb, le-ltb, eq-eqb, ne-eqb}
 use Rattle.alf.specs.States.{reduce}
 use Rattle.alf.specs.Values.{operate, chosen}
-use Rattle.alf.specs.Bytes.{binaryAt}
+use Rattle.alf.specs.Decoder.{binaryAt}
 use Rattle.evaluator.specs.Rows.{IsState, settledBy}
 
 pub operated-by : {op r : ℕ} (k x y : ℕ) → op ≡ k → (r ≡ operate (binaryAt (k - 40)) x y) × (r < 8)

@@ -10,7 +10,7 @@ use mathlib.Core.Logic.{_⊎_, inl, inr}
 use mathlib.Core.List.{List}
 use lib.ListN.{length}
 use Rattle.alf.specs.Windows.{Window, held, joined, answer}
-use Rattle.alf.specs.Bytes.{joinAt, edgeAt, isBoolean, isVector, stackAt}
+use Rattle.alf.specs.Decoder.{joinAt, edgeAt, isBoolean, isVector, stackAt}
 use Rattle.basics.proofs.Bools.{below?, equal?}
 use Rattle.alf.proofs.Made.{Made}
 use Rattle.alf.proofs.Parts.{made-last}

@@ -1,7 +1,7 @@
 // What an operator makes of the states of its operands.
 ghost use Prim.Native.Nat.{_-_, _<_};
 ghost use Rattle.alf.specs.Values.{operate, chosen};
-ghost use Rattle.alf.specs.Bytes.{binaryAt};
+ghost use Rattle.alf.specs.Decoder.{binaryAt};
 ghost use Rattle.evaluator.specs.Rows.{IsState, Operands, settledBy};
 use states::states::above;
 use states::states::and_of;

@@ -3,10 +3,12 @@
 ghost use mathlib.Core.Path.{_≡_};
 ghost use Prim.Native.Nat.{_-_, min};
 ghost use Rattle.alf.specs.Windows.{held, followedBy, together, joined};
-ghost use Rattle.alf.specs.Bytes.{edgeAt, joinAt};
+ghost use Rattle.alf.specs.Decoder.{edgeAt, joinAt};
 ghost use Rattle.trees.specs.Parts.{EndsBoolean, EndsVector};
 ghost use Rattle.evaluator.specs.Rows.{Within, stateOf};
 ghost use Rattle.evaluator.specs.Spans.{Span, Both, Conditioned, JoinByte, edgeOver, answerOn};
+use crate::lengths::longest;
+use crate::lengths::smaller;
 use crate::values::state;
 use states::edges::certainty_of;
 use states::edges::edge_on;
@@ -47,7 +49,8 @@ fn held_over(tree: &[u8], end: usize, states: &[u8], names: usize, a: usize, b: 
     least
 }
 
-// The answer of the vector expression that ends at `end`, on the rows from `a` to `b`.
+// The answer of the vector expression that ends at `end`, on the rows from `a` to `b`. On a window of more events than
+// its longest it is not gone into.
 pub fn answer(tree: &[u8], end: usize, states: &[u8], names: usize, a: usize, b: usize) -> u8
     requires { ⌜ EndsVector (now tree) names end ⌝ }
     requires { ⌜ Within (now states) names b ⌝ }
@@ -61,6 +64,9 @@ pub fn answer(tree: &[u8], end: usize, states: &[u8], names: usize, a: usize, b:
     if 64 <= k {
         return edge_over(tree, at, k - 64, states, names, a, b);
     }
+    if longest(tree, end, names) < b - a {
+        return 0;
+    }
     let left = start_of(tree, at, names);
     if k < 56 {
         return join(k, tree, left, at, states, names, a, b);
@@ -71,6 +77,18 @@ pub fn answer(tree: &[u8], end: usize, states: &[u8], names: usize, a: usize, b:
     restrict(tree, at, left, states, names, a, b)
 }
 
+// The lesser of `x` and the answer of the expression that ends at `end`, which is asked only where `x` is not no.
+fn lesser_on(x: u8, tree: &[u8], end: usize, states: &[u8], names: usize, a: usize, b: usize) -> u8
+    requires { ⌜ EndsVector (now tree) names end ⌝ }
+    requires { ⌜ Within (now states) names b ⌝ }
+    ensures { λ r. ⌜ r ≡ min x (answerOn (now (tree .entry)) names (now (states .entry)) end a b) ⌝ }
+{
+    if x == 0 {
+        return 0;
+    }
+    lesser(x, answer(tree, end, states, names, a, b))
+}
+
 // `P & c`, of the vector expression that ends at `p` and the boolean one that ends at `c`.
 fn restrict(tree: &[u8], p: usize, c: usize, states: &[u8], names: usize, a: usize, b: usize) -> u8
     requires { ⌜ Conditioned (now tree) names p c ⌝ }
@@ -79,6 +97,9 @@ fn restrict(tree: &[u8], p: usize, c: usize, states: &[u8], names: usize, a: usi
         (held (stateOf (now (tree .entry)) names (now (states .entry)) c) a b) ⌝ }
 {
     let x = answer(tree, p, states, names, a, b);
+    if x == 0 {
+        return 0;
+    }
     lesser(x, held_over(tree, c, states, names, a, b))
 }
 
@@ -120,42 +141,48 @@ fn join(
     greater(greater(x, y), sequence(tree, q, p, states, names, a, b))
 }
 
-// `P -> Q`: over each row a + 1 + i between `a` and `b`, P up to it and Q from it on.
+// `P -> Q`: over each row a + 1 + i between `a` and `b`, P up to it and Q from it on; only over rows that make neither
+// of the two windows too long.
 fn sequence(tree: &[u8], p: usize, q: usize, states: &[u8], names: usize, a: usize, b: usize) -> u8
     requires { ⌜ Both (now tree) names p q ⌝ }
     requires { ⌜ Span (now states) names a b ⌝ }
     ensures { λ r. ⌜ r ≡ followedBy (answerOn (now (tree .entry)) names (now (states .entry)) p)
         (answerOn (now (tree .entry)) names (now (states .entry)) q) a b ⌝ }
 {
-    let n = b - (a + 1);
+    let rows = b - (a + 1);
+    let n = smaller(rows, longest(tree, p, names));
     let mut best: u8 = 0;
-    let mut i = 0;
+    let mut i = rows - smaller(rows, longest(tree, q, names));
     while i < n {
-        let x = answer(tree, p, states, names, a, a + 1 + i);
         let y = answer(tree, q, states, names, a + 1 + i, b);
-        best = greater(best, lesser(x, y));
+        let x = lesser_on(y, tree, p, states, names, a, a + 1 + i);
+        best = greater(best, x);
         i += 1;
     }
     best
 }
 
-// `P & Q`: both end at `b`, the longer starts at `a`, the shorter at each row m from `a` on.
+// `P & Q`: both end at `b`, the longer starts at `a`, the shorter at each row m from `a` on. No shorter one is asked
+// beside a longer one that answers no.
 fn overlap(tree: &[u8], p: usize, q: usize, states: &[u8], names: usize, a: usize, b: usize) -> u8
     requires { ⌜ Both (now tree) names p q ⌝ }
     requires { ⌜ Span (now states) names a b ⌝ }
     ensures { λ r. ⌜ r ≡ together (answerOn (now (tree .entry)) names (now (states .entry)) p)
         (answerOn (now (tree .entry)) names (now (states .entry)) q) a b ⌝ }
 {
-    let n = b + 1 - a;
     let x = answer(tree, p, states, names, a, b);
     let y = answer(tree, q, states, names, a, b);
-    let mut best: u8 = 0;
-    let mut i = 0;
+    if greater(x, y) == 0 {
+        return 0;
+    }
+    let n = b - a;
+    let mut best = lesser(x, y);
+    let mut i = 1;
     while i < n {
         let m = a + i;
-        let u = answer(tree, q, states, names, m, b);
-        let v = answer(tree, p, states, names, m, b);
-        best = greater(best, greater(lesser(x, u), lesser(v, y)));
+        let u = lesser_on(x, tree, q, states, names, m, b);
+        let v = lesser_on(y, tree, p, states, names, m, b);
+        best = greater(best, greater(u, v));
         i += 1;
     }
     best

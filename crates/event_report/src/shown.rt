@@ -7,6 +7,7 @@ use crate::reports::rows_of;
 use crate::reports::size_of;
 use crate::reports::states_of;
 use crate::reports::time_of;
+use alf::RowNo;
 use basics::Outcome;
 use matcher::tables::number_of;
 use matching_calls::matching::match_all;
@@ -63,7 +64,7 @@ fn windows(report: &[u8], n: usize, tree: &[u8], states: &[u8])
         some = say_told(
             some,
             time_of(report, i),
-            row_answer(names, n, tree, states, i),
+            row_answer(names, n, tree, states, RowNo(i as u32)),
         );
         i += 1;
     }

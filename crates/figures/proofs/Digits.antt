@@ -16,7 +16,7 @@ use mir.Val.{Fits}
 use mir.Syntax.{w64}
 use borrow.Author.Tests.{lt-ltb, le-ltb}
 use Rattle.basics.proofs.Bools.{below?}
-use Rattle.figures.specs.Numbers.{digits, widthUpTo, width, decimal}
+use Rattle.figures.specs.Numbers.{digits, widthUpTo, width, decimal, reading}
 
 pub digits-length : (k n : ℕ) → length (digits k n) ≡ k
 unfolding digits
@@ -83,11 +83,6 @@ decimal-more n h = ap (λ (k : ℕ). digits k n) (width-more n h)
 pub decimal-length : (n : ℕ) → length (decimal n) ≡ width n
 unfolding decimal
 decimal-length n = digits-length (width n) n
-
--- digits read from the left, behind what was read before
-unfoldable pub reading : ℕ → List ℕ → ℕ
-reading before [] = before
-reading before (d ∷ ds) = reading (before * 10 + (d - 48)) ds
 
 reading-last : (before : ℕ) (ds : List ℕ) (d : ℕ)
     → reading before (ds ++ (d ∷ [])) ≡ reading before ds * 10 + (d - 48)

@@ -1,6 +1,6 @@
 -- Shares, computed: 1/3, 2/3, 1/2, none, all, half a millionth, less than that, no event.
 use mathlib.Core.Path.{_≡_, refl}
-use Rattle.figures.specs.Text.{bytes}
+use Rattle.basics.specs.Text.{bytes}
 use Rattle.figures.specs.Numbers.{digits, widthUpTo, width, decimal}
 use Rattle.figures.specs.Share.{millionths, withPoint, share}
 

@@ -1,6 +1,5 @@
 -- Numbers and shares as text, and how a text is delivered into a lent buffer.
 -- Inner is for the functions inside.
-pub mod Text
 pub mod Numbers
 pub mod Share
 pub mod Delivering

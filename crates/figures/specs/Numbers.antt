@@ -2,8 +2,9 @@
 --   digits     so many of a number
 --   width      how many it needs (widthUpTo: counted up to a bound)
 --   decimal    as many as it needs
--- That these digits are the number, and that the first is no needless 0, is shown in proofs/Digits.antt.
-use Prim.Native.Nat.{ℕ, zero, suc, _+_, _/_, _%_}
+--   reading    the number that digits are
+-- That these digits are the number, and that the first is no needless 0, is a law.
+use Prim.Native.Nat.{ℕ, zero, suc, _+_, _-_, _*_, _/_, _%_}
 use mathlib.Core.List.{List, [], _∷_, _++_}
 use lib.Dec.{ltb}
 use Rattle.basics.specs.Words.{if_then_else_}
@@ -24,3 +25,8 @@ width n = widthUpTo n n
 
 unfoldable pub decimal : ℕ → List ℕ
 decimal n = digits (width n) n
+
+-- the number that digits are, read from the left: each is added to ten times what stands before it
+unfoldable pub reading : ℕ → List ℕ → ℕ
+reading before [] = before
+reading before (d ∷ ds) = reading (before * 10 + (d - 48)) ds

@@ -2,7 +2,7 @@
 --   millionths    rounded half up
 --   withPoint     with a point before the last six digits
 --   share         the text
--- That this is rounding half up is shown in proofs/Rounding.antt.
+-- That this is rounding half up is a law.
 use Prim.Native.Nat.{ℕ, _+_, _-_, _*_, _/_}
 use mathlib.Core.List.{List, [], _∷_, _++_}
 use lib.Dec.{eqb}

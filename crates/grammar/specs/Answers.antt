@@ -1,5 +1,5 @@
 -- The contract of `parse`: what it is handed, and its answer, the nodes of the text's one tree or the place of
--- refusal 5. That any two answers coincide is shown in proofs/Outcome.antt.
+-- refusal 5. That any two answers coincide is a law.
 --   handed, Handed                   the tokens of two lists, and what `parse` asks of them
 --   placeAt                          the byte of a token by its number
 --   padded, codesOf, placesOf        lists of 256 entries; the codes and the places of tokens

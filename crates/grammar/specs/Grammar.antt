@@ -1,5 +1,5 @@
 -- Document 01, "Text": the grammar as a relation, and refusal 5 in the document's words. The grammar knows no sorts.
--- That no text has two trees, or two places of refusal, is shown in proofs/Unique.antt.
+-- That no text has two trees, or two places of refusal, is a law.
 --   Tree, nodes             an expression as its tokens; these, operands before their operator
 --   Parses, Expression      tokens begin with an expression of a level; tokens are an expression
 --   Begins, Refused         some expression begins with tokens; where tokens are refused

@@ -1,5 +1,5 @@
 -- For the parser: where reading an expression of a level stops, rule by rule. That this is the place which the document
--- asks for, `Refused`, is shown in proofs/Refusals.antt.
+-- asks for, `Refused`, is a law.
 --   rank, starts     a kind as a number; whether an expression begins with such a token
 --   Stops            no expression of a level begins some tokens, and where that shows
 use Prim.Native.Nat.{ℕ, suc, _<_}

@@ -1,6 +1,5 @@
--- Document 01, "Writing out": a tree's tokens with only needed brackets, and which trees there are. That they parse
--- back to the tree is shown in proofs/Written.antt; that no text of it has fewer brackets, or opens them less deep, in
--- proofs/Fewest.antt and proofs/Depth.antt.
+-- Document 01, "Writing out": a tree's tokens with only needed brackets, and which trees there are. Laws: they parse
+-- back to the tree, and no text of it has fewer brackets, or opens them less deep.
 --   made, levelOf                 a token that the writer puts in; an operator's level
 --   fitted, written               brackets where they are needed; a tree's tokens
 --   Formed                        a tree whose operators have as many operands as they take

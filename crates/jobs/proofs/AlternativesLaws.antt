@@ -8,12 +8,14 @@ use mathlib.Core.Bool.{true}
 use mathlib.Core.Logic.{inl, inr}
 use mathlib.Core.List.{List}
 use lib.ListN.{length, take}
+use Rattle.basics.specs.declared.Refusal.{Refusal}
+use Rattle.basics.proofs.Refusals.{refusal-same}
 use Rattle.basics.specs.Refusing.{refusal}
 use Rattle.basics.specs.declared.Outcome.{Outcome}
 use Rattle.basics.specs.declared.Outcome.the-variants.{Done, Refused}
 use Rattle.alf.specs.declared.Sort.the-variants as sort
 use Rattle.alf.specs.Expressions.{Vector, Expression, boolean, vector}
-use Rattle.alf.specs.Bytes.{Stack, Decodes, topVector}
+use Rattle.alf.specs.Decoder.{Stack, Decodes, topVector}
 use Rattle.alf.specs.Alternatives.{alternatives}
 use Rattle.alf.specs.Refusals.{RefusedWith, Passed, Comes}
 use Rattle.alf.proofs.Outcomes.{refused-passed}
@@ -21,7 +23,7 @@ use Rattle.names.specs.Check.{namesOrder}
 use Rattle.alf.proofs.Orders.{passed-left}
 use Rattle.acceptance.specs.Accepted.{Accepted}
 use Rattle.reader.specs.declared.Read.{Read}
-use Rattle.reader.specs.Reading.{Reading}
+use Rattle.reader.specs.Reading.{ReadsText}
 use Rattle.reader.proofs.Unique.{gives-unique}
 use Rattle.writer.specs.Writing.{countOf}
 use Rattle.text_laws.proofs.ReadTrees.{Found, read-refused, read-sole, found-accepted, found-vector}
@@ -34,7 +36,7 @@ use Rattle.alternative_lines.specs.Listing.{listing}
 use Rattle.alternative_lines.specs.Calls.{ownAt, listingAt, order, tally, WritesAlternatives, DeliversLines}
 use Rattle.jobs.specs.AlternativesText.{RewritesText, refused, rewritten}
 
-pub refused-text : {names text out : List ℕ} {r : Read} → Reading names text sort.Vector r → r .refused ≡ true
+pub refused-text : {names text out : List ℕ} {r : Read} → ReadsText names text sort.Vector r → r .refused ≡ true
     → RewritesText names text out out (record { written = Refused (r .refusal); untold = 0 })
 refused-text h e = refused _ _ (read-refused h e)
 
@@ -97,7 +99,7 @@ pub text-unique : {names text out a b : List ℕ} {r s : Lines} → RewritesText
 unfolding patternOf
 text-unique {names} {text} (refused n p x) (refused m q y) =
     let e = read-sole names text sort.Vector n m p q x y in
-    (λ i. record { written = Refused (refusal (e .0 i) (e .1 i)); untold = 0 }, refl)
+    (ap (λ (r : Refusal). record { written = Refused r; untold = 0 }) (refusal-same e), refl)
 text-unique (refused n p x) (rewritten h g d) = absurd (refused-passed _ n p h x)
 text-unique (rewritten h g d) (refused n p x) = absurd (refused-passed _ n p h x)
 text-unique {names} {out = out} (rewritten {p = p} h g d) (rewritten {p = q} k f c) =

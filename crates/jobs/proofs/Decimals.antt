@@ -18,7 +18,8 @@ use Rattle.basics.specs.Words.{if_then_else_, all}
 use Rattle.alf.specs.Names.{isDecimal}
 use Rattle.basics.proofs.Bools.{below?, and-left, and-right}
 use Rattle.figures.specs.Numbers.{digits, width, decimal}
-use Rattle.figures.proofs.Digits.{reading, decimal-read, decimal-length, width-some}
+use Rattle.figures.specs.Numbers.{reading}
+use Rattle.figures.proofs.Digits.{decimal-read, decimal-length, width-some}
 use Rattle.jobs.specs.RowNumbers.{rowNumber, goneOn}
 
 unfoldable pub going : ℕ → List ℕ → ℕ

@@ -5,8 +5,8 @@ use mathlib.Core.List.{List, [], _∷_, map}
 use Rattle.basics.specs.Words.{all}
 use Rattle.alf.specs.States.{among}
 use Rattle.alf.specs.Names.{isDecimal}
-use Rattle.figures.specs.Text.{bytes}
-use Rattle.figures.proofs.Digits.{reading}
+use Rattle.basics.specs.Text.{bytes}
+use Rattle.figures.specs.Numbers.{reading}
 use Rattle.jobs.specs.Letters.{stateOf}
 use Rattle.jobs.specs.RowNumbers.{rowNumber}
 

@@ -8,9 +8,10 @@ use mathlib.Core.Path.{_≡_, refl, ap, sym, _∙_}
 use mathlib.Core.Bool.{true}
 use mathlib.Core.List.{List}
 use lib.ListN.{take}
+use Rattle.basics.proofs.Refusals.{refusal-same}
 use Rattle.basics.specs.Refusing.{refusal}
 use Rattle.alf.specs.declared.Sort.the-variants as sort
-use Rattle.alf.specs.Bytes.{Decodes, topVector}
+use Rattle.alf.specs.Decoder.{Decodes, topVector}
 use Rattle.alf.specs.Refusals.{RowCount, Passed}
 use Rattle.alf.proofs.Outcomes.{at-fixed, first-fixed, refused-passed}
 use Rattle.basics.proofs.Stable.{le-stable}
@@ -19,7 +20,7 @@ use Rattle.alf.proofs.Orders.{Sole, sole-both, sole-fixed}
 use Rattle.matcher.specs.declared.tables.Total.{Total}
 use Rattle.reader.specs.declared.Read.{Read}
 use Rattle.sorting.specs.Lookup.{countOf}
-use Rattle.reader.specs.Reading.{readOrder, Reading}
+use Rattle.reader.specs.Reading.{readOrder, ReadsText}
 use Rattle.reader.proofs.Unique.{gives-unique}
 use Rattle.matching_calls.specs.declared.matching.Counting.{Counting}
 use Rattle.matching_calls.specs.declared.matching.Counting.the-variants.{Counted, Refused}
@@ -35,7 +36,7 @@ unfolding Decodes topVector
 tree-is f = ap topVector (vector-decodes f)
 
 module _ {names : List ℕ} {n : ℕ} {states text : List ℕ} {r : Read} where
-  pub text-refused : Reading names text sort.Vector r → r .refused ≡ true
+  pub text-refused : ReadsText names text sort.Vector r → r .refused ≡ true
       → CountsText names n states text (Refused (r .refusal))
   unfolding Counts
   text-refused h e = record { comes = refused-first (readOrder names text sort.Vector) _ _ _ (read-refused h e) }
@@ -103,7 +104,7 @@ module _ (names : List ℕ) (n : ℕ) (states text : List ℕ) where
   counts-one (Refused r) (Counted u) x y = absurd (refused-passed (countOrder names n states text) _ _ (y .0) x)
   counts-one (Refused r) (Refused s) x y =
       let e = count-sole (r .number) (s .number) (r .place) (s .place) x y in
-      λ i. Refused (refusal (e .0 i) (e .1 i))
+      ap Refused (refusal-same e)
 
 pub counts-unique : {names : List ℕ} {n : ℕ} {states text : List ℕ} {a b : Counting}
     → CountsText names n states text a → CountsText names n states text b → a ≡ b

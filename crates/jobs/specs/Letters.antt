@@ -3,7 +3,7 @@
 use Prim.Native.Nat.{ℕ}
 use Rattle.basics.specs.Words.{if_then_else_}
 use Rattle.alf.specs.States.{among, X, H, L, W, Z, U}
-use Rattle.figures.specs.Text.{bytes}
+use Rattle.basics.specs.Text.{bytes}
 
 -- the code of a letter's state; 8 where the byte is no state's letter
 unfoldable pub stateOf : ℕ → ℕ

@@ -7,7 +7,7 @@ use Prim.Native.Nat.{ℕ, _+_, _-_, _*_, min}
 use mathlib.Core.List.{List, [], _∷_}
 use Rattle.basics.specs.Words.{if_then_else_, all}
 use Rattle.alf.specs.Names.{isDecimal}
-use Rattle.figures.proofs.Digits.{reading}
+use Rattle.figures.specs.Numbers.{reading}
 
 -- 65,536 where there is no byte, where one is no digit, and where the number is larger
 unfoldable pub rowNumber : List ℕ → ℕ

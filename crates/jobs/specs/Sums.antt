@@ -6,7 +6,7 @@
 --   sumsOf                                the sums over the list of all patterns
 --   Modest                                a pattern's totals, each of at most 65,534 rows
 --   CountedOn                             what is counted of some text on a trace
--- That addedAll comes to sumsOf is shown in proofs/SumLaws.antt; what full means, in proofs/Additions.antt.
+-- That addedAll comes to sumsOf, and what full means, are laws.
 use Prim.Native.Nat.{ℕ, _+_, _-_, _^_, _≤_}
 use mathlib.Core.Bool.{Bool, _&&_}
 use mathlib.Core.List.{List, [], _∷_}

@@ -10,7 +10,7 @@ use mathlib.Core.List.{_++_}
 use mathlib.Core.Logic.{inl, inr}
 use Prim.Native.Nat.{ℕ}
 use Rattle.basics.specs.declared.Refusal.{Refusal}
-use Rattle.alf.specs.Refusals.{At, Order, RefusedWith, Passed}
+use Rattle.alf.specs.Refusals.{At, Order, RefusedWith, RefusedBy, Passed}
 use Rattle.basics.specs.Deciding.{Decides}
 use Rattle.alf.proofs.Orders.{refused-first, refused-then, passed-both}
 use Rattle.judging.specs.declared.checks.Verdict.{Verdict}
@@ -23,14 +23,14 @@ passed : {o : Order} {facts : Type 0} → Judged o facts Good → Passed o × fa
 passed (passes p f) = (p, f)
 
 refused : {o : Order} {facts : Type 0} {r : Refusal} → Judged o facts (Refused r)
-    → RefusedWith o (r .number) (r .place)
+    → RefusedBy o r
 refused (refuses h) = h
 
 module _ {o : Order} {facts : Type 0} {v : Verdict} (j : Judged o facts v) where
   pub judged-good : v ≡ Good → Passed o × facts
   judged-good e = passed (rw e at j)
 
-  pub judged-not : {r : Refusal} → v ≡ Refused r → RefusedWith o (r .number) (r .place)
+  pub judged-not : {r : Refusal} → v ≡ Refused r → RefusedBy o r
   judged-not e = refused (rw e at j)
 
 -- tests of P and Q

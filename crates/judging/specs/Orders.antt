@@ -15,7 +15,7 @@ use lib.ListN.{length}
 use Rattle.basics.specs.declared.Refusal.{Refusal}
 use Rattle.alf.specs.declared.Sort.{Sort}
 use Rattle.alf.specs.Refusals.{Order, check, bad-lists, cannot-be, bad-code, no-such-row, NameCount, RowCount}
-use Rattle.alf.specs.Refusals.{At, RefusedWith, Passed}
+use Rattle.alf.specs.Refusals.{At, RefusedBy, Passed}
 use Rattle.acceptance.specs.Accepted.{Accepted}
 use Rattle.states.specs.FirstBadCode.{Codes}
 use Rattle.judging.specs.declared.checks.Verdict.{Verdict}
@@ -61,7 +61,7 @@ traceOrder names n tree sort states =
 -- A verdict by an order: good, and some facts are so; or refused.
 pub data Judged (o : Order) (facts : Type 0) : Verdict → Type 0 where
   passes : Passed o → facts → Judged o facts Good
-  refuses : {r : Refusal} → RefusedWith o (r .number) (r .place) → Judged o facts (Refused r)
+  refuses : {r : Refusal} → RefusedBy o r → Judged o facts (Refused r)
 
 -- a number where a test fails; 19
 abbrev pub test : ℕ → Bool → Order

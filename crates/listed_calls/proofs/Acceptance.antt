@@ -15,7 +15,7 @@ use borrow.Author.Tests.{ltb-false, le-ltb}
 use Rattle.alf.specs.declared.Sort.the-variants as sort
 use Rattle.basics.specs.Words.{greatestOf}
 use Rattle.alf.specs.Expressions.{boolean, vector}
-use Rattle.alf.specs.Bytes.{Stack, empty, broken, push, isBoolean}
+use Rattle.alf.specs.Decoder.{Stack, empty, broken, push, isBoolean}
 use Rattle.alf.specs.Alternatives.{Alternative, overLimit}
 use Rattle.alf.specs.Alternatives as alternatives
 use Rattle.basics.proofs.Bools.{never, or-left, or-right}

@@ -1,50 +1,26 @@
 -- A part of a list that is a boolean tree by itself is what the bytes before its end end with, whatever is before it.
---   stack-few      more than 32 names are as good as 32
 --   stack-over     the bytes of a boolean expression put it on the stack
 --   part-length, part-inside
 --   alone
 use Prim.Native.Nat.{ℕ, zero, suc, _+_, _-_, _<_, _≤_, min}
 use native.Mathlib.Omega.{arith}
 use mathlib.Core.Path.{_≡_, refl, ap, sym, _∙_}
-use mathlib.Core.Logic.{_⊎_, inl, inr}
 use mathlib.Core.Bool.{true}
 use mathlib.Core.List.{List}
 use lib.ListN.{length, getD, take, drop, length-drop}
 use lib.Seq.{take-add, length-take-le, drop-at, drop-drop, take-take}
-use borrow.Author.Tests.{lt-ltb, le-ltb}
 use Rattle.alf.specs.declared.Sort.the-variants as sort
 use Rattle.alf.specs.Expressions.{Boolean, Expression, boolean, vector, ExpressionOver}
-use Rattle.alf.specs.Bytes.{bytesOf, leafAt, operationAt, Stack, empty, push, isBoolean, under, stackAt, Decodes}
-use Rattle.basics.proofs.Bools.{never, below?}
+use Rattle.alf.specs.Bytes.{bytesOf}
+use Rattle.alf.specs.Decoder.{Stack, empty, push, isBoolean, under, stackAt, Decodes}
+use Rattle.basics.proofs.Bools.{never}
 use Rattle.alf.proofs.Decoding.{bytes-decode, decode-over}
+use Rattle.alf.proofs.FewNames.{stack-few, decodes-few}
 use Rattle.alf.proofs.Encoding.{runs, runs-append, runs-stack, runs-boolean}
 use Rattle.trees.specs.Parts.{top, EndsBoolean, Start}
 use Rattle.trees.proofs.Starts.{of-boolean, ends-pos}
 use Rattle.acceptance.specs.Accepted.{Accepted}
-use Rattle.acceptance.proofs.Acceptance.{accepted-boolean}
-
--- a name's byte is below 32
-leaf-few : (names b : ℕ) → leafAt names b ≡ leafAt (min names 32) b
-unfolding leafAt
-leaf-few names b = go (below? b 32) (below? b names)
-  where
-    go : (b < 32) ⊎ (32 ≤ b) → (b < names) ⊎ (names ≤ b) → leafAt names b ≡ leafAt (min names 32) b
-    go (inl h) (inl k) =
-        let j : b < min names 32 = omega arith in
-        rw (lt-ltb _ _ h, lt-ltb _ _ k, lt-ltb _ _ j) refl
-    go (inl h) (inr k) =
-        let j : min names 32 ≤ b = omega arith in
-        rw (lt-ltb _ _ h, le-ltb _ _ k, le-ltb _ _ j) refl
-    go (inr h) k = rw (le-ltb _ _ h) refl
-
-operation-few : (names b : ℕ) → operationAt names b ≡ operationAt (min names 32) b
-unfolding operationAt
-operation-few names b = rw (leaf-few names b) refl
-
-stack-few : (t : List ℕ) (names n : ℕ) → stackAt t names n ≡ stackAt t (min names 32) n
-unfolding stackAt
-stack-few t names zero = refl
-stack-few t names (suc n) = rw (operation-few names (getD t n 0), stack-few t names n) refl
+use Rattle.acceptance.proofs.Acceptance.{accepted-boolean, accepted-decodes}
 
 -- the bytes from m on, run on the stack before them
 runs-on : (t : List ℕ) (names m n : ℕ) → m + n ≤ length t
@@ -62,10 +38,6 @@ unfolding bytesOf ExpressionOver
 put w names c s few h =
     ap (λ (l : List ℕ). runs names l s) (sym (bytes-decode names w (boolean c) h))
     ∙ runs-boolean names few c (decode-over names w (boolean c) h) s
-
-decodes-few : (w : List ℕ) (names : ℕ) (e : Expression) → Decodes names w e → Decodes (min names 32) w e
-unfolding Decodes
-decodes-few w names e h = sym (stack-few w names (length w)) ∙ h
 
 stack-over : (t : List ℕ) (names m n : ℕ) (c : Boolean) → m + n ≤ length t
     → Decodes names (take n (drop m t)) (boolean c)
@@ -109,7 +81,9 @@ module _ (t : List ℕ) (names end m : ℕ) where
 
       pub alone : EndsBoolean t names end × Start t names end m
       unfolding Decodes isBoolean
-      alone = go (a .expression) (a .decodes) (rw (a .decodes) at (accepted-boolean part names a .whole))
+      alone =
+          let d = accepted-decodes a in
+          go (a .expression) d (rw d at (accepted-boolean part names a .whole))
         where
           go : (e : Expression) → Decodes names part e → isBoolean (push e empty) ≡ true
               → EndsBoolean t names end × Start t names end m

@@ -18,7 +18,7 @@ use Rattle.matcher.specs.declared.answers.Matched.{Matched}
 use Rattle.matcher.specs.declared.tables.Total.{Total}
 use Rattle.alternatives.specs.InMemory.{alternativesOf}
 use Rattle.matcher.specs.Answers.{RowAsked, Matches}
-use Rattle.matcher.specs.Tables.{RowsAsked, FillAsked, Filled, Totals}
+use Rattle.matcher.specs.Tables.{RowsAsked, FillAsked, Filled, TotalsOf}
 use Rattle.queue.specs.declared.queues.Queue.{Queue}
 use Rattle.states.specs.FirstBadCode.{Codes}
 use Rattle.alternatives.specs.InMemory.{longestOf}
@@ -93,7 +93,7 @@ module _ {names n : ℕ} {tree steps tests edges operands states : List ℕ} {go
     totals-refused e = record { comes = judged-not as-rows e }
 
     pub totals-told : {t : Total} → v ≡ Good
-        → Totals (stateAt names states) (alternativesOf tree names steps tests edges operands) n (t .yes) (t .no)
+        → TotalsOf (stateAt names states) (alternativesOf tree names steps tests edges operands) n (t .yes) (t .no)
         (t .unknown) → ListedTotals names n tree steps tests edges operands states (counting.Counted t)
     unfolding Counts
     totals-told e t = record { comes = (judged-good as-rows e .0, t) }

@@ -1,15 +1,13 @@
 -- Any two results that the contract of a call over alternatives handed in allows coincide, and so does the memory lent
 -- at exit, refused or not.
---   fits-unique; listed-match-unique, listed-all-unique, listed-totals-unique, listed-push-unique
-use mathlib.Core.Path.{_≡_, sym, _∙_}
-use mathlib.Core.Bool.{Bool}
+--   listed-match-unique, listed-all-unique, listed-totals-unique, listed-push-unique
+use mathlib.Core.Path.{_≡_, sym, ap, _∙_}
 use mathlib.Core.List.{List}
 use Prim.Native.Nat.{ℕ}
+use Rattle.basics.proofs.Refusals.{refusal-same}
 use Rattle.basics.specs.Refusing.{refusal}
 use Rattle.basics.specs.declared.Outcome.{Outcome}
 use Rattle.alf.proofs.Outcomes.{refused-passed, refused-unique}
-use Rattle.basics.specs.Deciding.{Decides}
-use Rattle.acceptance.proofs.Acceptance.{decides-unique}
 use Rattle.matcher.proofs.Unique.{matches-unique, totals-unique}
 use Rattle.queue.specs.declared.queues.Queue.{Queue}
 use Rattle.queue.proofs.Unique.{pushes-unique}
@@ -18,14 +16,7 @@ use Rattle.matching_calls.specs.declared.matching.Matching.the-variants.{Found,
 use Rattle.matching_calls.specs.declared.matching.Counting.{Counting}
 use Rattle.call_laws.proofs.Unique.{codes-fixed, row-fixed, outcome-unique, finds-unique, counts-unique}
 use Rattle.basics.proofs.Memory.{after-unique}
-use Rattle.listed_calls.specs.Lists.{AcceptedAlternatives}
 use Rattle.listed_calls.specs.Listed.{ListedMatch, ListedAll, ListedTotals, ListedPush, pushOrder, Takes}
-
-pub fits-unique : (names : ℕ) (tree steps tests edges operands : List ℕ) (q r : Bool)
-    → Decides q (AcceptedAlternatives names tree steps tests edges operands)
-    → Decides r (AcceptedAlternatives names tree steps tests edges operands) → q ≡ r
-fits-unique names tree steps tests edges operands =
-    decides-unique (AcceptedAlternatives names tree steps tests edges operands)
 
 module _ {names n : ℕ} {tree steps tests edges operands states : List ℕ} where
   pub listed-match-unique : {row : ℕ} {a b : Matching}
@@ -63,7 +54,7 @@ module _ (names : ℕ) (tree steps tests edges operands : List ℕ) (q : Queue) 
   takes-unique (Refused s) (Refused t) p r a b =
       let o = pushOrder names tree steps tests edges operands q row in
       let e = refused-unique o (codes-fixed _ _ row) (a .0) (b .0) in
-      (λ i. Refused (refusal (e .0 i) (e .1 i)), a .1 ∙ sym (b .1))
+      (ap Refused (refusal-same e), a .1 ∙ sym (b .1))
 
 pub listed-push-unique : {names : ℕ} {tree steps tests edges operands : List ℕ} {q : Queue} {row : List ℕ}
     {x y : Matching} {p r : Queue} → ListedPush names tree steps tests edges operands q row x p

@@ -12,12 +12,12 @@ use lib.ListN.{length}
 use Rattle.basics.specs.declared.Outcome.{Outcome}
 use Rattle.basics.specs.Words.{listed}
 use Rattle.alf.specs.Values.{stateAt}
-use Rattle.alf.specs.Alternatives.{Alternative, tries}
-use Rattle.alf.specs.Refusals.{Order, RefusedWith, Passed, Comes}
+use Rattle.alf.specs.Alternatives.{Alternative, tries, answerOf}
+use Rattle.alf.specs.Refusals.{Order, RefusedBy, Passed, Comes}
 use Rattle.basics.specs.Deciding.{Decides}
 use Rattle.alternatives.specs.InMemory.{alternativesOf}
 use Rattle.matcher.specs.Answers.{Matches}
-use Rattle.matcher.specs.Tables.{numberAt, Totals}
+use Rattle.matcher.specs.Tables.{TotalsOf}
 use Rattle.queue.specs.declared.queues.Queue.{Queue}
 use Rattle.alternatives.specs.InMemory.{longestOf}
 use Rattle.queue.specs.Queues.{Pushes}
@@ -51,11 +51,11 @@ module _ (names n : ℕ) (tree steps tests edges operands states : List ℕ) whe
   pub record ListedAll (answers tried answers′ tried′ : List ℕ) (r : Outcome) : Type 0 where
     pub comes : Comes (rowsOrder (((length answers ≡ n) × (length tried ≡ n)) × Rows names n (length states)))
         (λ k. k ≡ n) r
-    pub answers-memory : answers′ ≡ after (listed 0 n (numberAt (stateAt names states) alternativesIn)) answers r
+    pub answers-memory : answers′ ≡ after (listed 0 n (answerOf (stateAt names states) alternativesIn)) answers r
     pub tried-memory : tried′ ≡ after (listed 0 n (tries (stateAt names states) alternativesIn)) tried r
 
   pub record ListedTotals (r : Counting) : Type 0 where
-    pub comes : Counts (rowsOrder (Rows names n (length states))) (Totals (stateAt names states) alternativesIn n) r
+    pub comes : Counts (rowsOrder (Rows names n (length states))) (TotalsOf (stateAt names states) alternativesIn n) r
 
 module _ (names : ℕ) (tree steps tests edges operands : List ℕ) (queue : Queue) where
   -- alternatives that are accepted, and a queue that keeps at most K rows
@@ -71,7 +71,7 @@ module _ (names : ℕ) (tree steps tests edges operands : List ℕ) (queue : Que
   Takes row (Found m) queue′ =
       Passed (pushOrder row)
       × Pushes names (alternativesOf tree names steps tests edges operands) queue row (m .answer) (m .tries) queue′
-  Takes row (Refused r) queue′ = RefusedWith (pushOrder row) (r .number) (r .place) × (queue′ ≡ queue)
+  Takes row (Refused r) queue′ = RefusedBy (pushOrder row) r × (queue′ ≡ queue)
 
   pub record ListedPush (row : List ℕ) (told : Matching) (queue′ : Queue) : Type 0 where
     pub comes : Takes row told queue′

@@ -1,6 +1,7 @@
 // Matching by alternatives that are handed in as lists: a row, all rows, the totals, the queue.
 ghost use Rattle.listed_calls.specs.Listed.{ListedMatch, ListedAll, ListedTotals, DecidesQueue, ListedPush};
 use crate::accepting::fits;
+use alf::RowNo;
 use alternatives::walking::longest;
 use basics::Outcome;
 use judging::checks::Verdict;
@@ -27,14 +28,15 @@ pub fn match_row(
     edges: &[u8],
     operands: &[u16],
     states: &[u8],
-    row: usize,
+    row: RowNo,
 ) -> Matching
     ensures { λ r. ⌜ ListedMatch names n (now (tree .entry)) (now (steps .entry)) (now (tests .entry))
-        (now (edges .entry)) (now (operands .entry)) (now (states .entry)) row r ⌝ }
+        (now (edges .entry)) (now (operands .entry)) (now (states .entry)) (row .0) r ⌝ }
 {
+    let at = row.0 as usize;
     let lists = rows_fit(names, n, states.len());
     let good = fits(names, tree, steps, tests, edges, operands);
-    let v = judge_row(lists, good, states, n, row);
+    let v = judge_row(lists, good, states, n, at);
     match v {
         Verdict::Refused(r) => Matching::Refused(r),
         Verdict::Good => Matching::Found(matcher::answers::match_row(
@@ -45,7 +47,7 @@ pub fn match_row(
             tests,
             edges,
             operands,
-            row,
+            at,
         )),
     }
 }

@@ -7,7 +7,7 @@ use mathlib.Core.Path.{_≡_, refl}
 use mathlib.Core.List.{List, [], _∷_}
 use lib.ListN.{length}
 use Rattle.basics.specs.Memory.{Put}
-use Rattle.figures.specs.Text.{bytes}
+use Rattle.basics.specs.Text.{bytes}
 use Rattle.listing.specs.declared.lines.Column.{Column}
 use Rattle.listing.specs.declared.lines.Column.the-variants.{Answers, Values}
 use Rattle.listing.specs.Listing.{word, letter, wordOf, highest}

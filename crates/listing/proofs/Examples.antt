@@ -3,7 +3,7 @@ use mathlib.Core.Path.{_≡_, refl}
 use mathlib.Core.List.{[], _∷_}
 use Rattle.basics.specs.Words.{count}
 use Rattle.alf.specs.TableT as T
-use Rattle.figures.specs.Text.{bytes, joined}
+use Rattle.basics.specs.Text.{bytes, joined}
 use Rattle.figures.specs.Numbers.{digits, widthUpTo, width, decimal}
 use Rattle.listing.specs.Listing.{word, letter, wordOf, line, lines, howMany, lastLine}
 use Rattle.listing.specs.Listing.{listing, valuesListing}

@@ -11,7 +11,7 @@ use Rattle.basics.specs.Words.{if_then_else_, count}
 use Rattle.basics.specs.Memory.{Room}
 use Rattle.basics.proofs.Counts.{count-next, count-small}
 use Rattle.basics.proofs.PartByPart.{Going, going-start}
-use Rattle.figures.specs.Text.{bytes, joined}
+use Rattle.basics.specs.Text.{bytes, joined}
 use Rattle.figures.specs.Numbers.{decimal}
 use Rattle.figures.specs.Inner.{Wide}
 use Rattle.figures.proofs.Digits.{decimal-length}

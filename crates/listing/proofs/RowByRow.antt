@@ -11,7 +11,7 @@ use lib.ListN.{length, getD, drop, length-append, drop-of-length-le}
 use lib.Seq.{drop-cons}
 use Rattle.basics.specs.Memory.{Put, Room}
 use Rattle.basics.proofs.PartByPart.{Going, going-start, going-room, going-parts, going-end}
-use Rattle.figures.specs.Text.{bytes, joined}
+use Rattle.basics.specs.Text.{bytes, joined}
 use Rattle.figures.specs.Numbers.{decimal}
 use Rattle.figures.specs.Inner.{Wide}
 use Rattle.figures.proofs.Digits.{decimal-length}

@@ -8,7 +8,7 @@ use mathlib.Core.Path.{_≡_, refl, ap}
 use mathlib.Core.List.{List, [], _∷_, _++_, append-nil}
 use lib.ListN.{length, length-append}
 use Rattle.basics.proofs.PartByPart.{Going, going-start}
-use Rattle.figures.specs.Text.{bytes, joined}
+use Rattle.basics.specs.Text.{bytes, joined}
 use Rattle.listing.specs.declared.lines.Column.the-variants.{Answers, Values}
 use Rattle.listing.specs.declared.totals.Tally.{Tally}
 use Rattle.listing.specs.Listing.{lines, lastLine, listing, valuesListing}

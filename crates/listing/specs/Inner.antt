@@ -1,7 +1,6 @@
 -- What the functions inside ask and give.
 --   Sized              the length of a text
---   CodesTo            the first code that has no word
---   Listable           lists that pass 18 and 15
+--   Listable           times, and codes that have a word
 --   Wording, Lining    a word, a line, all lines have room
 --   Tallied            how many answers are yes, no, unknown
 use Prim.Native.Nat.{ℕ, _<_, _≤_}
@@ -19,13 +18,7 @@ pub record Sized (w : List ℕ) (most r : ℕ) : Type 0 where
   pub is : r ≡ length w
   pub few : r ≤ most
 
--- r is the place of the first code above `most`, or how many codes there are
-pub record CodesTo (most : ℕ) (codes : List ℕ) (r : ℕ) : Type 0 where
-  pub high : r ≤ length codes
-  pub good : (i : ℕ) → i < r → getD codes i 0 ≤ most
-  pub bad : r < length codes → most < getD codes r 0
-
--- the lists pass 18 and 15
+-- as many codes as times, and each has a word
 pub record Listable (most : ℕ) (times codes : List ℕ) : Type 0 where
   pub lists : Lists (length times) (length codes)
   pub good : (i : ℕ) → i < length codes → getD codes i 0 ≤ most

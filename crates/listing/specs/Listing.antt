@@ -5,8 +5,8 @@
 --   word, letter, wordOf, highest    what a line tells behind the time
 --   line, lines, lastLine            a row's line, all rows' lines, the totals
 --   howMany                          how many answers have a number
---   listing, valuesListing           the whole (listingOf: by the column)
--- Case 1's listing and case 8's values are computed in proofs/Examples.antt, byte for byte.
+--   listing, valuesListing           the whole
+-- Case 1's listing and case 8's values are computed as examples, byte for byte.
 use Prim.Native.Nat.{ℕ}
 use mathlib.Core.List.{List, [], _∷_, _++_}
 use lib.Dec.{eqb}
@@ -14,7 +14,7 @@ use lib.ListN.{length, getD}
 use Rattle.basics.specs.Words.{count}
 use Rattle.listing.specs.declared.lines.Column.{Column}
 use Rattle.listing.specs.declared.lines.Column.the-variants.{Answers, Values}
-use Rattle.figures.specs.Text.{bytes, joined}
+use Rattle.basics.specs.Text.{bytes, joined}
 use Rattle.figures.specs.Numbers.{decimal}
 
 -- an answer's word, by document 01's number of the answer
@@ -63,8 +63,3 @@ listing times answers =
 
 unfoldable pub valuesListing : List ℕ → List ℕ → List ℕ
 valuesListing times values = joined (bytes "time value\n" ∷ lines Values times values ∷ [])
-
--- the listing by what it tells of each row
-unfoldable pub listingOf : Column → List ℕ → List ℕ → List ℕ
-listingOf Answers times answers = listing times answers
-listingOf Values times values = valuesListing times values

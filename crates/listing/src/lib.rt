@@ -1,4 +1,4 @@
 // The listing of a pattern's answers, and that of an expression's values, each into a lent buffer.
-mod lines;
+pub mod lines;
 pub mod listings;
 mod totals;

@@ -52,7 +52,7 @@ fn put_word(a: u8, out: &mut [u8], at: usize) -> usize
 }
 
 // The letter of a state.
-fn letter_of(s: u8) -> u8
+pub fn letter_of(s: u8) -> u8
     requires { ⌜ s ≤ 7 ⌝ }
     ensures { λ r. ⌜ r ≡ letter s ⌝ }
 {
@@ -82,7 +82,7 @@ fn put_code(column: Column, a: u8, out: &mut [u8], at: usize) -> usize
 }
 
 // The time of a row.
-fn stamp_of(times: &[u32], row: RowNo) -> Stamp
+pub fn stamp_of(times: &[u32], row: RowNo) -> Stamp
     requires { ⌜ row .0 < length (now times) ⌝ }
     ensures { λ r. ⌜ r .0 ≡ getD (now (times .entry)) (row .0) 0 ⌝ }
 {

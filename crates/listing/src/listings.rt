@@ -1,10 +1,9 @@
 // Document 01's listing of a pattern's answers, and that of an expression's values, each into a lent buffer.
-ghost use mathlib.Core.Path.{_≡_};
 ghost use Rattle.basics.specs.Deciding.{Decides};
 ghost use Rattle.figures.specs.Delivering.{Delivers};
-ghost use Rattle.listing.specs.Listing.{highest, listing, valuesListing, listingOf};
-ghost use Rattle.listing.specs.Calls.{Lists, ListsCodes, ListsText, ValuesText};
-ghost use Rattle.listing.specs.Inner.{CodesTo, Listable};
+ghost use Rattle.listing.specs.Listing.{listing, valuesListing};
+ghost use Rattle.listing.specs.Calls.{Lists, ValuesText};
+ghost use Rattle.listing.specs.Inner.{Listable};
 use crate::lines::Column;
 use crate::lines::lines_size;
 use crate::lines::put_lines;
@@ -14,6 +13,7 @@ use crate::totals::put_last;
 use basics::Outcome;
 use basics::puts::put;
 use basics::refusing::refuse;
+use states::codes::first_bad_code;
 
 // Whether there are 1 to 65,535 times, and as many codes.
 fn lists_fit(times: usize, codes: usize) -> bool
@@ -31,32 +31,9 @@ fn lists_fit(times: usize, codes: usize) -> bool
     true
 }
 
-// The place of the first code above `most`, or how many there are.
-fn first_bad(most: u8, codes: &[u8]) -> usize
-    ensures { λ r. ⌜ CodesTo most (now (codes .entry)) r ⌝ }
-{
-    let mut i = 0;
-    while i < codes.len() {
-        if most < codes[i] {
-            return i;
-        }
-        i += 1;
-    }
-    i
-}
-
-// The highest number that has a word.
-fn highest_of(column: Column) -> u8
-    ensures { λ r. ⌜ r ≡ highest column ⌝ }
-{
-    match column {
-        Column::Answers => 3,
-        Column::Values => 7,
-    }
-}
-
-// The listing of lists that are known to be good, if there is room.
-fn write_listing(times: &[u32], answers: &[u8], out: &mut [u8]) -> Outcome
+// The listing of answers that are known to be good, a line for each row with its time and its answer; refused with 9.
+// No public call of the library: the answers handed in are those that a call has found (tree_listings).
+pub fn write_listing(times: &[u32], answers: &[u8], out: &mut [u8]) -> Outcome
     requires { ⌜ Listable 3 (now times) (now answers) ⌝ }
     ensures { λ r. ⌜ Delivers (listing (now (times .entry)) (now (answers .entry))) (now (out .entry))
         (now (out .exit)) r ⌝ }
@@ -72,7 +49,7 @@ fn write_listing(times: &[u32], answers: &[u8], out: &mut [u8]) -> Outcome
     Outcome::Done(size)
 }
 
-// The values of lists that are known to be good, if there is room.
+// The listing of values that are known to be good; refused with 9.
 fn write_values(times: &[u32], values: &[u8], out: &mut [u8]) -> Outcome
     requires { ⌜ Listable 7 (now times) (now values) ⌝ }
     ensures { λ r. ⌜ Delivers (valuesListing (now (times .entry)) (now (values .entry))) (now (out .entry))
@@ -87,47 +64,18 @@ fn write_values(times: &[u32], values: &[u8], out: &mut [u8]) -> Outcome
     Outcome::Done(size)
 }
 
-// The listing of lists that are known to be good, by what it tells.
-fn write_codes(column: Column, times: &[u32], codes: &[u8], out: &mut [u8]) -> Outcome
-    requires { ⌜ Listable (highest column) (now times) (now codes) ⌝ }
-    ensures { λ r. ⌜ Delivers (listingOf column (now (times .entry)) (now (codes .entry))) (now (out .entry))
-        (now (out .exit)) r ⌝ }
-{
-    match column {
-        Column::Answers => write_listing(times, codes, out),
-        Column::Values => write_values(times, codes, out),
-    }
-}
-
-// A listing of whatever is handed in. Refused with 18, 15 or 9.
-fn list_codes(column: Column, times: &[u32], codes: &[u8], out: &mut [u8]) -> Outcome
-    ensures { λ r. ⌜ ListsCodes (highest column) (listingOf column (now (times .entry)) (now (codes .entry)))
-        (now (times .entry)) (now (codes .entry)) (now (out .entry)) (now (out .exit)) r ⌝ }
-{
-    if !lists_fit(times.len(), codes.len()) {
-        return refuse(18, 0);
-    }
-    let bad = first_bad(highest_of(column), codes);
-    if bad < codes.len() {
-        return refuse(15, bad);
-    }
-    write_codes(column, times, codes, out)
-}
-
-// A line for each row with its time and its answer, given as document 01's number; the length of all. Refused with 18,
-// 15 or 9.
-pub fn list(times: &[u32], answers: &[u8], out: &mut [u8]) -> Outcome
-    ensures { λ r. ⌜ ListsText (now (times .entry)) (now (answers .entry)) (now (out .entry))
-        (now (out .exit)) r ⌝ }
-{
-    list_codes(Column::Answers, times, answers, out)
-}
-
 // A line for each row with its time and the letter of a value, given as document 01's code; the length of all. Refused
 // with 18, 15 or 9.
 pub fn list_values(times: &[u32], values: &[u8], out: &mut [u8]) -> Outcome
     ensures { λ r. ⌜ ValuesText (now (times .entry)) (now (values .entry)) (now (out .entry))
         (now (out .exit)) r ⌝ }
 {
-    list_codes(Column::Values, times, values, out)
+    if !lists_fit(times.len(), values.len()) {
+        return refuse(18, 0);
+    }
+    let bad = first_bad_code(values);
+    if bad < values.len() {
+        return refuse(15, bad);
+    }
+    write_values(times, values, out)
 }

@@ -10,16 +10,15 @@ use native.Mathlib.Omega.{arith}
 use lib.Dec.{eqb}
 use lib.ListN.{length, set}
 use Rattle.alf.specs.declared.Answer.{Answer}
-use Rattle.alf.specs.declared.Answer.the-variants.{No, Yes, Unknown}
 use Rattle.basics.specs.Words.{if_then_else_, count, listed}
 use Rattle.alf.specs.Expressions.{Boolean}
-use Rattle.alf.specs.Windows.{numberOf}
-use Rattle.alf.specs.Alternatives.{Alternative}
+use Rattle.alf.specs.Answers.{numberOf}
+use Rattle.alf.specs.Alternatives.{Alternative, answerOf}
 use Rattle.alf.specs.Alternatives as alternatives
 use Rattle.basics.proofs.Counts.{count-next, count-small}
 use Rattle.evaluator.specs.Rows.{Within}
 use Rattle.matcher.specs.Answers.{RowAsked, Matches}
-use Rattle.matcher.specs.Tables.{Rows, RowsAsked, numberAt, Filled, totalOf, Totals}
+use Rattle.matcher.specs.Tables.{Rows, RowsAsked, Filled, totalOf, TotalsOf}
 use Rattle.basics.proofs.Stores.{Writing, writing-first, writing-length}
 use Rattle.basics.proofs.Listed.{ruling-next-front, ruling-front}
 
@@ -43,7 +42,7 @@ row-asked i a h = record { shape = a .shape; rows = row-within i (a .rows) h }
 
 module _ (st : Boolean → ℕ → ℕ) (xs : List Alternative) where
   pub record Filling (n : ℕ) (answers₀ tried₀ answers tried : List ℕ) (i : ℕ) : Type 0 where
-    pub answered : Writing answers₀ 0 (listed 0 n (numberAt st xs)) answers i
+    pub answered : Writing answers₀ 0 (listed 0 n (answerOf st xs)) answers i
     pub counted : Writing tried₀ 0 (listed 0 n (alternatives.tries st xs)) tried i
 
 module _ {st : Boolean → ℕ → ℕ} {xs : List Alternative} {n : ℕ} {answers₀ tried₀ : List ℕ} where
@@ -61,7 +60,7 @@ module _ {st : Boolean → ℕ → ℕ} {xs : List Alternative} {n : ℕ} {answe
         → Filling st xs n answers₀ tried₀ (set answers i v) (set tried i k) (i + 1)
     filling-next l m e =
         record {
-          answered = ruling-next-front _ (g .answered) l (e ∙ ap numberOf (m .is));
+          answered = ruling-next-front _ (g .answered) l (e ∙ m .is);
           counted = ruling-next-front _ (g .counted) l (m .count);
         }
 
@@ -73,12 +72,12 @@ module _ {st : Boolean → ℕ → ℕ} {xs : List Alternative} {n : ℕ} {answe
 -- the totals of the rows before i
 pub record Counting (st : Boolean → ℕ → ℕ) (xs : List Alternative) (n yes no unknown i : ℕ) : Type 0 where
   pub within : i ≤ n
-  pub yeses : yes ≡ totalOf st xs i Yes
-  pub noes : no ≡ totalOf st xs i No
-  pub unknowns : unknown ≡ totalOf st xs i Unknown
+  pub yeses : yes ≡ totalOf st xs i 1
+  pub noes : no ≡ totalOf st xs i 0
+  pub unknowns : unknown ≡ totalOf st xs i 2
 
-module _ (st : Boolean → ℕ → ℕ) (xs : List Alternative) (i : ℕ) (a : Answer) where
-  total-next : totalOf st xs (i + 1) a ≡ totalOf st xs i a + (if eqb (numberAt st xs i) (numberOf a) then 1 else 0)
+module _ (st : Boolean → ℕ → ℕ) (xs : List Alternative) (i a : ℕ) where
+  total-next : totalOf st xs (i + 1) a ≡ totalOf st xs i a + (if eqb (answerOf st xs i) a then 1 else 0)
   unfolding totalOf
   total-next = count-next i _
 
@@ -94,25 +93,24 @@ module _ {st : Boolean → ℕ → ℕ} {xs : List Alternative} {n : ℕ} where
   module _ {y₀ f₀ u₀ i : ℕ} (g : Counting st xs n y₀ f₀ u₀ i) where
     pub counted-small : (y₀ ≤ i) × (f₀ ≤ i) × (u₀ ≤ i)
     counted-small = (
-      omega (arith, g .yeses, total-small st xs i Yes),
-      omega (arith, g .noes, total-small st xs i No),
-      omega (arith, g .unknowns, total-small st xs i Unknown),
+      omega (arith, g .yeses, total-small st xs i 1),
+      omega (arith, g .noes, total-small st xs i 0),
+      omega (arith, g .unknowns, total-small st xs i 2),
     )
 
-    pub counting-next : {y f u : ℕ} (v : ℕ) → i < n → v ≡ numberAt st xs i
+    pub counting-next : {y f u : ℕ} (v : ℕ) → i < n → v ≡ answerOf st xs i
         → y ≡ (if eqb v 1 then 1 else 0)
         → f ≡ (if eqb v 0 then 1 else 0) → u ≡ (if eqb v 2 then 1 else 0)
         → Counting st xs n (y₀ + y) (f₀ + f) (u₀ + u) (i + 1)
-    unfolding numberOf
     counting-next v l e a b c =
         record {
           within = omega arith;
-          yeses = omega (arith, g .yeses, total-next st xs i Yes, rw e at a);
-          noes = omega (arith, g .noes, total-next st xs i No, rw e at b);
-          unknowns = omega (arith, g .unknowns, total-next st xs i Unknown, rw e at c);
+          yeses = omega (arith, g .yeses, total-next st xs i 1, rw e at a);
+          noes = omega (arith, g .noes, total-next st xs i 0, rw e at b);
+          unknowns = omega (arith, g .unknowns, total-next st xs i 2, rw e at c);
         }
 
-    pub counting-end : n ≤ i → Totals st xs n y₀ f₀ u₀
+    pub counting-end : n ≤ i → TotalsOf st xs n y₀ f₀ u₀
     counting-end h =
         let e : i ≡ n = omega (arith, g .within) in
         record { yeses = rw e at (g .yeses); noes = rw e at (g .noes); unknowns = rw e at (g .unknowns) }

@@ -14,18 +14,19 @@ use Rattle.alf.specs.declared.Answer.{Answer}
 use Rattle.alf.specs.declared.Answer.the-variants.{Yes, NoEvent}
 use Rattle.basics.specs.Words.{leastOf, greatestOf}
 use Rattle.alf.specs.Expressions.{Boolean}
-use Rattle.alf.specs.Windows.{named}
+use Rattle.alf.specs.Windows.{numbered}
+use Rattle.alf.specs.Answers.{numberOf}
 use Rattle.alf.specs.Alternatives.{Test, Alternative, testAt, stepAt, stepsFrom, atRow, bestOf, answerOf, tried, tries}
 use Rattle.basics.proofs.Extremes.{leastOf-small}
 use Rattle.alf.proofs.Steps.{steps-small}
 use Rattle.alf.proofs.RowsAreAlternatives.{row-on}
-use Rattle.evaluator.proofs.RowAnswers.{named-yes}
+use Rattle.evaluator.proofs.RowAnswers.{numbered-yes}
 use Rattle.alternatives.specs.InMemory.{cut, sum, stepIn, alternativeIn}
 use Rattle.matcher.specs.Answers.{Matches}
 use Rattle.alternatives.proofs.Cuts.{part, part-first, part-next, part-last, cut-at, cut-length, sum-next}
 
-yes-named : (r : ℕ) → 2 ≤ r → Yes ≡ named r
-yes-named r h = named-yes r (λ e. omega arith) (λ e. omega arith)
+yes-numbered : (r : ℕ) → 2 ≤ r → 1 ≡ numbered r
+yes-numbered r h = numbered-yes r (λ e. omega arith) (λ e. omega arith)
 
 -- Of the n tests from t on the first i are asked: with those that are left, `least` comes to the least of all.
 pub record Asking (st : Boolean → ℕ → ℕ) (all : List Test) (t n a least i : ℕ) : Type 0 where
@@ -120,7 +121,7 @@ module _ (st : Boolean → ℕ → ℕ) (row : ℕ) (xs : List Alternative) wher
     pub best : max b (greatestOf (atRow st row) rest) ≡ bestOf st xs row
     pub count : k + tried (map (atRow st row) rest) ≡ tried (map (atRow st row) xs)
 
-  answered : (i : ℕ) → 0 < i → (a : Answer) → a ≡ named (bestOf st xs i) → a ≡ answerOf st xs i
+  answered : (i : ℕ) → 0 < i → (a : ℕ) → a ≡ numbered (bestOf st xs i) → a ≡ answerOf st xs i
   unfolding answerOf
   answered zero h a e = absurd (omega arith)
   answered (suc i) h a e = e
@@ -131,7 +132,7 @@ module _ (st : Boolean → ℕ → ℕ) (row : ℕ) (xs : List Alternative) wher
   counted (suc i) h k e = e
 
   pub no-event : row ≡ 0 → Matches st xs row NoEvent 0
-  unfolding answerOf tries
+  unfolding answerOf tries numberOf
   no-event e = record { is = rw e refl; count = rw e refl }
 
   pub trying-first : Trying xs 0 0
@@ -147,14 +148,18 @@ module _ (st : Boolean → ℕ → ℕ) (row : ℕ) (xs : List Alternative) wher
         record { best = omega arith; count = omega arith }
 
     pub trying-yes : 0 < row → atRow st row x ≡ 2 → Matches st xs row Yes (k + 1)
-    unfolding greatestOf tried
+    unfolding greatestOf tried numberOf
     trying-yes h e =
         let f = before .best in
         let i = rw (eq-eqb (atRow st row x) 2 e) at (before .count) in
-        record { is = answered row h Yes (yes-named _ (omega arith)); count = counted row h (k + 1) i }
+        record { is = answered row h 1 (yes-numbered _ (omega arith)); count = counted row h (k + 1) i }
 
-  pub trying-end : {k b : ℕ} → Trying [] k b → 0 < row → Matches st xs row (named b) k
+  pub trying-end : {k b : ℕ} {a : Answer} → Trying [] k b → 0 < row → numberOf a ≡ numbered b
+      → Matches st xs row a k
   unfolding greatestOf tried
-  trying-end t h =
+  trying-end t h n =
       let e = t .best in
-      record { is = answered row h _ (ap named (omega arith)); count = counted row h _ (omega (arith, t .count)) }
+      record {
+        is = answered row h _ (n ∙ ap numbered (omega arith));
+        count = counted row h _ (omega (arith, t .count));
+      }

@@ -12,7 +12,9 @@ use lib.Seq.{drop-drop}
 use Rattle.alf.specs.declared.Answer.the-variants.{Yes}
 use Rattle.alf.specs.Expressions.{Boolean}
 use Rattle.alf.specs.Values.{stateAt}
-use Rattle.alf.specs.Windows.{named}
+use Rattle.alf.specs.declared.Answer.{Answer}
+use Rattle.alf.specs.Windows.{numbered}
+use Rattle.alf.specs.Answers.{numberOf}
 use Rattle.alf.specs.Alternatives.{Test, atRow}
 use Rattle.alternatives.specs.InMemory.{cut, testsOf, sum, alternativeIn, alternativesIn, alternativesOf}
 use Rattle.matcher.specs.Answers.{AlternativeAsked, RowAsked, Matches}
@@ -86,7 +88,7 @@ module _ {tree : List ℕ} {names : ℕ} {states steps tests edges operands : Li
                 rw e (trying-more st row _ before (λ z. n (e ∙ z)));
           }
 
-    pub walking-end : length steps ≤ k → 0 < row
-        → Matches st (alternativesOf tree names steps tests edges operands) row (named b) k
+    pub walking-end : {a : Answer} → length steps ≤ k → 0 < row → numberOf a ≡ numbered b
+        → Matches st (alternativesOf tree names steps tests edges operands) row a k
     unfolding alternativesOf
-    walking-end h l = trying-end st row _ (rw (drop-of-length-le steps h, cut-none) at (g .trying)) l
+    walking-end h l n = trying-end st row _ (rw (drop-of-length-le steps h, cut-none) at (g .trying)) l n

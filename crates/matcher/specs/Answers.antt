@@ -8,6 +8,7 @@ use mathlib.Core.List.{List}
 use lib.ListN.{length, drop}
 use Rattle.alf.specs.declared.Answer.{Answer}
 use Rattle.alf.specs.Expressions.{Boolean}
+use Rattle.alf.specs.Answers.{numberOf}
 use Rattle.alf.specs.Alternatives.{Alternative, answerOf}
 use Rattle.alf.specs.Alternatives as alternatives
 use Rattle.trees.specs.Parts.{EndsBoolean}
@@ -46,5 +47,5 @@ pub record EventAsked (tree : List ℕ) (names : ℕ) (states steps tests edges 
 -- the answer of some alternatives at a row, and the number tried
 pub record Matches (st : Boolean → ℕ → ℕ) (xs : List Alternative) (row : ℕ) (answer : Answer) (tried : ℕ)
     : Type 0 where
-  pub is : answer ≡ answerOf st xs row
+  pub is : numberOf answer ≡ answerOf st xs row
   pub count : tried ≡ alternatives.tries st xs row

@@ -1,17 +1,14 @@
 -- What is promised of all rows: the list of answers by document 01's numbers, the list of numbers tried, the totals.
 --   Rows, RowsAsked, FillAsked     what is asked
---   numberAt, Filled               the lists
---   totalOf, Totals                the totals
+--   Filled                         the lists
+--   totalOf, TotalsOf              the totals
 use Prim.Native.Nat.{ℕ, _*_, _<_, _≤_}
 use mathlib.Core.Path.{_≡_}
 use mathlib.Core.List.{List}
 use lib.Dec.{eqb}
 use lib.ListN.{length, getD}
-use Rattle.alf.specs.declared.Answer.{Answer}
-use Rattle.alf.specs.declared.Answer.the-variants.{No, Yes, Unknown}
 use Rattle.basics.specs.Words.{count, listed}
 use Rattle.alf.specs.Expressions.{Boolean}
-use Rattle.alf.specs.Windows.{numberOf}
 use Rattle.alf.specs.Alternatives.{Alternative, answerOf, tries}
 use Rattle.alternatives.specs.InMemory.{Shape}
 use Rattle.basics.specs.Memory.{front}
@@ -37,22 +34,18 @@ pub record FillAsked (tree : List ℕ) (names : ℕ) (states steps tests edges o
   pub room : n ≤ length answers
   pub space : n ≤ length tried
 
--- the number of row i's answer
-abbrev pub numberAt : (Boolean → ℕ → ℕ) → List Alternative → ℕ → ℕ
-numberAt st xs = λ i. numberOf (answerOf st xs i)
-
 -- of n rows: each one's answer and number tried; what stands behind them stays
 pub record Filled (st : Boolean → ℕ → ℕ) (xs : List Alternative) (n : ℕ)
     (answers tried answers′ tried′ : List ℕ)
     : Type 0 where
-  pub answered : answers′ ≡ front (listed 0 n (numberAt st xs)) answers
+  pub answered : answers′ ≡ front (listed 0 n (answerOf st xs)) answers
   pub counted : tried′ ≡ front (listed 0 n (tries st xs)) tried
 
--- how many of n rows have an answer
-unfoldable pub totalOf : (Boolean → ℕ → ℕ) → List Alternative → ℕ → Answer → ℕ
-totalOf st xs n a = count n (λ i. eqb (numberAt st xs i) (numberOf a))
+-- how many of n rows have an answer, by its number
+unfoldable pub totalOf : (Boolean → ℕ → ℕ) → List Alternative → ℕ → ℕ → ℕ
+totalOf st xs n a = count n (λ i. eqb (answerOf st xs i) a)
 
-pub record Totals (st : Boolean → ℕ → ℕ) (xs : List Alternative) (n yes no unknown : ℕ) : Type 0 where
-  pub yeses : yes ≡ totalOf st xs n Yes
-  pub noes : no ≡ totalOf st xs n No
-  pub unknowns : unknown ≡ totalOf st xs n Unknown
+pub record TotalsOf (st : Boolean → ℕ → ℕ) (xs : List Alternative) (n yes no unknown : ℕ) : Type 0 where
+  pub yeses : yes ≡ totalOf st xs n 1
+  pub noes : no ≡ totalOf st xs n 0
+  pub unknowns : unknown ≡ totalOf st xs n 2

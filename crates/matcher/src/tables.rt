@@ -3,10 +3,11 @@ ghost use mathlib.Core.Path.{_≡_};
 ghost use lib.Dec.{eqb};
 ghost use Rattle.basics.specs.Words.{if_then_else_};
 ghost use Rattle.alf.specs.Values.{stateAt};
-ghost use Rattle.alf.specs.Windows.{numberOf};
+ghost use Rattle.alf.specs.Answers.{numberOf};
+ghost use Rattle.alf.specs.Alternatives.{answerOf};
 ghost use Rattle.alternatives.specs.InMemory.{alternativesOf};
 ghost use Rattle.matcher.specs.Answers.{RowAsked};
-ghost use Rattle.matcher.specs.Tables.{RowsAsked, FillAsked, numberAt, Filled, Totals};
+ghost use Rattle.matcher.specs.Tables.{RowsAsked, FillAsked, Filled, TotalsOf};
 use crate::answers::match_row;
 use alf::Answer;
 
@@ -41,7 +42,7 @@ pub fn number_at(
     row: usize,
 ) -> u8
     requires { ⌜ RowAsked (now tree) names (now states) (now steps) (now tests) (now edges) (now operands) row ⌝ }
-    ensures { λ r. ⌜ r ≡ numberAt (stateAt names (now (states .entry)))
+    ensures { λ r. ⌜ r ≡ answerOf (stateAt names (now (states .entry)))
         (alternativesOf (now (tree .entry)) names (now (steps .entry)) (now (tests .entry)) (now (edges .entry))
         (now (operands .entry))) row ⌝ }
 {
@@ -99,7 +100,7 @@ pub fn totals(
     n: usize,
 ) -> Total
     requires { ⌜ RowsAsked (now tree) names (now states) (now steps) (now tests) (now edges) (now operands) n ⌝ }
-    ensures { λ r. ⌜ Totals (stateAt names (now (states .entry)))
+    ensures { λ r. ⌜ TotalsOf (stateAt names (now (states .entry)))
         (alternativesOf (now (tree .entry)) names (now (steps .entry)) (now (tests .entry)) (now (edges .entry))
         (now (operands .entry))) n (r .yes) (r .no) (r .unknown) ⌝ }
 {

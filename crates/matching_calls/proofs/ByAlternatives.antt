@@ -12,12 +12,11 @@ use lib.ListN.{length, take}
 use Rattle.alf.specs.declared.Answer.{Answer}
 use Rattle.basics.specs.Words.{listed, greatestOf}
 use Rattle.alf.specs.Values.{stateAt}
-use Rattle.alf.specs.Windows.{numberOf}
-use Rattle.alf.specs.Alternatives.{Alternative, alternatives, tries, stepsOf}
+use Rattle.alf.specs.Alternatives.{Alternative, alternatives, tries, stepsOf, answerOf}
 use Rattle.alf.proofs.RowsAreAlternatives.{same-answer}
 use Rattle.alternatives.specs.InMemory.{alternativesOf}
 use Rattle.matcher.specs.Answers.{Matches}
-use Rattle.matcher.specs.Tables.{numberAt, Filled, Totals}
+use Rattle.matcher.specs.Tables.{Filled, TotalsOf}
 use Rattle.basics.specs.Memory.{front}
 use Rattle.basics.proofs.Stores.{front-whole}
 use Rattle.basics.proofs.Listed.{listed-length}
@@ -32,9 +31,9 @@ all-written : (n : ℕ) (f : ℕ → ℕ) (l : List ℕ) → length l ≡ n → 
 all-written n f l e = front-whole l (listed 0 n f) (listed-length 0 n f ∙ sym e)
 
 pub answers-on : (names : ℕ) (tree states : List ℕ)
-    → numberAt (stateAt names states) (alternatives (expression tree names)) ≡ answersOn names tree states
+    → answerOf (stateAt names states) (alternatives (expression tree names)) ≡ answersOn names tree states
 answers-on names tree states =
-    fun-ext (λ i. ap numberOf (sym (same-answer (stateAt names states) (expression tree names) i)))
+    fun-ext (λ i. sym (same-answer (stateAt names states) (expression tree names) i))
 
 module _ {names : ℕ} {tree : List ℕ} {a : Alternatives} (h : Holds tree names a) where
   abbrev pub xs : List Alternative
@@ -51,9 +50,9 @@ module _ {names : ℕ} {tree : List ℕ} {a : Alternatives} (h : Holds tree name
         count = m .count ∙ ap (λ (ys : List Alternative). tries (stateAt names states) ys row) (h .stands);
       }
 
-  pub numbers-on : (states : List ℕ) → numberAt (stateAt names states) xs ≡ answersOn names tree states
+  pub numbers-on : (states : List ℕ) → answerOf (stateAt names states) xs ≡ answersOn names tree states
   numbers-on states =
-      ap (λ (ys : List Alternative). numberAt (stateAt names states) ys) (h .stands) ∙ answers-on names tree states
+      ap (λ (ys : List Alternative). answerOf (stateAt names states) ys) (h .stands) ∙ answers-on names tree states
 
   pub tree-fills : {states answers tried answers′ tried′ : List ℕ} {n : ℕ} → length answers ≡ n
       → length tried ≡ n
@@ -69,7 +68,7 @@ module _ {names : ℕ} {tree : List ℕ} {a : Alternatives} (h : Holds tree name
             ∙ ap (λ (ys : List Alternative). listed 0 n (tries (stateAt names states) ys)) (h .stands);
       }
 
-  pub tree-totals : (states : List ℕ) {n y f u : ℕ} → Totals (stateAt names states) xs n y f u
+  pub tree-totals : (states : List ℕ) {n y f u : ℕ} → TotalsOf (stateAt names states) xs n y f u
       → TotalsTree names n tree states y f u
   tree-totals states t = totals-windows (stateAt names states) (expression tree names) (h .stands) t
 

@@ -2,6 +2,7 @@
 -- alternatives tried; at a row, at all rows; the totals.
 --   expression, answersOn, triesOn        a tree's expression, its answers at the rows, the numbers tried
 --   MatchesTree, Finds, RowMatch          a row
+--   FoundAs                               a result that is the answer with a number, and the number tried
 --   FillsTree, AllMatched                 all rows, in lent lists
 --   TotalsTree, Counts, RowTotals         the totals
 --   TreeRow, TreeRows, TreeLists          what is asked once the lists and the tree are good
@@ -15,10 +16,11 @@ use Rattle.basics.specs.declared.Outcome.{Outcome}
 use Rattle.basics.specs.Words.{listed}
 use Rattle.alf.specs.Expressions.{Vector}
 use Rattle.alf.specs.Values.{stateAt}
-use Rattle.alf.specs.Windows.{rowAnswer, numberOf}
+use Rattle.alf.specs.Windows.{rowAnswer}
+use Rattle.alf.specs.Answers.{numberOf}
 use Rattle.alf.specs.Alternatives.{alternatives, tries}
 use Rattle.alf.specs.Traces.{Totals}
-use Rattle.alf.specs.Refusals.{Order, RefusedWith, Passed, Comes}
+use Rattle.alf.specs.Refusals.{Order, RefusedBy, Passed, Comes}
 use Rattle.trees.specs.Parts.{vectorAt}
 use Rattle.acceptance.specs.Accepted.{Accepted}
 use Rattle.evaluator.specs.Rows.{Within}
@@ -36,19 +38,25 @@ expression tree names = vectorAt tree names (length tree)
 
 -- the number of its answer at each row of a trace, and how many of its alternatives are tried there
 abbrev pub answersOn : ℕ → List ℕ → List ℕ → ℕ → ℕ
-answersOn names tree states = λ i. numberOf (rowAnswer (stateAt names states) (expression tree names) i)
+answersOn names tree states = rowAnswer (stateAt names states) (expression tree names)
 
 abbrev pub triesOn : ℕ → List ℕ → List ℕ → ℕ → ℕ
-triesOn names tree states = λ i. tries (stateAt names states) (alternatives (expression tree names)) i
+triesOn names tree states = tries (stateAt names states) (alternatives (expression tree names))
 
 -- its answer at a row, and the number tried
 pub record MatchesTree (names : ℕ) (tree states : List ℕ) (row : ℕ) (answer : Answer) (tried : ℕ) : Type 0 where
-  pub is : answer ≡ rowAnswer (stateAt names states) (expression tree names) row
+  pub is : numberOf answer ≡ answersOn names tree states row
   pub count : tried ≡ triesOn names tree states row
 
 unfoldable pub Finds : Order → (Answer → ℕ → Type 0) → Matching → Type 0
 Finds o right (Found m) = Passed o × right (m .answer) (m .tries)
-Finds o right (Refused r) = RefusedWith o (r .number) (r .place)
+Finds o right (Refused r) = RefusedBy o r
+
+-- the answer with a number, and the number tried
+pub record FoundAs (number tried : ℕ) (x : Matching) : Type 0 where
+  pub answer : Answer
+  pub is : x ≡ Found (record { answer = answer; tries = tried })
+  pub numbered : numberOf answer ≡ number
 
 pub record RowMatch (names n : ℕ) (tree states : List ℕ) (row : ℕ) (r : Matching) : Type 0 where
   pub comes : Finds (rowOrder names n tree sort.Vector states row) (MatchesTree names tree states row) r
@@ -71,7 +79,7 @@ TotalsTree names n tree states = Totals (stateAt names states) (expression tree 
 
 unfoldable pub Counts : Order → (ℕ → ℕ → ℕ → Type 0) → Counting → Type 0
 Counts o right (counting.Counted t) = Passed o × right (t .yes) (t .no) (t .unknown)
-Counts o right (counting.Refused r) = RefusedWith o (r .number) (r .place)
+Counts o right (counting.Refused r) = RefusedBy o r
 
 pub record RowTotals (names n : ℕ) (tree states : List ℕ) (r : Counting) : Type 0 where
   pub comes : Counts (traceOrder names n tree sort.Vector states) (TotalsTree names n tree states) r

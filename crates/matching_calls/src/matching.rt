@@ -3,6 +3,7 @@ ghost use mathlib.Core.Path.{_≡_};
 ghost use Rattle.basics.specs.Deciding.{Decides};
 ghost use Rattle.matching_calls.specs.Matching.{TreeRow, TreeRows, TreeLists, MatchesTree, FillsTree, TotalsTree};
 ghost use Rattle.matching_calls.specs.Matching.{RowMatch, AllMatched, RowTotals};
+use alf::RowNo;
 use alf::Sort;
 use basics::Outcome;
 use basics::Refusal;
@@ -111,13 +112,14 @@ fn total_tree(names: usize, n: usize, tree: &[u8], states: &[u8]) -> Total
 }
 
 // The answer of a vector expression at a row, and the number of its alternatives tried.
-pub fn match_row(names: usize, n: usize, tree: &[u8], states: &[u8], row: usize) -> Matching
-    ensures { λ r. ⌜ RowMatch names n (now (tree .entry)) (now (states .entry)) row r ⌝ }
+pub fn match_row(names: usize, n: usize, tree: &[u8], states: &[u8], row: RowNo) -> Matching
+    ensures { λ r. ⌜ RowMatch names n (now (tree .entry)) (now (states .entry)) (row .0) r ⌝ }
 {
-    let v = check_row(names, n, tree, Sort::Vector, states, row);
+    let at = row.0 as usize;
+    let v = check_row(names, n, tree, Sort::Vector, states, at);
     match v {
         Verdict::Refused(r) => Matching::Refused(r),
-        Verdict::Good => Matching::Found(match_tree(names, tree, states, row)),
+        Verdict::Good => Matching::Found(match_tree(names, tree, states, at)),
     }
 }
 

@@ -1,14 +1,15 @@
 -- Document 01, refusals 18 and 12 of a list of names: what a call that is handed one checks first, in this order.
 -- What a name and a good slot are stands in alf's Names; the rows of the table stand in alf's Refusals.
 --   Slots, namesOrder          slots of 32 bytes, and the order of the checks
+--   ChecksNames                what the call comes to
 --   NameLength, Zeros, New     what the functions below it tell of a slot
 use Prim.Native.Nat.{ℕ, _%_, _/_, _<_, _≤_}
 use mathlib.Core.Path.{_≡_}
 use mathlib.Core.List.{List, [], _∷_}
 use lib.ListN.{length, take, replicate}
-use Rattle.basics.proofs.Deciding.{holds}
 use Rattle.alf.specs.Names.{untilZero, nameAt}
-use Rattle.alf.specs.Refusals.{Order, check, bad-lists, bad-slot}
+use Rattle.basics.specs.declared.Outcome.{Outcome}
+use Rattle.alf.specs.Refusals.{Order, check, bad-lists, bad-slot, Comes}
 
 -- slots of 32 bytes, 1 to 32 of them
 pub record Slots (names : List ℕ) : Type 0 where
@@ -19,6 +20,10 @@ pub record Slots (names : List ℕ) : Type 0 where
 -- 18, then 12
 abbrev pub namesOrder : List ℕ → Order
 namesOrder names = check 18 (bad-lists (Slots names)) ∷ check 12 (bad-slot names) ∷ []
+
+-- the call: how many names there are
+abbrev pub ChecksNames : List ℕ → Outcome → Type 0
+ChecksNames names = Comes (namesOrder names) (λ k. k ≡ length names / 32)
 
 -- n bytes stand before the first zero of a slot
 pub record NameLength (slot : List ℕ) (n : ℕ) : Type 0 where

@@ -3,9 +3,8 @@ ghost use mathlib.Core.Path.{_≡_};
 ghost use Prim.Native.Nat.{_+_, _*_, _/_, _<_, _≤_};
 ghost use lib.ListN.{length};
 ghost use Rattle.alf.specs.Names.{startsName, goesOnName, isName, untilZero, GoodSlot};
-ghost use Rattle.alf.specs.Refusals.{Comes};
 ghost use Rattle.basics.specs.Deciding.{Decides};
-ghost use Rattle.names.specs.Check.{NameLength, Zeros, New, namesOrder};
+ghost use Rattle.names.specs.Check.{NameLength, Zeros, New, ChecksNames};
 use basics::Outcome;
 use basics::refusing::refuse;
 
@@ -129,7 +128,7 @@ fn good_slot(names: &[u8], k: usize) -> bool
 
 // The check of a list of names: how many they are, or 18 at 0, or 12 at the first slot that is not good.
 pub fn check_names(names: &[u8]) -> Outcome
-    ensures { λ r. ⌜ Comes (namesOrder (now (names .entry))) (λ k. k ≡ length (now (names .entry)) / 32) r ⌝ }
+    ensures { λ r. ⌜ ChecksNames (now (names .entry)) r ⌝ }
 {
     let n = names.len();
     let k = n / 32;

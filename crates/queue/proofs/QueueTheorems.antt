@@ -14,6 +14,7 @@ use lib.Seq.{drop-nil}
 use Rattle.alf.specs.declared.Answer.{Answer}
 use Rattle.alf.specs.Expressions.{Boolean, Vector}
 use Rattle.alf.specs.Windows.{rowAnswer}
+use Rattle.alf.specs.Answers.{numberOf}
 use Rattle.alf.specs.Values.{state, rowOf, stateAt}
 use Rattle.alf.specs.Alternatives.{Test, test, Alternative, alternatives}
 use Rattle.basics.proofs.AllEntries.{All, none, more}
@@ -123,5 +124,5 @@ module _ {names : ℕ} {xs : List Alternative} {n : ℕ} {rows : ℕ → List �
 
   -- so, where the alternatives are those of a vector expression, it is the answer on windows
   pub queue-windows : (p : Vector) → xs ≡ alternatives p → 0 < K → (i : ℕ) → i < n
-      → answers i ≡ rowAnswer (stateAt names (fed rows (suc i))) p i
+      → numberOf (answers i) ≡ rowAnswer (stateAt names (fed rows (suc i))) p i
   queue-windows p same some i l = matches-windows (stateAt names (fed rows (suc i))) p same (queue-answers some i l)

@@ -8,8 +8,8 @@ use native.Mathlib.Omega.{arith}
 use lib.ListN.{length, getD}
 use Rattle.basics.proofs.AllEntries.{All, more}
 use Rattle.tokens.specs.Texts as text
-use Rattle.tokens.specs.Reading as reading
-use Rattle.tokens.specs.Reading.{filled}
+use Rattle.tokens.specs.Tokenizing as reading
+use Rattle.tokens.specs.Tokenizing.{filled}
 use Rattle.tokens.proofs.Filling.{filled-front}
 use Rattle.grammar.specs.declared.Token.{Token}
 use Rattle.grammar.specs.Tokens.{tokens}

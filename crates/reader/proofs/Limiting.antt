@@ -25,7 +25,7 @@ use Rattle.sorting.specs.Lookup.{countOf, numberAt}
 use Rattle.sorting.specs.Sorts.{Sorted, is, faulty, given, asked, sorted, sortedFor}
 use Rattle.sorting.specs.Passes.{isVector}
 use Rattle.reader.specs.Reads.{made, refusedBy, refusedWith, hasSort}
-use Rattle.reader.specs.Reading.{tooLarge, Reading, Clear, Unlimited, refused, unlimited}
+use Rattle.reader.specs.Reading.{tooLarge, ReadsText, Clear, Unlimited, refused, unlimited}
 use Rattle.reader.proofs.Texts.{nodes-inside}
 use Rattle.reader.proofs.Unknowns.{names-numbered}
 use Rattle.reader.proofs.TokenedTexts.{names-few}
@@ -99,10 +99,10 @@ module _ {names text : List ℕ} {sort : Sort} {x : Expression} (k : Clear names
       call-over (countOf names) (numberAt names text) sort (length text) (expression-formed (k .whole))
       (nodes-inside (k .whole) (names-numbered names text (k .tokens) (k .known))) (k .sorts)
 
-  small-read : ((p : ℕ) → tooLarge (is x) p → ⊥) → Reading names text sort (made x)
+  small-read : ((p : ℕ) → tooLarge (is x) p → ⊥) → ReadsText names text sort (made x)
   small-read h = read-clear names text sort (k .good) (k .clear) (k .read) (k .whole) (k .known) (k .sorts) h
 
-  large : (p : ℕ) → tooLarge (is x) p → Reading names text sort (refusedWith 8 p)
+  large : (p : ℕ) → tooLarge (is x) p → ReadsText names text sort (refusedWith 8 p)
   large p h = eight names text sort (k .good) (k .clear) (k .read) (k .whole) (k .known) (k .sorts) p h
 
   module _ (v : VectorOf x) where
@@ -129,7 +129,7 @@ module _ {names text : List ℕ} {sort : Sort} {x : Expression} (k : Clear names
 -- the ways of `limit`
 pub limit-refused : {names text : List ℕ} {sort : Sort} {r : Read} → Unlimited names text sort r
     → r .refused ≡ true
-    → Reading names text sort r
+    → ReadsText names text sort r
 unfolding made refusedBy
 limit-refused (refused n p h) e = h
 limit-refused (unlimited k) e = never e
@@ -147,9 +147,9 @@ left-over (refused n p h) e = never (sym e)
 left-over (unlimited {x = x} k) e = record { it = x; clear = k; is-made = refl }
 
 module _ {names text : List ℕ} {sort : Sort} {r : Read} (l : Left names text sort r) where
-  pub limit-boolean : hasSort sort false ≡ true → Reading names text sort r
+  pub limit-boolean : hasSort sort false ≡ true → ReadsText names text sort r
   limit-boolean e =
-      subst (Reading names text sort) (sym (l .is-made))
+      subst (ReadsText names text sort) (sym (l .is-made))
       (small-read (l .clear) (never-large sort (l .it) e (sort-is (l .clear))))
 
   module _ (e : hasSort sort false ≡ false) where
@@ -171,12 +171,12 @@ module _ {names text : List ℕ} {sort : Sort} {r : Read} (l : Left names text s
       by-limit : b ≡ overLimit (alternatives (it-vector .it))
       by-limit = f ∙ ap (λ (v : Vector). overLimit (alternatives v)) measured-is
 
-      pub limit-over : b ≡ true → {s : Read} → s ≡ refusedWith 8 0 → Reading names text sort s
+      pub limit-over : b ≡ true → {s : Read} → s ≡ refusedWith 8 0 → ReadsText names text sort s
       limit-over o g =
-          subst (Reading names text sort) (sym g)
+          subst (ReadsText names text sort) (sym g)
           (large (l .clear) 0 (too-large (l .clear) it-vector (sym o ∙ by-limit)))
 
-      pub limit-within : b ≡ false → Reading names text sort r
+      pub limit-within : b ≡ false → ReadsText names text sort r
       limit-within o =
-          subst (Reading names text sort) (sym (l .is-made))
+          subst (ReadsText names text sort) (sym (l .is-made))
           (small-read (l .clear) (not-large (l .clear) it-vector (sym o ∙ by-limit)))

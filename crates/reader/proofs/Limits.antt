@@ -16,8 +16,9 @@ use Rattle.alf.specs.declared.Sort.the-variants as the-sort
 use Rattle.alf.specs.Expressions.{Boolean, name, literal, negated, Vector, edge, join, while}
 use Rattle.alf.specs.Expressions.{with, or-else, on-right, on-left, Expression, boolean, vector}
 use Rattle.alf.specs.Expressions.{Over, VectorOver, ExpressionOver}
-use Rattle.alf.specs.Bytes as bytes
-use Rattle.alf.specs.Bytes.{bytesOf, empty, push, stackAt, topVector, Decodes, edgeAt, joinAt}
+use Rattle.alf.specs.Decoder as decoder
+use Rattle.alf.specs.Bytes.{bytesOf}
+use Rattle.alf.specs.Decoder.{empty, push, stackAt, topVector, Decodes, edgeAt, joinAt}
 use Rattle.alf.proofs.OperatorBytes.{edge-known}
 use Rattle.alf.proofs.Encoding.{runs, runs-stack, decode-bytes}
 use Rattle.basics.proofs.AllEntries.{All, none, more}
@@ -161,11 +162,11 @@ padded-stack n e few o =
 
 pub vector-ends : (n : ℕ) (v : Vector) → n ≤ 32 → ExpressionOver n (vector v)
     → EndsVector (padded (bytesOf (vector v))) n (length (bytesOf (vector v)))
-unfolding bytes.isVector
+unfolding decoder.isVector
 vector-ends n v few o =
     record {
       within = front-holds (replicate 256 0) (bytesOf (vector v));
-      whole = ap bytes.isVector (padded-stack n (vector v) few o);
+      whole = ap decoder.isVector (padded-stack n (vector v) few o);
     }
 
 pub vector-is : (n : ℕ) (v : Vector) → n ≤ 32 → ExpressionOver n (vector v)

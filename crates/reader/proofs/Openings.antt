@@ -13,10 +13,10 @@ use Rattle.alf.specs.Refusals.{Passed, Comes}
 use Rattle.basics.proofs.Bools.{never}
 use Rattle.names.specs.Check.{namesOrder}
 use Rattle.tokens.specs.declared.Tokens.{Tokens}
-use Rattle.tokens.specs.Reading as reading
+use Rattle.tokens.specs.Tokenizing as reading
 use Rattle.reader.specs.declared.Read.{Read}
 use Rattle.reader.specs.Reads.{refusedBy}
-use Rattle.reader.specs.Reading.{Reading, Unlimited, refused}
+use Rattle.reader.specs.Reading.{ReadsText, Unlimited, refused}
 use Rattle.reader.specs.Tokened.{Tokened}
 use Rattle.reader.proofs.Readings.{names-refused, tokens-refused}
 
@@ -24,7 +24,7 @@ use Rattle.reader.proofs.Readings.{names-refused, tokens-refused}
 pub text-refused :
     {names bytes : List ℕ} (sort : Sort) {t : Tokens} {r : Read} →
     Passed (namesOrder names) →
-    reading.Reading bytes t →
+    reading.Tokenized bytes t →
     t .refused ≡ true →
     r ≡ refusedBy (t .refusal) →
     Unlimited names bytes sort r
@@ -35,7 +35,7 @@ text-refused sort g (reading.read h r) o e = never o
 pub tokened :
     {names bytes : List ℕ} {t : Tokens} →
     Passed (namesOrder names) →
-    reading.Reading bytes t →
+    reading.Tokenized bytes t →
     t .refused ≡ false →
     Tokened names bytes t
 unfolding reading.made reading.refusedWith
@@ -48,10 +48,10 @@ pub names-wrong :
     Comes (namesOrder names) made o →
     o ≡ call.Refused f →
     r ≡ refusedBy f →
-    Reading names bytes sort r
+    ReadsText names bytes sort r
 unfolding Comes
 names-wrong names bytes made sort {f = f} h e g =
-    let k = rw e at h in subst (Reading names bytes sort) (sym g)
+    let k = rw e at h in subst (ReadsText names bytes sort) (sym g)
     (names-refused names bytes sort (f .number) (f .place) k)
 
 pub names-done :

@@ -22,26 +22,26 @@ use Rattle.sorting.specs.Sorts.{is, faulty}
 use Rattle.reader.specs.Texts.{tokensOf}
 use Rattle.reader.specs.Reads.{made, refusedWith}
 use Rattle.reader.specs.Reading.{Unknown, unsorted, tooLarge, OfTree, stuck, unknown, sortedIn, faultsIn}
-use Rattle.reader.specs.Reading.{treeOrder, Gives, Reading, refused, read}
+use Rattle.reader.specs.Reading.{treeOrder, Gives, ReadsText, refused, read}
 use Rattle.reader.proofs.Faults.{call-agree, row-seven, seven-never}
 use Rattle.alf.proofs.Orders.{refused-first, refused-then, passed-both}
 
 module _ (names text : List ℕ) (sort : Sort) where
-  pub names-refused : (n p : ℕ) → RefusedWith (namesOrder names) n p → Reading names text sort (refusedWith n p)
+  pub names-refused : (n p : ℕ) → RefusedWith (namesOrder names) n p → ReadsText names text sort (refusedWith n p)
   names-refused n p r = refused n p (refused-first (namesOrder names) _ n p r)
 
   module _ (good : Passed (namesOrder names)) where
-    pub tokens-refused : (n p : ℕ) → RefusedWith (order text) n p → Reading names text sort (refusedWith n p)
+    pub tokens-refused : (n p : ℕ) → RefusedWith (order text) n p → ReadsText names text sort (refusedWith n p)
     tokens-refused n p r =
         refused n p (refused-then (namesOrder names) _ n p good (refused-first (order text) _ n p r))
 
     module _ {ts : List Token} (clear : Passed (order text)) (r : Reads 0 text ts) where
       in-tree : (n p : ℕ) → RefusedWith (treeOrder names text sort) n p
-          → Reading names text sort (refusedWith n p)
+          → ReadsText names text sort (refusedWith n p)
       in-tree n p k =
           refused n p (refused-then (namesOrder names) _ n p good (refused-then (order text) _ n p clear k))
 
-      pub five : (p : ℕ) → stuck text ts p → Reading names text sort (refusedWith 5 p)
+      pub five : (p : ℕ) → stuck text ts p → ReadsText names text sort (refusedWith 5 p)
       unfolding RefusedWith treeOrder
       five p h = in-tree 5 p (inl (refl, record { tokens = ts; read = r; holds = h }))
 
@@ -50,7 +50,7 @@ module _ (names text : List ℕ) (sort : Sort) where
         no-five p o =
             row-never {r = accepted (nodes e)} (tree w refl) refl (rw (reads-unique (o .read) r) at (o .holds))
 
-        pub six : (p : ℕ) → unknown names text ts p → Reading names text sort (refusedWith 6 p)
+        pub six : (p : ℕ) → unknown names text ts p → ReadsText names text sort (refusedWith 6 p)
         unfolding RefusedWith treeOrder
         six p h = in-tree 6 p (inr (no-five, inl (refl, record { tokens = ts; read = r; holds = h })))
 
@@ -62,7 +62,7 @@ module _ (names text : List ℕ) (sort : Sort) where
           same-tree o = parses-unique (rw (reads-unique (o .read) r) at (o .whole)) w
 
           pub seven : (p : ℕ) → sortedIn names text sort e ≡ faulty p
-              → Reading names text sort (refusedWith 7 p)
+              → ReadsText names text sort (refusedWith 7 p)
           unfolding RefusedWith treeOrder
           seven p q =
               in-tree 7 p
@@ -89,7 +89,7 @@ module _ (names text : List ℕ) (sort : Sort) where
                 seven-never (call-agree (numberAt names text) sort (length text) e) s
                 (rw (same-tree o) at (o .holds))
 
-            pub eight : (p : ℕ) → tooLarge (is x) p → Reading names text sort (refusedWith 8 p)
+            pub eight : (p : ℕ) → tooLarge (is x) p → ReadsText names text sort (refusedWith 8 p)
             unfolding RefusedWith treeOrder
             eight p h =
                 in-tree 8 p
@@ -123,7 +123,7 @@ module _ (names text : List ℕ) (sort : Sort) where
                     small = small;
                   }
 
-              pub read-clear : Reading names text sort (made x)
+              pub read-clear : ReadsText names text sort (made x)
               unfolding Passed treeOrder
               read-clear =
                   read

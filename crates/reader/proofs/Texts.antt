@@ -21,7 +21,7 @@ use Rattle.basics.proofs.Choices.{every, every-at}
 use Rattle.basics.proofs.AllEntries.{All, none, more, all-append}
 use Rattle.tokens.specs.Texts as text
 use Rattle.tokens.specs.Texts.{Reads, done, blank, token, running, many, OfTokens}
-use Rattle.tokens.specs.Reading as reading
+use Rattle.tokens.specs.Tokenizing as reading
 use Rattle.token_steps.proofs.TokenStarts.{token-size}
 use Rattle.grammar.specs.declared.Token.{Token}
 use Rattle.grammar.specs.Tokens.{tokens, kind, kindIn, table, weight, counted}

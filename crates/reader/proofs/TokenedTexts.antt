@@ -17,8 +17,8 @@ use Rattle.names.specs.Check.{namesOrder}
 use Rattle.tokens.specs.declared.Tokens.{Tokens}
 use Rattle.tokens.specs.Texts as text
 use Rattle.tokens.specs.Texts.{Reads, order}
-use Rattle.tokens.specs.Reading as reading
-use Rattle.tokens.specs.Reading.{filled}
+use Rattle.tokens.specs.Tokenizing as reading
+use Rattle.tokens.specs.Tokenizing.{filled}
 use Rattle.tokens.proofs.Filling.{column-length, filled-at, filled-holds}
 use Rattle.tokens.proofs.Places.{reads-rising}
 use Rattle.grammar.specs.declared.Token.{Token}

@@ -26,7 +26,7 @@ use Rattle.reader.specs.declared.Read.{Read}
 use Rattle.sorting.specs.Sorts.{Sorted, is, faulty}
 use Rattle.reader.specs.Reads.{made, refusedBy, refusedWith}
 use Rattle.reader.specs.Reading.{tooLarge, OfTree, stuck, unknown, sortedIn, treeOrder, readOrder}
-use Rattle.reader.specs.Reading.{Gives, Reading, refused, read}
+use Rattle.reader.specs.Reading.{Gives, ReadsText, refused, read}
 use Rattle.reader.proofs.Readings.{read-clear}
 use Rattle.reader.proofs.TokenedTexts.{text-short}
 
@@ -70,8 +70,8 @@ gives-unique {names} {text} {sort} a b =
     let s = rw e at (b .sorts) in
     let t = sym (a .sorts) ∙ s in cc
 
-pub read-unique : {names text : List ℕ} {sort : Sort} {r s : Read} → Reading names text sort r
-    → Reading names text sort s → r ≡ s
+pub read-unique : {names text : List ℕ} {sort : Sort} {r s : Read} → ReadsText names text sort r
+    → ReadsText names text sort s → r ≡ s
 read-unique {names} {text} {sort} (refused n p a) (refused m q b) =
     let e = refused-unique (readOrder names text sort) (read-fixed names text sort) a b in
     ap (λ (k : ℕ). refusedWith k p) (e .0) ∙ ap (refusedWith m) (e .1)
@@ -89,7 +89,7 @@ pub record Read-as (names text : List ℕ) (sort : Sort) (r : Read) : Type 0 whe
   pub gives : Gives names text sort it
   pub is-it : r ≡ made it
 
-pub read-sound : {names text : List ℕ} {sort : Sort} {r : Read} → Reading names text sort r → r .refused ≡ false
+pub read-sound : {names text : List ℕ} {sort : Sort} {r : Read} → ReadsText names text sort r → r .refused ≡ false
     → Read-as names text sort r
 unfolding made refusedBy
 read-sound (refused n p a) e = never (sym e)
@@ -121,7 +121,7 @@ pub gives-read :
     Passed (namesOrder names) →
     length text ≤ 4096 →
     Gives names text sort x →
-    Reading names text sort (made x)
+    ReadsText names text sort (made x)
 gives-read {names} {text} {sort} n l g =
     read-clear names text sort n (text-clear text l (g .read) (g .shallow) (g .few)) (g .read) (g .whole) (g .known)
     (g .sorts) (g .small)
@@ -131,6 +131,6 @@ pub read-complete :
     Passed (namesOrder names) →
     length text ≤ 4096 →
     Gives names text sort x →
-    Reading names text sort r →
+    ReadsText names text sort r →
     r ≡ made x
 read-complete n l g h = read-unique h (gives-read n l g)

@@ -17,7 +17,7 @@ use Rattle.basics.proofs.AllEntries.{All, none, more}
 use Rattle.grammar.specs.declared.Token as node
 use Rattle.grammar.specs.Tokens.{tokens}
 use Rattle.tokens.specs.Texts.{Token, tokenAt}
-use Rattle.tokens.specs.Reading.{codesOf, placesOf}
+use Rattle.tokens.specs.Tokenizing.{codesOf, placesOf}
 use Rattle.tokens.proofs.Places.{Rising, rising-at}
 use Rattle.sorting.specs.Lookup.{word, countOf, numberAt, isUnknown, unknownAt}
 use Rattle.reader.specs.Texts.{tokensOf}

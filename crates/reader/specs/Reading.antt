@@ -1,12 +1,12 @@
 -- Document 01, "Numbers for refused work", for a text: rows 5 to 8 over the text's tokens and its tree, the whole
--- order, and what is read. That any two answers coincide is shown in proofs/Unique.antt.
+-- order, and what is read. That any two answers coincide is a law.
 --   stuck                               5
 --   Stands, Unknown, unknown            6
 --   fault, own, faults, faultsFor, faultsIn, unsorted     7
 --   tooLarge                            8
 --   OfTree, sortedIn                    a row that speaks of the text's tree; what the tree is sorted as
 --   treeOrder, readOrder                rows 5 to 8; all rows in their order
---   Gives, Reading                      what a text gives, and what is read
+--   Gives, ReadsText                    what a text gives, and what is read
 --   Clear, Unlimited                    the same, limit 8 aside
 use Prim.Native.Nat.{ℕ, _<_}
 use mathlib.Core.Path.{_≡_}
@@ -121,10 +121,10 @@ pub record Gives (names text : List ℕ) (sort : Sort) (x : Expression) : Type 0
   pub small : (p : ℕ) → tooLarge (is x) p → ⊥
 
 -- what is read
-pub data Reading (names text : List ℕ) (sort : Sort) : Read → Type 0 where
-  refused : (n p : ℕ) → RefusedWith (readOrder names text sort) n p → Reading names text sort (refusedWith n p)
+pub data ReadsText (names text : List ℕ) (sort : Sort) : Read → Type 0 where
+  refused : (n p : ℕ) → RefusedWith (readOrder names text sort) n p → ReadsText names text sort (refusedWith n p)
   read : {x : Expression} → refusals.Passed (readOrder names text sort) → Gives names text sort x
-      → Reading names text sort (made x)
+      → ReadsText names text sort (made x)
 
 -- the same, limit 8 aside: what is left to be asked of a text that 18, 12 and 1 to 7 let through
 pub record Clear (names text : List ℕ) (sort : Sort) (x : Expression) : Type 0 where
@@ -138,5 +138,5 @@ pub record Clear (names text : List ℕ) (sort : Sort) (x : Expression) : Type 0
   pub sorts : sortedIn names text sort tree ≡ is x
 
 pub data Unlimited (names text : List ℕ) (sort : Sort) : Read → Type 0 where
-  refused : (n p : ℕ) → Reading names text sort (refusedWith n p) → Unlimited names text sort (refusedWith n p)
+  refused : (n p : ℕ) → ReadsText names text sort (refusedWith n p) → Unlimited names text sort (refusedWith n p)
   unlimited : {x : Expression} → Clear names text sort x → Unlimited names text sort (made x)

@@ -13,7 +13,7 @@ use Rattle.alf.specs.declared.Sort.{Sort}
 use Rattle.alf.specs.declared.Sort.the-variants as the-sort
 use Rattle.alf.specs.Expressions.{Expression}
 use Rattle.alf.specs.Bytes.{bytesOf}
-use Rattle.basics.proofs.AllEntries.{All}
+use Rattle.basics.specs.Words.{All}
 use Rattle.grammar.specs.declared.Token.{Token}
 use Rattle.grammar.specs.declared.Parsed.{Parsed}
 use Rattle.grammar.specs.Grammar.{Tree, nodes}

@@ -6,7 +6,7 @@ use Rattle.alf.specs.Refusals.{Passed}
 use Rattle.names.specs.Check.{namesOrder}
 use Rattle.tokens.specs.declared.Tokens.{Tokens}
 use Rattle.tokens.specs.Texts.{Token, Reads, order}
-use Rattle.tokens.specs.Reading.{made}
+use Rattle.tokens.specs.Tokenizing.{made}
 
 pub record Tokened (names text : List ℕ) (t : Tokens) : Type 0 where
   pub good : Passed (namesOrder names)

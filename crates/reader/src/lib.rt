@@ -18,7 +18,7 @@ ghost use Rattle.names.specs.Check.{namesOrder};
 ghost use Rattle.reader.specs.Reads.{refusedBy, refusedWith, hasSort, Grown, Answered};
 ghost use Rattle.alf.specs.Alternatives.{alternatives, overLimit};
 ghost use Rattle.trees.specs.Parts.{EndsVector, vectorAt};
-ghost use Rattle.reader.specs.Reading.{Unlimited, Reading};
+ghost use Rattle.reader.specs.Reading.{Unlimited, ReadsText};
 ghost use Rattle.reader.specs.Tokened.{Tokened};
 
 // What is read: the first `len` entries of `tree`, with zeros behind them. None where the text is refused.
@@ -127,7 +127,7 @@ fn is_over(tree: &[u8], end: usize, names: usize) -> bool
 // What was read, or refused with 8. A boolean expression has no alternatives.
 fn limit(names: &[u8], text: &[u8], sort: Sort, r: Read) -> Read
     requires { ⌜ Unlimited (now names) (now text) sort r ⌝ }
-    ensures { λ o. ⌜ Reading (now (names .entry)) (now (text .entry)) sort o ⌝ }
+    ensures { λ o. ⌜ ReadsText (now (names .entry)) (now (text .entry)) sort o ⌝ }
 {
     if r.refused {
         return r;
@@ -145,7 +145,7 @@ fn limit(names: &[u8], text: &[u8], sort: Sort, r: Read) -> Read
 // The expression that a text is, as a tree over a list of names, for the sort asked for; or refused: 18 and 12 for the
 // list of names, then 1 to 8, each over the whole text before the next.
 pub fn read_expression(names: &[u8], text: &[u8], sort: Sort) -> Read
-    ensures { λ r. ⌜ Reading (now (names .entry)) (now (text .entry)) sort r ⌝ }
+    ensures { λ r. ⌜ ReadsText (now (names .entry)) (now (text .entry)) sort r ⌝ }
 {
     match check_names(names) {
         Outcome::Refused(r) => hand_on(r),

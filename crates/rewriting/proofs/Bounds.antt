@@ -13,7 +13,7 @@ use lib.ListN.{length, getD, length-append, length-map}
 use borrow.Author.Tests.{ltb-false}
 use Rattle.basics.specs.Words.{greatestOf, sumOf}
 use Rattle.alf.specs.Expressions.{Vector, Expression, boolean, vector}
-use Rattle.alf.specs.Bytes.{topVector, Decodes}
+use Rattle.alf.specs.Decoder.{topVector, Decodes}
 use Rattle.alf.specs.Alternatives.{Test, Alternative, alternatives, tests, numberOfAlternatives, stepsOf, overLimit}
 use Rattle.alf.specs.declared.Sort.{Sort}
 use Rattle.alf.specs.declared.Sort.the-variants as sort
@@ -21,7 +21,7 @@ use Rattle.basics.proofs.Bools.{never, or-left, or-right}
 use Rattle.trees.specs.Parts.{vectorAt}
 use Rattle.acceptance.specs.Accepted.{sortOf, overSize, Accepted, Limited}
 use Rattle.acceptance.specs.Sizes.{alternativeAt, Chosen, Shaped}
-use Rattle.acceptance.proofs.Acceptance.{accepted-vector}
+use Rattle.acceptance.proofs.Acceptance.{accepted-vector, accepted-decodes}
 use Rattle.rewriting.specs.Lists.{joined, alternativesAt, alternativeOf}
 use Rattle.step_tests.proofs.Exchanging.{testOn}
 use Rattle.rewriting.proofs.Joining.{joined-append, joined-map}
@@ -34,7 +34,7 @@ isVectorSort sort.Vector = true
 
 pub accepted-limited : (t : List ℕ) (names : ℕ) → Accepted names sort.Vector t → Limited t names
 unfolding Decodes topVector sortOf overSize isVectorSort
-accepted-limited t names a = go (a .expression) (a .decodes) (a .sorted) (a .sized)
+accepted-limited t names a = go (a .expression) (accepted-decodes a) (a .sorted) (a .sized)
   where
     go : (e : Expression) → Decodes names t e → sortOf e ≡ sort.Vector → overSize e ≡ false
         → Limited t names

@@ -17,7 +17,7 @@ use Rattle.alf.specs.declared.Sort.the-variants.{Vector}
 use Rattle.acceptance.specs.Accepted.{Accepted}
 use Rattle.acceptance.proofs.Acceptance.{accepted-vector}
 use Rattle.rewriting.specs.declared.lists.Alternatives.{Alternatives}
-use Rattle.step_tests.specs.OperandPlaces.{numberOf, endOf}
+use Rattle.step_tests.specs.OperandPlaces.{edgeOf, endOf}
 use Rattle.rewriting.specs.Lists.{joined, alternativesAt, stepList, testList, edgeList, operandList}
 use Rattle.rewriting.specs.Lists.{Long, Filled, Fillable, InUse, Holds}
 use Rattle.rewriting.proofs.Bounds.{accepted-bounded, few-steps, few-tests}
@@ -36,7 +36,7 @@ module _ (xs : List Alternative) where
 
   pub edge-entries : length (edgeList xs) ≡ length (joined (joined xs))
   unfolding edgeList
-  edge-entries = length-map (joined (joined xs)) numberOf
+  edge-entries = length-map (joined (joined xs)) edgeOf
 
   pub operand-entries : length (operandList xs) ≡ length (joined (joined xs))
   unfolding operandList

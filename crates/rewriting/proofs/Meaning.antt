@@ -6,12 +6,13 @@ use mathlib.Core.Path.{_≡_, refl, ap, ap₂, sym, _∙_}
 use mathlib.Core.List.{List, [], _∷_, map}
 use lib.ListN.{length, getD, length-map}
 use Rattle.alf.specs.Expressions.{the, pair}
-use Rattle.alf.specs.Bytes.{edgeNumber, edgeAt, halfNumber, halfAt}
+use Rattle.alf.specs.Bytes.{edgeNumber, halfNumber}
+use Rattle.alf.specs.Decoder.{edgeAt, halfAt}
 use Rattle.alf.specs.Alternatives.{Test, test, Step, Alternative, alternatives}
 use Rattle.basics.proofs.AllEntries.{All, none, more}
 use Rattle.trees.specs.Parts.{EndsBoolean, EndsVector, vectorAt}
 use Rattle.alternatives.specs.InMemory.{cut, testsOf, alternativesOf, Shape}
-use Rattle.step_tests.specs.OperandPlaces.{numberOf, endOf, numbers, ends}
+use Rattle.step_tests.specs.OperandPlaces.{edgeOf, endOf, numbers, ends}
 use Rattle.rewriting.specs.Lists.{joined, alternativesAt, stepList, testList, edgeList, operandList}
 use Rattle.step_tests.proofs.Exchanging.{testOn, alternativeOn, alternatives-on}
 use Rattle.rewriting.proofs.Joining.{joined-map, cut-joined, lengths-map, lengths-sum}
@@ -36,7 +37,7 @@ held-back = refl
 module _ (tree : List ℕ) (names : ℕ) where
   tests-back : (ts : Step) → testsOf tree names (numbers ts) (ends ts)
       ≡ map (testOn edgeBack (operandBack tree names)) ts
-  unfolding testsOf testOn numberOf endOf
+  unfolding testsOf testOn edgeOf endOf
   tests-back [] = refl
   tests-back (test e c ∷ ts) = ap (_∷_ (test (edgeBack e) (operandBack tree names c))) (tests-back ts)
 
@@ -72,7 +73,7 @@ module _ (tree : List ℕ) (names : ℕ) where
     lists-shape l =
         let e = stands tree names (length tree) h .each in
         let a = all-joined (all-joined (alternatives-ask (Known tree names) e)) in
-        let n = length-map (joined (joined xs)) numberOf in
+        let n = length-map (joined (joined xs)) edgeOf in
         let m = length-map (joined (joined xs)) endOf in
         record {
           few = omega (arith, length-map xs length);

@@ -16,7 +16,7 @@ use Rattle.trees.specs.Parts.{vectorAt}
 use Rattle.acceptance.specs.Accepted.{Accepted}
 use Rattle.acceptance.proofs.Acceptance.{accepted-vector}
 use Rattle.alternatives.specs.InMemory.{alternativesOf}
-use Rattle.step_tests.specs.OperandPlaces.{numberOf, numbers}
+use Rattle.step_tests.specs.OperandPlaces.{edgeOf, numbers}
 use Rattle.rewriting.specs.Lists.{joined, alternativesAt, stepList, testList, edgeList, operandList}
 use Rattle.rewriting.specs.Calls.{treeOrder, roomOrder, Rewrites}
 use Rattle.step_tests.proofs.Exchanging.{testOn, placed-same}
@@ -79,9 +79,9 @@ module _ (tree : List ℕ) (names : ℕ) where
   tests-bare xs = ap (map length) (joined-map (map bare) xs) ∙ lengths-map bare (joined xs)
 
   numbers-bare : (s : Step) → numbers (map bare s) ≡ numbers s
-  unfolding numberOf testOn
+  unfolding edgeOf testOn
   numbers-bare [] = refl
-  numbers-bare (test e c ∷ s) = ap (_∷_ (numberOf (test e c))) (numbers-bare s)
+  numbers-bare (test e c ∷ s) = ap (_∷_ (edgeOf (test e c))) (numbers-bare s)
 
   edges-bare : (xs : List Alternative) → edgeList (map (map (map bare)) xs) ≡ edgeList xs
   unfolding edgeList

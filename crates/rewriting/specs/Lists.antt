@@ -18,7 +18,7 @@ use Rattle.trees.specs.Parts.{vectorAt}
 use Rattle.acceptance.specs.Accepted.{Accepted}
 use Rattle.alternatives.specs.InMemory.{alternativesOf, Shape}
 use Rattle.rewriting.specs.declared.lists.Alternatives.{Alternatives}
-use Rattle.step_tests.specs.OperandPlaces.{placed, numbers, ends}
+use Rattle.step_tests.specs.OperandPlaces.{byPlaces, numbers, ends}
 use Rattle.step_tests.specs.Steps.{Put}
 use Rattle.basics.specs.Memory.{front}
 
@@ -29,7 +29,7 @@ joined (x ∷ xs) = x ++ joined xs
 
 -- the alternatives of a whole tree, each operand named by the place where it ends
 abbrev pub alternativesAt : List ℕ → ℕ → List Alternative
-alternativesAt tree names = alternatives (placed (length tree) (vectorAt tree names (length tree)))
+alternativesAt tree names = alternatives (byPlaces (length tree) (vectorAt tree names (length tree)))
 
 unfoldable pub stepList : List Alternative → List ℕ
 stepList xs = map length xs

@@ -13,6 +13,7 @@ use Rattle.alf.specs.Refusals.{Comes}
 use Rattle.basics.specs.Words.{listed}
 use Rattle.alf.specs.Values.{stateAt}
 use Rattle.alf.specs.Windows.{rowAnswer}
+use Rattle.alf.specs.Answers.{numberOf}
 use Rattle.trees.specs.Parts.{EndsBoolean, EndsVector, vectorAt}
 use Rattle.acceptance.specs.Accepted.{Accepted}
 use Rattle.acceptance.proofs.Acceptance.{accepted-boolean, accepted-vector}
@@ -74,7 +75,7 @@ module _ {names n : ℕ} {tree states : List ℕ} {row : ℕ} {v : Verdict}
   answer-refused e = record { comes = judged-not (c .is) e }
 
   pub answer-told : {a : Answer} → v ≡ Good
-      → a ≡ rowAnswer (stateAt names states) (vectorAt tree names (length tree)) row
+      → numberOf a ≡ rowAnswer (stateAt names states) (vectorAt tree names (length tree)) row
       → RowAnswer names n tree states row (told.Answered a)
   unfolding Tells
   answer-told e s = record { comes = (judged-good (c .is) e .0, s) }

@@ -9,7 +9,8 @@ use mathlib.Core.List.{List}
 use Rattle.alf.specs.declared.Answer.{Answer}
 use Rattle.basics.specs.declared.Refusal.{Refusal}
 use Rattle.alf.specs.declared.Sort.the-variants.{Vector}
-use Rattle.alf.specs.Windows.{named}
+use Rattle.alf.specs.Windows.{numbered}
+use Rattle.alf.specs.Answers.{numberOf}
 use Rattle.evaluator.specs.Rows.{Within}
 use Rattle.judging.specs.declared.checks.Verdict.{Verdict}
 use Rattle.judging.specs.declared.checks.Verdict.the-variants.{Good, Refused}
@@ -45,7 +46,7 @@ module _ {names n : ℕ} {tree states : List ℕ} (a b : ℕ) {row : ℕ} {v : V
   unfolding Tells
   window-refused e = record { comes = judged-not (both .is) e }
 
-  pub window-told : {w : Answer} → v ≡ Good → w ≡ named (answerOver names tree states a b)
+  pub window-told : {w : Answer} → v ≡ Good → numberOf w ≡ numbered (answerOver names tree states a b)
       → WindowAnswer names n tree states a b (told.Answered w)
   unfolding Tells
   window-told e s = record { comes = (judged-good (both .is) e .0, s) }

@@ -8,19 +8,19 @@ use mathlib.Core.List.{List}
 use lib.ListN.{length}
 use Rattle.alf.specs.declared.Sort.the-variants.{Vector}
 use Rattle.alf.specs.Values.{stateAt}
-use Rattle.alf.specs.Windows.{answer, named}
+use Rattle.alf.specs.Windows.{Rank, answer, numbered}
 use Rattle.trees.specs.Parts.{EndsVector, vectorAt}
 use Rattle.evaluator.specs.Rows.{Within}
 use Rattle.row_calls.specs.declared.written.Told.{Told}
 use Rattle.judging.specs.Orders.{rowOrder}
 use Rattle.row_calls.specs.Written.{Tells}
 
--- the answer of the vector expression that a tree is, as a rank: 0 no, 1 unknown, 2 yes
-abbrev pub answerOver : ℕ → List ℕ → List ℕ → ℕ → ℕ → ℕ
+-- the answer of the vector expression that a tree is, as a rank
+abbrev pub answerOver : ℕ → List ℕ → List ℕ → ℕ → ℕ → Rank
 answerOver names tree states = answer (stateAt names states) (vectorAt tree names (length tree))
 
 pub record WindowAnswer (names n : ℕ) (tree states : List ℕ) (a b : ℕ) (r : Told) : Type 0 where
-  pub comes : Tells (rowOrder names n tree Vector states (max a b)) (named (answerOver names tree states a b)) r
+  pub comes : Tells (rowOrder names n tree Vector states (max a b)) (numbered (answerOver names tree states a b)) r
 
 -- What the function inside asks: a vector expression, and a trace that has row b.
 pub record TreeWindow (names : ℕ) (tree states : List ℕ) (b : ℕ) : Type 0 where

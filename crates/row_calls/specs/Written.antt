@@ -2,6 +2,7 @@
 --   RowState, RowValue     the state and the value at a row
 --   AllValues              the values at all rows, in a lent list
 --   Tells, RowAnswer       the answer of a vector expression at a row
+--   AnsweredAs             a result that is the answer with a number
 use Prim.Native.Nat.{ℕ}
 use mathlib.Core.Path.{_≡_}
 use mathlib.Core.List.{List}
@@ -13,7 +14,8 @@ use Rattle.basics.specs.declared.Outcome.the-variants as outcome
 use Rattle.basics.specs.Words.{listed}
 use Rattle.alf.specs.Values.{stateAt, valueAt}
 use Rattle.alf.specs.Windows.{rowAnswer}
-use Rattle.alf.specs.Refusals.{Order, RefusedWith, Passed, Comes}
+use Rattle.alf.specs.Answers.{numberOf}
+use Rattle.alf.specs.Refusals.{Order, RefusedBy, Passed, Comes}
 use Rattle.trees.specs.Parts.{booleanAt, vectorAt}
 use Rattle.row_calls.specs.declared.written.Told.{Told}
 use Rattle.row_calls.specs.declared.written.Told.the-variants.{Answered, Refused}
@@ -34,10 +36,16 @@ pub record AllValues (names n : ℕ) (tree states out out′ : List ℕ) (r : Ou
   pub comes : Comes (rowsOrder names n (length out ≡ n) tree Boolean states) (λ k. k ≡ n) r
   pub memory : out′ ≡ after (listed 0 n (valueAt names states (booleanAt tree names (length tree)))) out r
 
--- an answer, or a refusal
-unfoldable pub Tells : Order → Answer → Told → Type 0
-Tells o a (Answered b) = Passed o × (b ≡ a)
-Tells o a (Refused r) = RefusedWith o (r .number) (r .place)
+-- an answer, by document 01's number, or a refusal
+unfoldable pub Tells : Order → ℕ → Told → Type 0
+Tells o a (Answered b) = Passed o × (numberOf b ≡ a)
+Tells o a (Refused r) = RefusedBy o r
+
+-- the answer with a number
+pub record AnsweredAs (number : ℕ) (x : Told) : Type 0 where
+  pub answer : Answer
+  pub is : x ≡ Answered answer
+  pub numbered : numberOf answer ≡ number
 
 -- the answer of the vector expression that the tree is, at the row
 pub record RowAnswer (names n : ℕ) (tree states : List ℕ) (row : ℕ) (r : Told) : Type 0 where

@@ -1,10 +1,12 @@
 // The answer as written on one window of rows, by recursion over the tree.
 ghost use mathlib.Core.Path.{_≡_};
 ghost use Prim.Native.Nat.{max};
-ghost use Rattle.alf.specs.Windows.{named};
+ghost use Rattle.alf.specs.Windows.{numbered};
+ghost use Rattle.alf.specs.Answers.{numberOf};
 ghost use Rattle.row_calls.specs.Windows.{TreeWindow, answerOver, WindowAnswer};
 use crate::written::Told;
 use alf::Answer;
+use alf::RowNo;
 use alf::Sort;
 use judging::checks::Verdict;
 use judging::checks::check_row;
@@ -19,20 +21,22 @@ pub fn later(a: usize, b: usize) -> usize
 // An accepted tree, on a window of rows that are there.
 fn answer_tree(names: usize, tree: &[u8], states: &[u8], a: usize, b: usize) -> Answer
     requires { ⌜ TreeWindow names (now tree) (now states) b ⌝ }
-    ensures { λ r. ⌜ r ≡ named (answerOver names (now (tree .entry)) (now (states .entry)) a b) ⌝ }
+    ensures { λ r. ⌜ numberOf r ≡ numbered (answerOver names (now (tree .entry)) (now (states .entry)) a b) ⌝ }
 {
     let rank = evaluator::windows::answer(tree, tree.len(), states, names, a, b);
     evaluator::rows::name_of(rank)
 }
 
 // The answer of a vector expression on the window of rows a to b; a window without an event answers no.
-pub fn window_answer(names: usize, n: usize, tree: &[u8], states: &[u8], a: usize, b: usize) -> Told
-    ensures { λ r. ⌜ WindowAnswer names n (now (tree .entry)) (now (states .entry)) a b r ⌝ }
+pub fn window_answer(names: usize, n: usize, tree: &[u8], states: &[u8], a: RowNo, b: RowNo) -> Told
+    ensures { λ r. ⌜ WindowAnswer names n (now (tree .entry)) (now (states .entry)) (a .0) (b .0) r ⌝ }
 {
-    let last = later(a, b);
+    let from = a.0 as usize;
+    let to = b.0 as usize;
+    let last = later(from, to);
     let v = check_row(names, n, tree, Sort::Vector, states, last);
     match v {
         Verdict::Refused(r) => Told::Refused(r),
-        Verdict::Good => Told::Answered(answer_tree(names, tree, states, a, b)),
+        Verdict::Good => Told::Answered(answer_tree(names, tree, states, from, to)),
     }
 }

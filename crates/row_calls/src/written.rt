@@ -1,6 +1,7 @@
 // The answer as written, by recursion over the tree: state, value and answer at a row, the values of all rows.
 ghost use Rattle.row_calls.specs.Written.{RowState, RowValue, AllValues, RowAnswer};
 use alf::Answer;
+use alf::RowNo;
 use alf::Sort;
 use basics::Outcome;
 use basics::Refusal;
@@ -15,28 +16,30 @@ pub enum Told {
 }
 
 // The state of a boolean expression at a row.
-pub fn row_state(names: usize, n: usize, tree: &[u8], states: &[u8], row: usize) -> Outcome
-    ensures { λ r. ⌜ RowState names n (now (tree .entry)) (now (states .entry)) row r ⌝ }
+pub fn row_state(names: usize, n: usize, tree: &[u8], states: &[u8], row: RowNo) -> Outcome
+    ensures { λ r. ⌜ RowState names n (now (tree .entry)) (now (states .entry)) (row .0) r ⌝ }
 {
-    let v = check_row(names, n, tree, Sort::Boolean, states, row);
+    let at = row.0 as usize;
+    let v = check_row(names, n, tree, Sort::Boolean, states, at);
     match v {
         Verdict::Refused(r) => Outcome::Refused(r),
         Verdict::Good => {
-            let s = evaluator::values::state(tree, tree.len(), states, names, row);
+            let s = evaluator::values::state(tree, tree.len(), states, names, at);
             Outcome::Done(s as usize)
         }
     }
 }
 
 // Its value.
-pub fn row_value(names: usize, n: usize, tree: &[u8], states: &[u8], row: usize) -> Outcome
-    ensures { λ r. ⌜ RowValue names n (now (tree .entry)) (now (states .entry)) row r ⌝ }
+pub fn row_value(names: usize, n: usize, tree: &[u8], states: &[u8], row: RowNo) -> Outcome
+    ensures { λ r. ⌜ RowValue names n (now (tree .entry)) (now (states .entry)) (row .0) r ⌝ }
 {
-    let v = check_row(names, n, tree, Sort::Boolean, states, row);
+    let at = row.0 as usize;
+    let v = check_row(names, n, tree, Sort::Boolean, states, at);
     match v {
         Verdict::Refused(r) => Outcome::Refused(r),
         Verdict::Good => {
-            let s = evaluator::values::value(tree, tree.len(), states, names, row);
+            let s = evaluator::values::value(tree, tree.len(), states, names, at);
             Outcome::Done(s as usize)
         }
     }
@@ -59,10 +62,11 @@ pub fn values(names: usize, n: usize, tree: &[u8], states: &[u8], out: &mut [u8]
 }
 
 // The answer of a vector expression at a row: the greatest over the windows that end there.
-pub fn row_answer(names: usize, n: usize, tree: &[u8], states: &[u8], row: usize) -> Told
-    ensures { λ r. ⌜ RowAnswer names n (now (tree .entry)) (now (states .entry)) row r ⌝ }
+pub fn row_answer(names: usize, n: usize, tree: &[u8], states: &[u8], row: RowNo) -> Told
+    ensures { λ r. ⌜ RowAnswer names n (now (tree .entry)) (now (states .entry)) (row .0) r ⌝ }
 {
-    let v = check_row(names, n, tree, Sort::Vector, states, row);
+    let at = row.0 as usize;
+    let v = check_row(names, n, tree, Sort::Vector, states, at);
     match v {
         Verdict::Refused(r) => Told::Refused(r),
         Verdict::Good => Told::Answered(evaluator::rows::row_answer(
@@ -70,7 +74,7 @@ pub fn row_answer(names: usize, n: usize, tree: &[u8], states: &[u8], row: usize
             tree.len(),
             states,
             names,
-            row,
+            at,
         )),
     }
 }

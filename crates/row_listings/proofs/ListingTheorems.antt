@@ -1,23 +1,18 @@
 -- What the listings of texts come to.
 --   list-text-unique, values-text-unique    result and buffer afterwards follow from the input
 --   lists-stays                             refused, the buffer is as before
---   pattern-totals                          the last line's numbers are the pattern's totals
 use Prim.Native.Nat.{ℕ, _/_}
-use mathlib.Core.Path.{_≡_, refl, ap, sym, _∙_}
+use mathlib.Core.Path.{_≡_, ap, sym, _∙_}
 use mathlib.Core.List.{List, [], _∷_, _++_}
 use lib.ListN.{length, drop}
+use Rattle.basics.proofs.Refusals.{refusal-same}
 use Rattle.basics.specs.Refusing.{refusal}
-use Rattle.alf.specs.declared.Answer.the-variants.{No, Yes, Unknown}
 use Rattle.alf.specs.declared.Sort.{Sort}
 use Rattle.alf.specs.declared.Sort.the-variants as the-sort
 use Rattle.basics.specs.declared.Refusal.{Refusal}
 use Rattle.basics.specs.declared.Outcome.{Outcome}
 use Rattle.basics.specs.declared.Outcome.the-variants.{Done, Refused}
-use Rattle.basics.specs.Words.{listed}
-use Rattle.alf.specs.Expressions.{Vector, Expression, boolean, vector}
-use Rattle.alf.specs.Values.{stateAt}
-use Rattle.alf.specs.Windows.{rowAnswer, numberOf}
-use Rattle.alf.specs.Traces.{total}
+use Rattle.alf.specs.Expressions.{Expression, boolean, vector}
 use Rattle.alf.specs.Refusals.{check, no-room}
 use Rattle.alf.proofs.Outcomes.{Fixed, at-fixed, first-fixed, refused-passed}
 use Rattle.alf.proofs.Orders.{Sole, sole-both, sole-fixed}
@@ -25,11 +20,7 @@ use Rattle.reader.specs.Reading.{readOrder, Gives}
 use Rattle.reader.proofs.Unique.{gives-unique}
 use Rattle.text_laws.proofs.ReadTrees.{read-sole}
 use Rattle.basics.specs.Memory.{after}
-use Rattle.listing.specs.declared.lines.Column.the-variants.{Answers}
-use Rattle.figures.specs.Text.{bytes, joined}
-use Rattle.listing.specs.Listing.{lines, lastLine, listing}
-use Rattle.listing.proofs.Theorems.{listed-totals}
-use Rattle.row_listings.specs.Listings.{patternListing, OfGiven, rowsOrder, listOrder}
+use Rattle.row_listings.specs.Listings.{OfGiven, rowsOrder, listOrder}
 use Rattle.row_listings.specs.Listings.{Lists, lists, refuses, ListsPattern, ListsValues}
 use Rattle.row_listings.proofs.TextListings.{vector-one, boolean-one}
 
@@ -63,7 +54,7 @@ module _ {A : Type 0} (into : A → Expression) (one : (a b : A) → into a ≡ 
   lists-unique (refuses a h) (lists b q j l i) = absurd (refused-passed _ _ _ q a)
   lists-unique {out} (refuses a h) (refuses b i) =
       let e = order-sole (length out) _ _ _ _ a b in
-      ((λ t. Refused (refusal (e .0 t) (e .1 t))), h ∙ sym i)
+      (ap Refused (refusal-same e), h ∙ sym i)
 
 module _ {names times states text out x y : List ℕ} {r s : Outcome} where
   pub list-text-unique : ListsPattern names times states text out x r → ListsPattern names times states text out y s
@@ -78,18 +69,3 @@ pub lists-stays : {A : Type 0} {into : A → Expression} {sort : Sort} {shown : 
     {names times states text out out′ : List ℕ} {r : Refusal}
     → Lists into sort shown names times states text out out′ (Refused r) → out′ ≡ out
 lists-stays (refuses h e) = e
-
--- the listing of a pattern, its last line by the totals
-pub pattern-totals : (k : ℕ) (times states : List ℕ) (p : Vector)
-    → patternListing k times states p
-    ≡ joined
-    (bytes "time answer\n"
-    ∷ lines Answers times (listed 0 (length times) (λ i. numberOf (rowAnswer (stateAt k states) p i)))
-    ∷ lastLine (total (stateAt k states) p (length times) Yes) (total (stateAt k states) p (length times) No)
-    (total (stateAt k states) p (length times) Unknown)
-    ∷ [])
-unfolding patternListing listing numberOf
-pattern-totals k times states p =
-    let st = stateAt k states in
-    let n = length times in
-    rw (listed-totals st p n Yes, listed-totals st p n No, listed-totals st p n Unknown) refl

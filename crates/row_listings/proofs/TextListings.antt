@@ -20,11 +20,12 @@ use Rattle.alf.specs.Refusals.{check, no-room, RefusedWith, Passed, Comes}
 use Rattle.alf.proofs.Orders.{refused-first, refused-then, passed-both}
 use Rattle.acceptance.proofs.Acceptance.{decoded}
 use Rattle.reader.specs.declared.Read.{Read}
-use Rattle.reader.specs.Reading.{readOrder, Gives, Reading}
+use Rattle.reader.specs.Reading.{readOrder, Gives, ReadsText}
 use Rattle.reader.proofs.Unique.{gives-unique}
 use Rattle.text_laws.proofs.ReadTrees.{Found, read-refused, found-decodes, found-vector, vector-given, found-boolean}
 use Rattle.basics.specs.Memory.{after, front}
-use Rattle.row_listings.specs.Listings.{patternListing, valueListing, OfGiven, rowsOrder}
+use Rattle.tree_listings.specs.TreeTexts.{patternListing}
+use Rattle.row_listings.specs.Listings.{valueListing, OfGiven, rowsOrder}
 use Rattle.row_listings.specs.Listings.{Lists, lists, refuses, ListsPattern, ListsValues, RowsText, listingOf}
 use Rattle.row_listings.specs.Listings.{treeListing, ListsAs}
 use Rattle.row_listings.proofs.RowListings.{text-as}
@@ -40,7 +41,7 @@ found-listing {names} {r = r} f times states =
 -- the contract, for what the text gives
 module _ {A : Type 0} (into : A → Expression) (one : (a b : A) → into a ≡ into b → a ≡ b) (sort : Sort)
     (shown : A → List ℕ) (names times states text : List ℕ) where
-  text-refused : {r : Read} {out : List ℕ} → Reading names text sort r → r .refused ≡ true
+  text-refused : {r : Read} {out : List ℕ} → ReadsText names text sort r → r .refused ≡ true
       → Lists into sort shown names times states text out out (Refused (r .refusal))
   text-refused h e = refuses (refused-first (readOrder names text sort) _ _ _ (read-refused h e)) refl
 
@@ -91,11 +92,11 @@ pub boolean-one : (b c : Boolean) → boolean b ≡ boolean c → b ≡ c
 boolean-one b c e = cc
 
 module _ {names times states text out : List ℕ} {rd : Read} where
-  pub pattern-refused : Reading names text the-sort.Vector rd → rd .refused ≡ true
+  pub pattern-refused : ReadsText names text the-sort.Vector rd → rd .refused ≡ true
       → ListsPattern names times states text out out (Refused (rd .refusal))
   pattern-refused = text-refused vector vector-one the-sort.Vector _ names times states text
 
-  pub values-refused : Reading names text the-sort.Boolean rd → rd .refused ≡ true
+  pub values-refused : ReadsText names text the-sort.Boolean rd → rd .refused ≡ true
       → ListsValues names times states text out out (Refused (rd .refusal))
   values-refused = text-refused boolean boolean-one the-sort.Boolean _ names times states text
 
@@ -124,7 +125,7 @@ module _ {names times states text out out′ : List ℕ} {rd : Read} {r : Outcom
 
 -- by the sort
 pub sort-refused : (sort : Sort) {names text : List ℕ} (times states out : List ℕ) {rd : Read}
-    → Reading names text sort rd
+    → ReadsText names text sort rd
     → rd .refused ≡ true
     → ListsAs sort names times states text out out (Refused (rd .refusal))
 unfolding ListsAs

@@ -10,7 +10,7 @@ use Rattle.alf.specs.States.{reduce, rank, ranked, notOf, andOf, orOf, xorOf, x
 use Rattle.alf.specs.States.{table, among, matches, inCells, inLines}
 use Rattle.alf.specs.Expressions.{Boolean, name, literal, negated, binary, choice, Over}
 use Rattle.alf.specs.Expressions.{Binary, and, or, xor, xnor, equals, differs, above, below, at-least, at-most}
-use Rattle.alf.specs.Values.{operate, chosen, settled, state, value}
+use Rattle.alf.specs.Values.{operate, chosen, value, recordedOr}
 use Rattle.basics.proofs.Choices.{every, every-at}
 use Rattle.basics.proofs.Tables.{codes}
 
@@ -45,14 +45,6 @@ reduced-code : (s : ℕ) → s < 8 → reduce s < 8
 unfolding every codes reduce
 reduced-code = coded reduce refl
 
-settled-code : (e : Boolean) (s : ℕ) → s < 8 → settled e s < 8
-unfolding settled
-settled-code (name i) s h = reduced-code s h
-settled-code (literal l) s h = h
-settled-code (negated a) s h = h
-settled-code (binary o a b) s h = h
-settled-code (choice c a b) s h = h
-
 chosen-code : (c x y : ℕ) → x < 8 → y < 8 → chosen c x y < 8
 unfolding chosen
 chosen-code c x y h k = go (eqb (reduce c) 2) (eqb (reduce c) 1)
@@ -63,15 +55,21 @@ chosen-code c x y h k = go (eqb (reduce c) 2) (eqb (reduce c) 1)
     go false false = k
 
 module _ (row : ℕ → ℕ) (names : ℕ) (recorded : (n : ℕ) → row n < 8) where
-  state-code : (e : Boolean) → Over names e → state row e < 8
-  unfolding Over state
-  state-code (name i) o = recorded i
-  state-code (literal s) o = o
-  state-code (negated a) o = not-code _ (state-code a o)
-  state-code (binary b x y) o = coded-two (operate b) (operators b) _ _ (state-code x (o .0)) (state-code y (o .1))
-  state-code (choice c x y) o =
-      chosen-code (state row c) _ _ (settled-code x _ (state-code x (o .1))) (settled-code y _ (state-code y (o .2)))
+  -- the recorded state, or the value
+  recorded-code : (e : Boolean) {v : ℕ} → v < 8 → recordedOr row e v < 8
+  unfolding recordedOr
+  recorded-code (name i) h = recorded i
+  recorded-code (literal l) h = h
+  recorded-code (negated a) h = h
+  recorded-code (binary o a b) h = h
+  recorded-code (choice c a b) h = h
 
   pub value-code : (e : Boolean) → Over names e → value row e < 8
-  unfolding value
-  value-code e o = settled-code e _ (state-code e o)
+  unfolding Over value
+  value-code (name i) o = reduced-code _ (recorded i)
+  value-code (literal s) o = o
+  value-code (negated a) o = not-code _ (value-code a o)
+  value-code (binary b x y) o =
+      coded-two (operate b) (operators b) _ _ (recorded-code x (value-code x (o .0)))
+      (recorded-code y (value-code y (o .1)))
+  value-code (choice c x y) o = chosen-code (value row c) _ _ (value-code x (o .1)) (value-code y (o .2))

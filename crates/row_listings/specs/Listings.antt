@@ -1,11 +1,11 @@
 -- Listings of what a text gives, on a trace: a pattern's text comes to the listing of its answers, the text of a
 -- boolean expression to the listing of its values; or refused.
---   patternListing, valueListing    the texts
+--   valueListing                    the text of a boolean expression; a pattern's is tree_listings' patternListing
 --   OfGiven, listingOf              what is listed of what a text gives
 --   rowsOrder, listOrder            the refusals in their order
 --   ListsPattern, ListsValues       what the calls come to: one contract, Lists, over what the text gives
---   ListsAs, RowsText, treeListing, Rowed, Roomy    what the functions inside give and ask
--- That result and buffer follow from the input is shown in proofs/ListingTheorems.antt.
+--   ListsAs, RowsText, treeListing  what the functions inside give
+-- That result and buffer follow from the input is a law.
 use Prim.Native.Nat.{ℕ, _/_}
 use mathlib.Core.Path.{_≡_}
 use mathlib.Core.List.{List, [], _∷_, _++_}
@@ -17,21 +17,16 @@ use Rattle.basics.specs.declared.Outcome.{Outcome}
 use Rattle.basics.specs.declared.Outcome.the-variants.{Done, Refused}
 use Rattle.basics.specs.Words.{listed}
 use Rattle.alf.specs.Expressions.{Boolean, Vector, Expression, boolean, vector}
-use Rattle.alf.specs.Values.{stateAt, valueAt}
-use Rattle.alf.specs.Windows.{rowAnswer, numberOf}
-use Rattle.alf.specs.Refusals.{Row, Order, check, bad-lists, bad-code, no-room, RefusedWith, Passed, Comes}
+use Rattle.alf.specs.Values.{valueAt}
+use Rattle.alf.specs.Refusals.{Row, Order, check, bad-lists, bad-code, no-room, RefusedBy, Passed, Comes}
 use Rattle.trees.specs.Parts.{expressionAt}
-use Rattle.acceptance.specs.Accepted.{Accepted}
 use Rattle.reader.specs.Reading.{readOrder, Gives}
 use Rattle.judging.specs.Orders.{Rows}
 use Rattle.basics.specs.Memory.{after, front}
-use Rattle.listing.specs.Listing.{listing, valuesListing}
+use Rattle.listing.specs.Listing.{valuesListing}
+use Rattle.tree_listings.specs.TreeTexts.{patternListing}
 
--- of a pattern, its answers at all rows of a trace of k names; of a boolean expression, its values
-unfoldable pub patternListing : ℕ → List ℕ → List ℕ → Vector → List ℕ
-patternListing k times states p =
-    listing times (listed 0 (length times) (λ i. numberOf (rowAnswer (stateAt k states) p i)))
-
+-- of a boolean expression, its values at all rows of a trace of k names
 unfoldable pub valueListing : ℕ → List ℕ → List ℕ → Boolean → List ℕ
 valueListing k times states c = valuesListing times (listed 0 (length times) (valueAt k states c))
 
@@ -69,7 +64,7 @@ pub data Lists {A : Type 0} (into : A → Expression) (sort : Sort) (shown : A �
       Lists into sort shown names times states text out out′ (Done m)
   refuses :
       {r : Refusal} →
-      RefusedWith (listOrder into sort shown names times states text (length out)) (r .number) (r .place) →
+      RefusedBy (listOrder into sort shown names times states text (length out)) r →
       out′ ≡ out →
       Lists into sort shown names times states text out out′ (Refused r)
 
@@ -104,14 +99,3 @@ listingOf k times states (vector p) = patternListing k times states p
 
 abbrev pub treeListing : ℕ → List ℕ → List ℕ → List ℕ → List ℕ
 treeListing k times states tree = listingOf k times states (expressionAt tree k (length tree))
-
--- a tree that a text gives, and lists of an entry for each row; of an entry for each row that there can be
-pub record Rowed (sort : Sort) (k : ℕ) (tree times codes tried : List ℕ) : Type 0 where
-  pub accepted : Accepted k sort tree
-  pub codes-size : length codes ≡ length times
-  pub tried-size : length tried ≡ length times
-
-pub record Roomy (sort : Sort) (k : ℕ) (tree codes tried : List ℕ) : Type 0 where
-  pub accepted : Accepted k sort tree
-  pub codes-size : length codes ≡ 65535
-  pub tried-size : length tried ≡ 65535

@@ -2,40 +2,17 @@
 // values.
 ghost use mathlib.Core.Path.{_≡_};
 ghost use lib.ListN.{length};
-ghost use Rattle.alf.specs.declared.Sort.the-variants.{Boolean, Vector};
+ghost use Rattle.alf.specs.declared.Sort.the-variants.{Boolean};
 ghost use Rattle.acceptance.specs.Accepted.{Accepted};
 ghost use Rattle.row_listings.specs.Listings.{ListsPattern, ListsValues, ListsAs};
-ghost use Rattle.row_listings.specs.Listings.{RowsText, treeListing, Rowed, Roomy};
+ghost use Rattle.row_listings.specs.Listings.{RowsText, treeListing};
 use alf::Sort;
 use basics::Outcome;
 use basics::refusing::refuse;
-use listing::listings::list;
 use listing::listings::list_values;
-use matching_calls::matching::match_all;
 use reader::read_expression;
 use row_calls::written::values;
-
-// The answers of a pattern's tree, listed; by way of lists of an entry for each row.
-fn list_answers(
-    k: usize,
-    tree: &[u8],
-    times: &[u32],
-    states: &[u8],
-    answers: &mut [u8],
-    tried: &mut [u32],
-    out: &mut [u8],
-) -> Outcome
-    requires { ⌜ Rowed Vector k (now tree) (now times) (now answers) (now tried) ⌝ }
-    ensures { λ r. ⌜ RowsText k (now (times .entry)) (now (states .entry))
-        (treeListing k (now (times .entry)) (now (states .entry)) (now (tree .entry)))
-        (now (out .entry)) (now (out .exit)) r ⌝ }
-{
-    let o = match_all(k, times.len(), tree, states, answers, tried);
-    match o {
-        Outcome::Refused(r) => Outcome::Refused(r),
-        Outcome::Done(_) => list(times, answers, out),
-    }
-}
+use tree_listings::listings::list;
 
 // The values of a boolean expression's tree, listed.
 fn list_states(
@@ -59,40 +36,17 @@ fn list_states(
     }
 }
 
-// By the sort of what the tree is.
-fn list_rows(
-    sort: Sort,
-    k: usize,
-    tree: &[u8],
-    times: &[u32],
-    states: &[u8],
-    codes: &mut [u8],
-    tried: &mut [u32],
-    out: &mut [u8],
-) -> Outcome
-    requires { ⌜ Rowed sort k (now tree) (now times) (now codes) (now tried) ⌝ }
-    ensures { λ r. ⌜ RowsText k (now (times .entry)) (now (states .entry))
-        (treeListing k (now (times .entry)) (now (states .entry)) (now (tree .entry)))
-        (now (out .entry)) (now (out .exit)) r ⌝ }
-{
-    match sort {
-        Sort::Boolean => list_states(k, tree, times, states, codes, out),
-        Sort::Vector => list_answers(k, tree, times, states, codes, tried, out),
-    }
-}
-
-// Of the lists, what the rows fill; more than 65,535 rows are refused.
+// Of the list, what the rows fill; more than 65,535 rows are refused.
 fn list_front(
-    sort: Sort,
     k: usize,
     tree: &[u8],
     times: &[u32],
     states: &[u8],
     codes: &mut [u8],
-    tried: &mut [u32],
     out: &mut [u8],
 ) -> Outcome
-    requires { ⌜ Roomy sort k (now tree) (now codes) (now tried) ⌝ }
+    requires { ⌜ Accepted k Boolean (now tree) ⌝ }
+    requires { ⌜ length (now codes) ≡ 65535 ⌝ }
     ensures { λ r. ⌜ RowsText k (now (times .entry)) (now (states .entry))
         (treeListing k (now (times .entry)) (now (states .entry)) (now (tree .entry)))
         (now (out .entry)) (now (out .exit)) r ⌝ }
@@ -101,49 +55,37 @@ fn list_front(
     if codes.len() < n {
         return refuse(18, 0);
     }
-    if tried.len() < n {
-        return refuse(18, 0);
-    }
-    list_rows(
-        sort,
-        k,
-        tree,
-        times,
-        states,
-        &mut codes[0..n],
-        &mut tried[0..n],
-        out,
-    )
+    list_states(k, tree, times, states, &mut codes[0..n], out)
 }
 
 fn list_lent(
-    sort: Sort,
     k: usize,
     tree: &[u8],
     times: &[u32],
     states: &[u8],
     codes: &mut [u8; 65535],
-    tried: &mut [u32; 65535],
     out: &mut [u8],
 ) -> Outcome
-    requires { ⌜ Accepted k sort (now tree) ⌝ }
+    requires { ⌜ Accepted k Boolean (now tree) ⌝ }
     ensures { λ r. ⌜ RowsText k (now (times .entry)) (now (states .entry))
         (treeListing k (now (times .entry)) (now (states .entry)) (now (tree .entry)))
         (now (out .entry)) (now (out .exit)) r ⌝ }
 {
-    list_front(
-        sort,
-        k,
-        tree,
-        times,
-        states,
-        &mut codes[..],
-        &mut tried[..],
-        out,
-    )
+    list_front(k, tree, times, states, &mut codes[..], out)
 }
 
-// What a tree is that a text gives, at all rows, listed.
+// The same, by way of a list of an entry for each row that there can be.
+fn list_boolean(k: usize, tree: &[u8], times: &[u32], states: &[u8], out: &mut [u8]) -> Outcome
+    requires { ⌜ Accepted k Boolean (now tree) ⌝ }
+    ensures { λ r. ⌜ RowsText k (now (times .entry)) (now (states .entry))
+        (treeListing k (now (times .entry)) (now (states .entry)) (now (tree .entry)))
+        (now (out .entry)) (now (out .exit)) r ⌝ }
+{
+    let mut codes = [0u8; 65535];
+    list_lent(k, tree, times, states, &mut codes, out)
+}
+
+// What a tree is that a text gives, at all rows, listed: by its sort.
 fn list_tree(
     sort: Sort,
     k: usize,
@@ -157,9 +99,10 @@ fn list_tree(
         (treeListing k (now (times .entry)) (now (states .entry)) (now (tree .entry)))
         (now (out .entry)) (now (out .exit)) r ⌝ }
 {
-    let mut codes = [0u8; 65535];
-    let mut tried = [0u32; 65535];
-    list_lent(sort, k, tree, times, states, &mut codes, &mut tried, out)
+    match sort {
+        Sort::Boolean => list_boolean(k, tree, times, states, out),
+        Sort::Vector => list(k, times.len(), tree, times, states, out),
+    }
 }
 
 // The listing of what a text gives, by its sort.

@@ -2,15 +2,17 @@
 use crate::answers::counting;
 use crate::answers::matching;
 use crate::answers::told;
+use alf::RowNo;
 use matching_calls::matching::match_row;
 use matching_calls::matching::totals;
 use row_calls::written::row_answer;
 use row_calls::written::row_state;
 use row_calls::written::row_value;
 use run_printing::states::state;
+use run_words::lists::narrow;
 
 // At a row: the answer as written, by alternatives, the value, the state.
-pub fn at_row(call: u8, names: usize, n: usize, tree: &[u8], states: &[u8], row: usize) {
+pub fn at_row(call: u8, names: usize, n: usize, tree: &[u8], states: &[u8], row: RowNo) {
     match call {
         b'w' => told(row_answer(names, n, tree, states, row)),
         b'r' => matching(match_row(names, n, tree, states, row)),
@@ -23,7 +25,7 @@ pub fn at_row(call: u8, names: usize, n: usize, tree: &[u8], states: &[u8], row:
 pub fn at_rows(call: u8, names: usize, n: usize, tree: &[u8], states: &[u8], from: usize) {
     let mut i = from;
     while i < n {
-        at_row(call, names, n, tree, states, i);
+        at_row(call, names, n, tree, states, RowNo(narrow(i)));
         i += 1;
     }
 }

@@ -1,6 +1,7 @@
 // The calls that write no list, as a line of `matching_runs` asks for them: at a row, at all rows one by one, by the
 // queue, the totals, a push. Words 1 to 5 of a line are the names, the rows, the states, the row and the new row. All
 // are proved to be safe and to end.
+use alf::RowNo;
 use matching_calls::matching::totals;
 use run_calls::answers::counting;
 use run_calls::queues::by_push;
@@ -17,7 +18,8 @@ use run_words::words::number_in;
 pub fn row_in(call: u8, line: &[u8], tree: &[u8]) {
     let names = number_in(line, 1);
     let n = number_in(line, 2);
-    at_row(call, names, n, tree, list_in(line, 3), number_in(line, 4));
+    let row = narrow(number_in(line, 4));
+    at_row(call, names, n, tree, list_in(line, 3), RowNo(row));
     character(b',');
 }
 

@@ -1,119 +1,123 @@
-// The command `show`: the trace as a test-pattern table, a line for each row, with the number of changed pins.
-ghost use Prim.Native.Nat.{_≤_};
+// The command `show`: the trace as a table that tells of each row which pins changed. The text is made by a call of the
+// library, for 1,000 rows at a time and the row before them; here it is printed, without the lines that stand already.
+use activity::texts::activity;
+use basics::Outcome;
+use complaints::refused;
 use console::output::say_front;
 use console::output::short;
-use states::changes::changes_of;
-use text_parts::puts::put;
-use text_parts::puts::put_byte;
+use text_parts::parts::start_of;
 
-// A number.
-fn put_number(out: &mut [u8], at: usize, n: u64) -> usize {
-    let mut digits = [0u8; 20];
-    let k = io::decimal(n, &mut digits);
-    put(out, at, &digits[..k])
-}
+// How many rows are shown at a time.
+const ROWS: usize = 1000;
 
-// A byte of a list of slots: a blank before each name, and no zeros behind it.
-fn put_slot_byte(out: &mut [u8], at: usize, i: usize, b: u8) -> usize {
-    if i % 32 == 0 {
-        let p = put_byte(out, at, b' ');
-        return put_byte(out, p, b);
-    }
-    if b == 0 {
-        return at;
-    }
-    put_byte(out, at, b)
-}
-
-// A state's letter, behind a blank.
-fn put_state(out: &mut [u8], at: usize, state: u8) -> usize {
-    let letters = b"01XHLWZU";
-    let p = put_byte(out, at, b' ');
-    if state < 8 {
-        return put_byte(out, p, letters[state as usize]);
-    }
-    put_byte(out, p, b'?')
-}
-
-// An entry of a list: of names in slots, or of states.
-fn put_entry(out: &mut [u8], at: usize, i: usize, entry: u8, slots: bool) -> usize {
-    if slots {
-        return put_slot_byte(out, at, i, entry);
-    }
-    put_state(out, at, entry)
-}
-
-// All entries of such a list.
-fn put_list(out: &mut [u8], at: usize, list: &[u8], slots: bool) -> usize {
-    let mut p = at;
-    let mut i: usize = 0;
-    while i < list.len() {
-        p = put_entry(out, p, i, list[i], slots);
-        i += 1;
-    }
-    p
-}
-
-fn say_head(out: &mut [u8], names: &[u8]) {
-    let p = put(out, 0, b"time");
-    let q = put_list(out, p, names, true);
-    let n = put(out, q, b" changed\n");
-    say_front(out, n);
-}
-
-fn say_row(out: &mut [u8], time: u32, old: &[u8], new: &[u8]) {
-    let c = changes_of(old, new);
-    let p = put_number(out, 0, time as u64);
-    let q = put_list(out, p, new, false);
-    let r = put_byte(out, q, b' ');
-    let s = put_number(out, r, c.many as u64);
-    let n = put_byte(out, s, b'\n');
-    say_front(out, n);
-}
-
-// Where the row before the one at `at` stands; row 0 is its own, as nothing changed there.
-fn before(at: usize, k: usize) -> usize
-    ensures { λ r. ⌜ r ≤ at ⌝ }
-{
-    if at < k {
-        return at;
-    }
-    at - k
-}
-
-// A row of k names whose states stand at `at`; where the next row's stand.
-fn say_at(out: &mut [u8], time: u32, states: &[u8], k: usize, at: usize) -> usize {
-    if states.len() < k {
+// The bytes of a text from one place to another.
+fn say_part(text: &[u8], from: usize, to: usize) {
+    if to < from {
         short();
-        return at;
+        return;
     }
-    if states.len() - k < at {
+    if text.len() < from {
         short();
-        return at;
+        return;
     }
-    let end = at + k;
-    let from = before(at, k);
-    let to = from + k;
-    say_row(out, time, &states[from..to], &states[at..end]);
-    end
+    say_front(&text[from..], to - from);
 }
 
-fn say_rows(out: &mut [u8], times: &[u32], states: &[u8], k: usize) {
-    let mut at: usize = 0;
+// What was made is printed behind its first lines, or it is said why there is nothing.
+fn tell(out: &[u8], o: Outcome, lines: usize) {
+    match o {
+        Outcome::Done(n) => say_part(out, start_of(out, lines, b'\n'), n),
+        Outcome::Refused(r) => refused(b"trace", r),
+    }
+}
+
+fn told(names: &[u8], times: &[u32], states: &[u8], lines: usize, out: &mut [u8]) {
+    let o = activity(names, times, states, times.len(), out);
+    tell(out, o, lines);
+}
+
+// The row before row r, and how many lines are that row's and the head's; row 0 has none before it.
+fn row_before(r: usize) -> usize {
+    if r == 0 {
+        return 0;
+    }
+    r - 1
+}
+
+fn lines_before(r: usize) -> usize {
+    if r == 0 {
+        return 0;
+    }
+    2
+}
+
+// The end of the rows from row r on that are shown at a time.
+fn end_of(r: usize, n: usize) -> usize {
+    if n <= r {
+        return n;
+    }
+    if n - r <= ROWS {
+        return n;
+    }
+    r + ROWS
+}
+
+// How many codes n rows of k names have.
+fn codes_in(n: usize, k: usize) -> usize {
+    if 32 < k {
+        return 0;
+    }
+    if 65535 < n {
+        return 0;
+    }
+    n * k
+}
+
+// A part of a list, or all of it: lists that do not fit each other are refused by what takes them.
+fn part_times(list: &[u32], from: usize, to: usize) -> &[u32] {
+    if to < from {
+        return list;
+    }
+    if list.len() < to {
+        return list;
+    }
+    &list[from..to]
+}
+
+fn part_states(list: &[u8], from: usize, to: usize) -> &[u8] {
+    if to < from {
+        return list;
+    }
+    if list.len() < to {
+        return list;
+    }
+    &list[from..to]
+}
+
+// The rows from row r on. They are made with the row before them, since what changed at a row is told by two rows.
+fn show_some(names: &[u8], times: &[u32], states: &[u8], r: usize, out: &mut [u8]) {
+    let k = names.len() / 32;
+    let from = row_before(r);
+    let to = end_of(r, times.len());
+    let t = part_times(times, from, to);
+    let s = part_states(states, codes_in(from, k), codes_in(to, k));
+    told(names, t, s, lines_before(r), out);
+}
+
+fn show_all(names: &[u8], times: &[u32], states: &[u8], out: &mut [u8]) {
     let mut r: usize = 0;
     while r < times.len() {
-        at = say_at(out, times[r], states, k, at);
-        r += 1;
+        show_some(names, times, states, r, out);
+        r += ROWS;
     }
 }
 
-fn show_in(out: &mut [u8; 4096], names: &[u8], times: &[u32], states: &[u8]) {
-    let line: &mut [u8] = out;
-    say_head(line, names);
-    say_rows(line, times, states, names.len() / 32);
+fn lent(names: &[u8], times: &[u32], states: &[u8], out: &mut [u8; 1136203]) {
+    show_all(names, times, states, out);
 }
 
+// Room for the longest: 1,001 rows with times of ten digits, and 32 names of 32 bytes that change at each row.
 pub fn show(names: &[u8], times: &[u32], states: &[u8]) {
-    let mut line = io::buffer();
-    show_in(&mut line, names, times, states);
+    let mut out = [0u8; 1136203];
+    lent(names, times, states, &mut out);
 }

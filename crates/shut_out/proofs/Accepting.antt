@@ -28,7 +28,7 @@ use Rattle.names.specs.Check.{namesOrder}
 use Rattle.tokens.specs.Texts.{order}
 use Rattle.reader.specs.declared.Read.{Read}
 use Rattle.reader.specs.Reads.{refusedWith}
-use Rattle.reader.specs.Reading.{treeOrder, Reading}
+use Rattle.reader.specs.Reading.{treeOrder, ReadsText}
 use Rattle.queue.specs.declared.queues.Queue.{Queue}
 use Rattle.matching_calls.specs.declared.matching.Matching.{Matching}
 use Rattle.matching_calls.specs.declared.matching.Matching.the-variants as matching
@@ -37,7 +37,7 @@ use Rattle.update_calls.specs.Correcting.{Correction}
 use Rattle.update_calls.specs.Pushing.{RowFits, Push}
 use Rattle.judging.specs.Orders.{Rows}
 use Rattle.call_laws.proofs.Routes.{codes-never}
-use Rattle.shut_out.specs.Reasons.{refusal}
+use Rattle.basics.specs.Refusing.{refusal}
 use Rattle.shut_out.proofs.Refusing.{GoodNames, names-pass}
 use Rattle.shut_out.proofs.RefusingTexts.{read-expression}
 use Rattle.shut_out.proofs.RefusingRows.{GoodTrace, match-row, match-all}
@@ -113,7 +113,7 @@ short-tried {k} {n} {tree} {codes} {answers} {tried} {answers′} {tried′} o w
     (inl (refl, record { given = λ l. h (l .0 .1); there = refl })) o (answers′, tried′) w .0
 
 pub text-4097 : {names text : List ℕ} {sort : Sort} (x : Read) → GoodNames names → 4096 < length text
-    → Reading names text sort x → x ≡ refusedWith 1 4096
+    → ReadsText names text sort x → x ≡ refusedWith 1 4096
 unfolding RefusedWith order
 text-4097 {names} {text} {sort} x g h w =
     read-expression names text sort .no-other 1 4096

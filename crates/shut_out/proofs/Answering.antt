@@ -18,13 +18,15 @@ use Rattle.basics.specs.declared.Outcome.the-variants as outcome
 use Rattle.basics.specs.Words.{greatest, listed, count, some, all}
 use Rattle.alf.specs.States.{reduce}
 use Rattle.alf.specs.Expressions.{Vector}
-use Rattle.alf.specs.Values.{state, settled, value, stateAt, valueAt}
+use Rattle.alf.specs.Values.{value, recordedOr, state, stateAt, valueAt}
 use Rattle.states.specs.declared.changes.Changes.{Changes}
-use Rattle.alf.specs.Bytes.{halfNumber, edgeNumber, booleanBytes, vectorBytes, bytesOf, halfAt, edgeAt, leafAt, oneAt}
-use Rattle.alf.specs.Bytes.{operationAt, isBoolean, topBoolean, topVector, under, ifSo, run, stackAt}
+use Rattle.alf.specs.Bytes.{halfNumber, edgeNumber, booleanBytes, vectorBytes, bytesOf}
+use Rattle.alf.specs.Decoder.{halfAt, edgeAt, leafAt, oneAt}
+use Rattle.alf.specs.Decoder.{operationAt, isBoolean, topBoolean, topVector, under, ifSo, run, stackAt}
 use Rattle.trees.specs.Parts.{booleanAt}
-use Rattle.alf.specs.Windows.{asked, digitAsked, letterAsked, edgeOn, answer, best, named, rowAnswer}
-use Rattle.alf.specs.Windows.{numberOf}
+use Rattle.alf.specs.Windows.{asked, digitAsked, letterAsked, edgeOn, answer, best, numbered, rowAnswer}
+use Rattle.alf.specs.Answers.{numberOf}
+use Rattle.alf.proofs.Answers.{number-same}
 use Rattle.alf.specs.Alternatives.{isName, halves, literalsAt, possible, contradictory}
 use Rattle.alf.specs.Alternatives.{alternatives, tries, tried}
 use Rattle.alf.specs.Traces.{changed, mask, changeMask}
@@ -51,7 +53,7 @@ use Rattle.shut_out.proofs.OnT.{trace-good, rises-accepted, rises-is}
 
 -- what is answered at a row of T, by document 01's number
 abbrev pub at : Vector → ℕ → ℕ
-at p i = numberOf (rowAnswer (stateAt names states) p i)
+at p i = rowAnswer (stateAt names states) p i
 
 -- the numbers that are told: of an answer, and of tries
 unfoldable pub number : Told → ℕ
@@ -68,30 +70,32 @@ triesFound (matching.Refused r) = 0
 
 -- case 1, computed at the rows that are used
 rises-0 : at rises 0 ≡ 3
-unfolding rowAnswer numberOf
+unfolding rowAnswer
 rises-0 = refl
 
 pub rises-1 : at rises 1 ≡ 1
-unfolding states rowAnswer numberOf named best answer greatest state edgeOn asked digitAsked letterAsked reduce
+unfolding states rowAnswer numbered best answer greatest value recordedOr state edgeOn asked digitAsked letterAsked
+    reduce
 rises-1 = refl
 
 pub rises-4 : at rises 4 ≡ 2
-unfolding states rowAnswer numberOf named best answer greatest state edgeOn asked digitAsked letterAsked reduce
+unfolding states rowAnswer numbered best answer greatest value recordedOr state edgeOn asked digitAsked letterAsked
+    reduce
 rises-4 = refl
 
 row-number : (i : ℕ) → i < rows → (x : Told) → RowAnswer names rows (T.asked rises) states i x
     → number x ≡ at rises i
 unfolding number
 row-number i l x w =
-    ap number (answered (trace-good .lists) rises-accepted (trace-good .codes) l x w)
-    ∙ ap (λ (p : Vector). at p i) rises-is
+    let a = answered (trace-good .lists) rises-accepted (trace-good .codes) l x w in
+    ap number (a .is) ∙ (rw rises-is at (a .numbered))
 
 row-found : (i : ℕ) → i < rows → (x : Matching) → RowMatch names rows (T.asked rises) states i x
     → numberFound x ≡ at rises i
 unfolding numberFound
 row-found i l x w =
-    ap numberFound (matched (trace-good .lists) rises-accepted (trace-good .codes) l x w)
-    ∙ ap (λ (p : Vector). at p i) rises-is
+    let a = matched (trace-good .lists) rises-accepted (trace-good .codes) l x w in
+    ap numberFound (a .is) ∙ (rw rises-is at (a .numbered))
 
 -- "one answer for all rows"
 pub one-answer-for-all : (x : Told)
@@ -154,8 +158,8 @@ module _ {answers tried answers′ tried′ : List ℕ} (room : length answers �
 -- row 0 has no event, no alternative is tried there, and nothing changed; whatever the tree and the trace
 pub row-0-answered : {k n : ℕ} {tree codes : List ℕ} (a : Answer) → RowAnswer k n tree codes 0 (told.Answered a)
     → (a ≡ NoEvent → ⊥) → ⊥
-unfolding Tells rowAnswer
-row-0-answered a w differ = differ (w .comes .1)
+unfolding Tells rowAnswer numberOf
+row-0-answered a w differ = differ (number-same a NoEvent (w .comes .1))
 
 pub row-0-tried : {k n : ℕ} {tree codes : List ℕ} (m : Matched) → RowMatch k n tree codes 0 (matching.Found m)
     → 0 < m .tries → ⊥
@@ -167,18 +171,18 @@ unfolding mask changed
 none-changed k codes zero = refl
 none-changed k codes (suc j) = omega (arith, none-changed k codes j)
 
-pub row-0-changed : (k n : ℕ) (codes : List ℕ) (c : Changes) → changes.Comes k n codes 0 (row-changes.Changed c)
+pub row-0-changed : (k n : ℕ) (codes : List ℕ) (c : Changes) → changes.RowChanged k n codes 0 (row-changes.Changed c)
     → (c .mask ≡ 0 → ⊥) → ⊥
-unfolding changes.Comes changeMask
+unfolding changes.RowChanged changeMask
 row-0-changed k n codes c w differ = differ (w .1 .changed ∙ none-changed k codes k)
 
 -- one value for all rows: A is 0 at row 0 and 1 at row 1
 A-0 : valueAt names states (booleanAt just-A names (length just-A)) 0 ≡ 0
-unfolding booleanBytes bytesOf leafAt operationAt run stackAt topBoolean states value settled state reduce
+unfolding booleanBytes bytesOf leafAt operationAt run stackAt topBoolean states value reduce
 A-0 = refl
 
 A-1 : valueAt names states (booleanAt just-A names (length just-A)) 1 ≡ 1
-unfolding booleanBytes bytesOf leafAt operationAt run stackAt topBoolean states value settled state reduce
+unfolding booleanBytes bytesOf leafAt operationAt run stackAt topBoolean states value reduce
 A-1 = refl
 
 pub one-value-for-all : {out out′ : List ℕ} (v m : ℕ) → AllValues names rows just-A states out out′ (outcome.Done m)

@@ -13,7 +13,7 @@ use Rattle.basics.specs.declared.Outcome.{Outcome}
 use Rattle.alf.specs.Refusals.{Comes}
 use Rattle.names.specs.Check.{namesOrder}
 use Rattle.reader.specs.declared.Read.{Read}
-use Rattle.reader.specs.Reading.{Reading}
+use Rattle.reader.specs.Reading.{ReadsText}
 use Rattle.writer.specs.Writing as writing
 use Rattle.trace_reader.specs.declared.Reading as files
 use Rattle.trace_reader.specs.Reading.{Reads}
@@ -75,7 +75,7 @@ check-names κs a = (tt, λ r e p. p)
 
 pub read-expression : (κs : Lfts 2) (a : Dens κs read-expression-kinds.ps) → read-expression-says.Pre κs a
     × ((r : Read) (e : Dens κs read-expression-kinds.ps) → read-expression-says.Post κs a r e
-    → Reading (now (a .0)) (now (a .1 .0)) (a .1 .1 .0) r)
+    → ReadsText (now (a .0)) (now (a .1 .0)) (a .1 .1 .0) r)
 read-expression κs a = (tt, λ r e p. p)
 
 pub write-expression : (κs : Lfts 3) (a : Dens κs write-expression-kinds.ps) → write-expression-says.Pre κs a
@@ -97,7 +97,7 @@ write-trace κs a = (tt, λ r e p. p)
 
 pub changes-at : (κs : Lfts 1) (a : Dens κs changes-at-kinds.ps) → changes-at-says.Pre κs a
     × ((r : RowChanges) (e : Dens κs changes-at-kinds.ps) → changes-at-says.Post κs a r e
-    → changes.Comes (a .0) (a .1 .0) (now (a .1 .1 .0)) (a .1 .1 .1 .0) r)
+    → changes.RowChanged (a .0) (a .1 .0) (now (a .1 .1 .0)) ((a .1 .1 .1 .0) .0) r)
 changes-at κs a = (tt, λ r e p. p)
 
 pub rewrite : (κs : Lfts 5) (a : Dens κs rewrite-kinds.ps) → rewrite-says.Pre κs a
@@ -114,12 +114,12 @@ contradictions κs a = (tt, λ r e p. p)
 
 pub row-state : (κs : Lfts 2) (a : Dens κs row-state-kinds.ps) → row-state-says.Pre κs a
     × ((r : Outcome) (e : Dens κs row-state-kinds.ps) → row-state-says.Post κs a r e
-    → RowState (a .0) (a .1 .0) (now (a .1 .1 .0)) (now (a .1 .1 .1 .0)) (a .1 .1 .1 .1 .0) r)
+    → RowState (a .0) (a .1 .0) (now (a .1 .1 .0)) (now (a .1 .1 .1 .0)) ((a .1 .1 .1 .1 .0) .0) r)
 row-state κs a = (tt, λ r e p. p)
 
 pub row-value : (κs : Lfts 2) (a : Dens κs row-value-kinds.ps) → row-value-says.Pre κs a
     × ((r : Outcome) (e : Dens κs row-value-kinds.ps) → row-value-says.Post κs a r e
-    → RowValue (a .0) (a .1 .0) (now (a .1 .1 .0)) (now (a .1 .1 .1 .0)) (a .1 .1 .1 .1 .0) r)
+    → RowValue (a .0) (a .1 .0) (now (a .1 .1 .0)) (now (a .1 .1 .1 .0)) ((a .1 .1 .1 .1 .0) .0) r)
 row-value κs a = (tt, λ r e p. p)
 
 pub values : (κs : Lfts 3) (a : Dens κs values-kinds.ps) → values-says.Pre κs a
@@ -130,18 +130,18 @@ values κs a = (tt, λ r e p. p)
 
 pub row-answer : (κs : Lfts 2) (a : Dens κs row-answer-kinds.ps) → row-answer-says.Pre κs a
     × ((r : Told) (e : Dens κs row-answer-kinds.ps) → row-answer-says.Post κs a r e
-    → RowAnswer (a .0) (a .1 .0) (now (a .1 .1 .0)) (now (a .1 .1 .1 .0)) (a .1 .1 .1 .1 .0) r)
+    → RowAnswer (a .0) (a .1 .0) (now (a .1 .1 .0)) (now (a .1 .1 .1 .0)) ((a .1 .1 .1 .1 .0) .0) r)
 row-answer κs a = (tt, λ r e p. p)
 
 pub window-answer : (κs : Lfts 2) (a : Dens κs window-answer-kinds.ps) → window-answer-says.Pre κs a
     × ((r : Told) (e : Dens κs window-answer-kinds.ps) → window-answer-says.Post κs a r e
-    → WindowAnswer (a .0) (a .1 .0) (now (a .1 .1 .0)) (now (a .1 .1 .1 .0)) (a .1 .1 .1 .1 .0) (a .1 .1 .1 .1 .1
-    .0) r)
+    → WindowAnswer (a .0) (a .1 .0) (now (a .1 .1 .0)) (now (a .1 .1 .1 .0)) ((a .1 .1 .1 .1 .0) .0) ((a .1
+    .1 .1 .1 .1 .0) .0) r)
 window-answer κs a = (tt, λ r e p. p)
 
 pub match-row : (κs : Lfts 2) (a : Dens κs match-row-kinds.ps) → match-row-says.Pre κs a
     × ((r : Matching) (e : Dens κs match-row-kinds.ps) → match-row-says.Post κs a r e
-    → RowMatch (a .0) (a .1 .0) (now (a .1 .1 .0)) (now (a .1 .1 .1 .0)) (a .1 .1 .1 .1 .0) r)
+    → RowMatch (a .0) (a .1 .0) (now (a .1 .1 .0)) (now (a .1 .1 .1 .0)) ((a .1 .1 .1 .1 .0) .0) r)
 match-row κs a = (tt, λ r e p. p)
 
 pub match-all : (κs : Lfts 4) (a : Dens κs match-all-kinds.ps) → match-all-says.Pre κs a

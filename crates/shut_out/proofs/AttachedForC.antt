@@ -10,7 +10,7 @@ use denote.Ref.{now}
 use borrow.Fn.Kinds.{Dens}
 use Rattle.alf.specs.Refusals.{Comes}
 use Rattle.names.specs.Check.{namesOrder}
-use Rattle.reader.specs.Reading.{Reading}
+use Rattle.reader.specs.Reading.{ReadsText}
 use Rattle.writer.specs.Writing as writing
 use Rattle.trace_reader.specs.Reading.{Reads}
 use Rattle.trace_writer.specs.Writing as trace-writing
@@ -78,7 +78,7 @@ check-names κs a = (tt, λ r e p. p)
 
 pub read-expression : (κs : Lfts 2) (a : Dens κs read-expression-kinds.ps) → read-expression-says.Pre κs a
     × ((r : Expression) (e : Dens κs read-expression-kinds.ps) → read-expression-says.Post κs a r e
-    → Hands (Reading (now (a .0)) (now (a .1 .0)) (sortOf (a .1 .1 .0))) toldExpression r)
+    → Hands (ReadsText (now (a .0)) (now (a .1 .0)) (sortOf (a .1 .1 .0))) toldExpression r)
 read-expression κs a = (tt, λ r e p. p)
 
 pub write-expression : (κs : Lfts 3) (a : Dens κs write-expression-kinds.ps) → write-expression-says.Pre κs a
@@ -101,7 +101,7 @@ write-trace κs a = (tt, λ r e p. p)
 
 pub changes-at : (κs : Lfts 1) (a : Dens κs changes-at-kinds.ps) → changes-at-says.Pre κs a
     × ((r : Changed) (e : Dens κs changes-at-kinds.ps) → changes-at-says.Post κs a r e
-    → Hands (changes.Comes (a .0) (a .1 .0) (now (a .1 .1 .0)) (a .1 .1 .1 .0)) toldChanges r)
+    → Hands (changes.RowChanged (a .0) (a .1 .0) (now (a .1 .1 .0)) (a .1 .1 .1 .0)) toldChanges r)
 changes-at κs a = (tt, λ r e p. p)
 
 pub row-state : (κs : Lfts 2) (a : Dens κs row-state-kinds.ps) → row-state-says.Pre κs a

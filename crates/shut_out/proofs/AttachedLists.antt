@@ -1,21 +1,19 @@
 -- The same as Attached, for the calls over alternatives handed in as lists, the listing, and the four lines of the
 -- table.
-use mathlib.Core.Bool.{Bool}
 use contract.Lifetimes.{Lfts}
 use denote.Ref.{now}
 use borrow.Fn.Kinds.{Dens}
 use Rattle.basics.specs.declared.Outcome.{Outcome}
-use Rattle.basics.specs.Deciding.{Decides}
 use Rattle.matching_calls.specs.declared.matching.Matching.{Matching}
 use Rattle.matching_calls.specs.declared.matching.Counting.{Counting}
 use Rattle.update_calls.specs.declared.pushing.Pushing.{Pushing}
-use Rattle.listed_calls.specs.Lists.{AcceptedAlternatives}
+use Rattle.listed_calls.specs.Fitting.{ListedFits}
 use Rattle.listed_calls.specs.Listed.{ListedMatch, ListedAll, ListedTotals, ListedPush}
-use Rattle.listing.specs.Calls.{ListsText}
+use Rattle.tree_listings.specs.TreeTexts.{ListsTree, LinesTree}
 use Rattle.figures.specs.Delivering.{Delivers}
-use Rattle.table_lines.specs.Table.{headingLine, patternLine, refusedLine, totalLine}
-use Rattle.listed_calls.proofs.accepting.fits.Reads as listed-fits-says
-use Rattle.listed_calls.proofs.accepting.fits.Kinds as listed-fits-kinds
+use Rattle.table_lines.specs.Table.{headingLine, refusedLine, totalLine}
+use Rattle.listed_calls.proofs.accepting.count_listed.Reads as listed-fits-says
+use Rattle.listed_calls.proofs.accepting.count_listed.Kinds as listed-fits-kinds
 use Rattle.listed_calls.proofs.listed.match_row.Reads as listed-match-row-says
 use Rattle.listed_calls.proofs.listed.match_row.Kinds as listed-match-row-kinds
 use Rattle.listed_calls.proofs.listed.match_all.Reads as listed-match-all-says
@@ -24,27 +22,28 @@ use Rattle.listed_calls.proofs.listed.totals.Reads as listed-totals-says
 use Rattle.listed_calls.proofs.listed.totals.Kinds as listed-totals-kinds
 use Rattle.listed_calls.proofs.listed.push.Reads as listed-push-says
 use Rattle.listed_calls.proofs.listed.push.Kinds as listed-push-kinds
-use Rattle.listing.proofs.listings.list.Reads as list-says
-use Rattle.listing.proofs.listings.list.Kinds as list-kinds
+use Rattle.tree_listings.proofs.listings.list.Reads as list-says
+use Rattle.tree_listings.proofs.listings.list.Kinds as list-kinds
 use Rattle.table_lines.proofs.lines.write_heading.Reads as table-heading-says
 use Rattle.table_lines.proofs.lines.write_heading.Kinds as table-heading-kinds
-use Rattle.table_lines.proofs.lines.write_line.Reads as table-line-says
-use Rattle.table_lines.proofs.lines.write_line.Kinds as table-line-kinds
+use Rattle.tree_listings.proofs.lines.write_totals.Reads as table-line-says
+use Rattle.tree_listings.proofs.lines.write_totals.Kinds as table-line-kinds
 use Rattle.table_lines.proofs.lines.write_refused.Reads as table-refused-says
 use Rattle.table_lines.proofs.lines.write_refused.Kinds as table-refused-kinds
 use Rattle.table_lines.proofs.lines.write_total.Reads as table-total-says
 use Rattle.table_lines.proofs.lines.write_total.Kinds as table-total-kinds
 
 pub listed-fits : (κs : Lfts 5) (a : Dens κs listed-fits-kinds.ps) → listed-fits-says.Pre κs a
-    × ((r : Bool) (e : Dens κs listed-fits-kinds.ps) → listed-fits-says.Post κs a r e
-    → Decides r (AcceptedAlternatives (a .0) (now (a .1 .0)) (now (a .1 .1 .0)) (now (a .1 .1 .1 .0)) (now (a .1 .1
-    .1 .1 .0)) (now (a .1 .1 .1 .1 .1 .0))))
+    × ((r : Outcome) (e : Dens κs listed-fits-kinds.ps) → listed-fits-says.Post κs a r e
+    → ListedFits (a .0) (now (a .1 .0)) (now (a .1 .1 .0)) (now (a .1 .1 .1 .0)) (now (a .1 .1 .1 .1 .0))
+    (now (a .1 .1 .1 .1 .1 .0)) r)
 listed-fits κs a = (tt, λ r e p. p)
 
 pub listed-match-row : (κs : Lfts 6) (a : Dens κs listed-match-row-kinds.ps) → listed-match-row-says.Pre κs a
     × ((r : Matching) (e : Dens κs listed-match-row-kinds.ps) → listed-match-row-says.Post κs a r e
     → ListedMatch (a .0) (a .1 .0) (now (a .1 .1 .0)) (now (a .1 .1 .1 .0)) (now (a .1 .1 .1 .1 .0)) (now (a .1 .1
-    .1 .1 .1 .0)) (now (a .1 .1 .1 .1 .1 .1 .0)) (now (a .1 .1 .1 .1 .1 .1 .1 .0)) (a .1 .1 .1 .1 .1 .1 .1 .1 .0) r)
+    .1 .1 .1 .0)) (now (a .1 .1 .1 .1 .1 .1 .0)) (now (a .1 .1 .1 .1 .1 .1 .1 .0))
+    ((a .1 .1 .1 .1 .1 .1 .1 .1 .0) .0) r)
 listed-match-row κs a = (tt, λ r e p. p)
 
 pub listed-match-all : (κs : Lfts 8) (a : Dens κs listed-match-all-kinds.ps) → listed-match-all-says.Pre κs a
@@ -67,9 +66,10 @@ pub listed-push : (κs : Lfts 6) (a : Dens κs listed-push-kinds.ps) → listed-
     .1 .1 .1 .1 .0)) (a .1 .1 .1 .1 .1 .1 .0) (now (a .1 .1 .1 .1 .1 .1 .1 .0)) (r .told) (r .queue))
 listed-push κs a = (tt, λ r e p. p)
 
-pub list : (κs : Lfts 3) (a : Dens κs list-kinds.ps) → list-says.Pre κs a
+pub list : (κs : Lfts 4) (a : Dens κs list-kinds.ps) → list-says.Pre κs a
     × ((r : Outcome) (e : Dens κs list-kinds.ps) → list-says.Post κs a r e
-    → ListsText (now (a .0)) (now (a .1 .0)) (now (a .1 .1 .0)) (now (e .1 .1 .0)) r)
+    → ListsTree (a .0) (a .1 .0) (now (a .1 .1 .0)) (now (a .1 .1 .1 .0)) (now (a .1 .1 .1 .1 .0))
+    (now (a .1 .1 .1 .1 .1 .0)) (now (e .1 .1 .1 .1 .1 .0)) r)
 list κs a = (tt, λ r e p. p)
 
 pub table-heading : (κs : Lfts 1) (a : Dens κs table-heading-kinds.ps) → table-heading-says.Pre κs a
@@ -77,10 +77,10 @@ pub table-heading : (κs : Lfts 1) (a : Dens κs table-heading-kinds.ps) → tab
     → Delivers headingLine (now (a .0)) (now (e .0)) r)
 table-heading κs a = (tt, λ r e p. p)
 
-pub table-line : (κs : Lfts 2) (a : Dens κs table-line-kinds.ps) → table-line-says.Pre κs a
+pub table-line : (κs : Lfts 4) (a : Dens κs table-line-kinds.ps) → table-line-says.Pre κs a
     × ((r : Outcome) (e : Dens κs table-line-kinds.ps) → table-line-says.Post κs a r e
-    → Delivers (patternLine (now (a .0)) ((a .1 .0) .yes) ((a .1 .0) .unknown) ((a .1 .0) .no) (a .1 .1 .0)) (now (a
-    .1 .1 .1 .0)) (now (e .1 .1 .1 .0)) r)
+    → LinesTree (a .0) (a .1 .0) (now (a .1 .1 .0)) (now (a .1 .1 .1 .0)) (now (a .1 .1 .1 .1 .0))
+    (now (a .1 .1 .1 .1 .1 .0)) (now (e .1 .1 .1 .1 .1 .0)) r)
 table-line κs a = (tt, λ r e p. p)
 
 pub table-refused : (κs : Lfts 2) (a : Dens κs table-refused-kinds.ps) → table-refused-says.Pre κs a

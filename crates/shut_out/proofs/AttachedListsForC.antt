@@ -1,14 +1,12 @@
 -- The same as AttachedForC, for the functions over alternatives handed in as lists, the listing and the table.
-use mathlib.Core.Bool.{Bool}
 use contract.Lifetimes.{Lfts}
 use denote.Ref.{now}
 use borrow.Fn.Kinds.{Dens}
-use Rattle.basics.specs.Deciding.{Decides}
-use Rattle.listed_calls.specs.Lists.{AcceptedAlternatives}
+use Rattle.listed_calls.specs.Fitting.{ListedFits}
 use Rattle.listed_calls.specs.Listed.{ListedMatch, ListedAll, ListedTotals}
-use Rattle.listing.specs.Calls.{ListsText}
+use Rattle.tree_listings.specs.TreeTexts.{ListsTree, LinesTree}
 use Rattle.figures.specs.Delivering.{Delivers}
-use Rattle.table_lines.specs.Table.{headingLine, patternLine, refusedLine, totalLine}
+use Rattle.table_lines.specs.Table.{headingLine, refusedLine, totalLine}
 use Rattle.telling.specs.Handing.{Hands, told}
 use Rattle.telling.specs.Matching.{toldMatch, toldCounts, queueOf, toldPush}
 use Rattle.telling.specs.Listed.{ListedPushes}
@@ -38,9 +36,9 @@ use Rattle.dachsmond.proofs.listings.dachsmond_table_total.Reads as table-total
 use Rattle.dachsmond.proofs.listings.dachsmond_table_total.Kinds as table-total-kinds
 
 pub listed-fits : (κs : Lfts 5) (a : Dens κs listed-fits-kinds.ps) → listed-fits-says.Pre κs a
-    × ((r : Bool) (e : Dens κs listed-fits-kinds.ps) → listed-fits-says.Post κs a r e
-    → Decides r (AcceptedAlternatives (a .0) (now (a .1 .0)) (now (a .1 .1 .0)) (now (a .1 .1 .1 .0))
-    (now (a .1 .1 .1 .1 .0)) (now (a .1 .1 .1 .1 .1 .0))))
+    × ((r : Told) (e : Dens κs listed-fits-kinds.ps) → listed-fits-says.Post κs a r e
+    → Hands (ListedFits (a .0) (now (a .1 .0)) (now (a .1 .1 .0)) (now (a .1 .1 .1 .0))
+    (now (a .1 .1 .1 .1 .0)) (now (a .1 .1 .1 .1 .1 .0))) told r)
 listed-fits κs a = (tt, λ r e p. p)
 
 pub listed-match-row : (κs : Lfts 6) (a : Dens κs listed-match-row-kinds.ps) → listed-match-row-says.Pre κs a
@@ -72,9 +70,10 @@ pub listed-push : (κs : Lfts 6) (a : Dens κs listed-push-kinds.ps) → listed-
     (now (a .1 .1 .1 .1 .1 .1 .1 .0))) toldPush r)
 listed-push κs a = (tt, λ r e p. p)
 
-pub list : (κs : Lfts 3) (a : Dens κs list-kinds.ps) → list-says.Pre κs a
+pub list : (κs : Lfts 4) (a : Dens κs list-kinds.ps) → list-says.Pre κs a
     × ((r : Told) (e : Dens κs list-kinds.ps) → list-says.Post κs a r e
-    → Hands (ListsText (now (a .0)) (now (a .1 .0)) (now (a .1 .1 .0)) (now (e .1 .1 .0))) told r)
+    → Hands (ListsTree (a .0) (a .1 .0) (now (a .1 .1 .0)) (now (a .1 .1 .1 .0)) (now (a .1 .1 .1 .1 .0))
+    (now (a .1 .1 .1 .1 .1 .0)) (now (e .1 .1 .1 .1 .1 .0))) told r)
 list κs a = (tt, λ r e p. p)
 
 pub table-heading : (κs : Lfts 1) (a : Dens κs table-heading-kinds.ps) → table-heading-says.Pre κs a
@@ -82,11 +81,10 @@ pub table-heading : (κs : Lfts 1) (a : Dens κs table-heading-kinds.ps) → tab
     → Hands (Delivers headingLine (now (a .0)) (now (e .0))) told r)
 table-heading κs a = (tt, λ r e p. p)
 
-pub table-line : (κs : Lfts 2) (a : Dens κs table-line-kinds.ps) → table-line-says.Pre κs a
+pub table-line : (κs : Lfts 4) (a : Dens κs table-line-kinds.ps) → table-line-says.Pre κs a
     × ((r : Told) (e : Dens κs table-line-kinds.ps) → table-line-says.Post κs a r e
-    → Hands (Delivers (patternLine
-    (now (a .0)) (a .1 .0) (a .1 .1 .0) (a .1 .1 .1 .0) (a .1 .1 .1 .1 .0)) (now (a .1 .1 .1 .1 .1 .0))
-    (now (e .1 .1 .1 .1 .1 .0))) told r)
+    → Hands (LinesTree (a .0) (a .1 .0) (now (a .1 .1 .0)) (now (a .1 .1 .1 .0)) (now (a .1 .1 .1 .1 .0))
+    (now (a .1 .1 .1 .1 .1 .0)) (now (e .1 .1 .1 .1 .1 .0))) told r)
 table-line κs a = (tt, λ r e p. p)
 
 pub table-refused : (κs : Lfts 2) (a : Dens κs table-refused-kinds.ps) → table-refused-says.Pre κs a

@@ -14,15 +14,14 @@ use mathlib.Core.Path.{_≡_, refl, sym, ap, _∙_, subst}
 use mathlib.Core.Logic.{_⊎_}
 use mathlib.Core.List.{List, [], _∷_}
 use lib.ListN.{length, getD}
-use Rattle.alf.specs.declared.Answer.{Answer}
-use Rattle.alf.specs.declared.Answer.the-variants.{No, Yes, Unknown, NoEvent}
 use Rattle.basics.specs.declared.Outcome.{Outcome}
 use Rattle.basics.specs.declared.Outcome.the-variants.{Done, Refused}
 use Rattle.basics.specs.Words.{greatest}
 use Rattle.alf.specs.States.{reduce}
 use Rattle.alf.specs.Expressions.{Vector}
-use Rattle.alf.specs.Values.{state, stateAt}
-use Rattle.alf.specs.Windows.{asked, digitAsked, letterAsked, edgeOn, answer, best, named, rowAnswer, numberOf}
+use Rattle.alf.specs.Values.{value, recordedOr, state, stateAt}
+use Rattle.alf.specs.Windows.{asked, digitAsked, letterAsked, edgeOn, answer, best, numbered, rowAnswer}
+use Rattle.alf.proofs.Answers.{row-answer-small}
 use Rattle.alf.specs.Alternatives.{stepsOf}
 use Rattle.alf.specs.Traces.{corrected, lastRewritten}
 use Rattle.alf.specs.Refusals.{Comes}
@@ -36,14 +35,6 @@ use Rattle.shut_out.specs.Asked as T
 use Rattle.shut_out.specs.Asked.{rises, junk}
 use Rattle.shut_out.proofs.RefusingUpdates.{Correctable, correct}
 use Rattle.shut_out.proofs.OnT.{trace-good, rises-accepted, rises-is, codes-below, below}
-
--- an answer's number is at most 3
-number-small : (a : Answer) → numberOf a ≤ 3
-unfolding numberOf
-number-small No = omega arith
-number-small Yes = omega arith
-number-small Unknown = omega arith
-number-small NoEvent = omega arith
 
 -- the last row whose answer is rewritten
 abbrev last : ℕ → ℕ → List ℕ → ℕ → ℕ
@@ -70,7 +61,7 @@ module _ {k n : ℕ} {tree codes answers : List ℕ} {r : ℕ} {new codes′ ans
           junk-there,
           same,
           correction-reaches (g .accepted) done i a b,
-          number-small (rowAnswer (stateAt k codes′) (expression tree k) i),
+          row-answer-small (stateAt k codes′) (expression tree k) i,
         )
 
     reached : r ≤ last k n tree r
@@ -115,9 +106,9 @@ correctable answers l =
       there = omega arith;
     }
 
-yes-then : numberOf (rowAnswer (stateAt names (corrected names states 3 new-row)) rises 4) ≡ 1
-unfolding
-    states corrected rowAnswer numberOf named best answer greatest state edgeOn asked digitAsked letterAsked reduce
+yes-then : rowAnswer (stateAt names (corrected names states 3 new-row)) rises 4 ≡ 1
+unfolding states corrected rowAnswer numbered best answer greatest value recordedOr state edgeOn asked digitAsked
+    letterAsked reduce
 yes-then = refl
 
 pub stops-at-row-3 : {answers states′ answers′ : List ℕ} (o : Outcome) → length answers ≡ rows
@@ -125,9 +116,9 @@ pub stops-at-row-3 : {answers states′ answers′ : List ℕ} (o : Outcome) →
 stops-at-row-3 {answers} {states′} o l w same =
     let g = correctable answers l in
     let e = correction-reaches rises-accepted (done g o w) 4 (omega arith) (next-reached g o w (omega arith)) in
-    let s = ap (λ (z : List ℕ). numberOf (rowAnswer (stateAt names z) (expression (T.asked rises) names) 4))
+    let s = ap (λ (z : List ℕ). rowAnswer (stateAt names z) (expression (T.asked rises) names) 4)
     (stored g o w) in
-    let p = ap (λ (p : Vector). numberOf (rowAnswer (stateAt names (corrected names states 3 new-row)) p 4))
+    let p = ap (λ (p : Vector). rowAnswer (stateAt names (corrected names states 3 new-row)) p 4)
     rises-is in
     omega (arith, same, e ∙ (s ∙ (p ∙ yes-then)))
 

@@ -10,13 +10,11 @@ use mathlib.Core.Path.{_≡_, refl, sym, ap, _∙_}
 use mathlib.Core.List.{List}
 use lib.ListN.{length, drop}
 use Rattle.alf.specs.declared.Answer.{Answer}
-use Rattle.alf.specs.declared.Answer.the-variants.{No, Yes, Unknown}
 use Rattle.basics.specs.Words.{greatest, leastOf, count, all}
 use Rattle.alf.specs.States.{reduce}
 use Rattle.alf.specs.Expressions.{Vector}
-use Rattle.alf.specs.Values.{state, stateAt}
-use Rattle.alf.specs.Windows.{asked, digitAsked, letterAsked, edgeOn, answer, best, named, rowAnswer}
-use Rattle.alf.specs.Windows.{numberOf}
+use Rattle.alf.specs.Values.{value, recordedOr, state, stateAt}
+use Rattle.alf.specs.Windows.{asked, digitAsked, letterAsked, edgeOn, answer, best, numbered, rowAnswer}
 use Rattle.alf.specs.Alternatives.{alternatives, rewritten, tries, tried, atRow, stepsFrom, stepAt, testAt, stepsOf}
 use Rattle.alf.specs.Traces.{total}
 use Rattle.alf.specs.TableT.{names, rows, times, states}
@@ -37,7 +35,7 @@ use Rattle.judging.specs.Orders.{Rows}
 use Rattle.row_calls.specs.Written.{Tells}
 use Rattle.matching_calls.specs.Matching.{expression, triesOn, Finds, Counts, RowMatch, RowTotals}
 use Rattle.update_calls.specs.Pushing.{Takes, Push}
-use Rattle.call_laws.proofs.Routes.{matched, found, row-passed, three-routes}
+use Rattle.call_laws.proofs.Routes.{matched, pushed-found}
 use Rattle.shut_out.specs.Asked as T
 use Rattle.shut_out.specs.Asked.{rises, one-of}
 use Rattle.shut_out.proofs.OnT.{trace-good, rises-accepted, one-of-accepted, rises-is, one-of-is}
@@ -46,22 +44,20 @@ use Rattle.shut_out.proofs.RefusingUpdates.{Pushable, push}
 
 -- "an invented number of tries": 01 A | 10 B is yes at row 1 by its first alternative, at row 2 by its second
 tries-1 : tries (stateAt names states) (alternatives one-of) 1 ≡ 1
-unfolding
-    states alternatives rewritten tries tried atRow stepsFrom stepAt testAt leastOf state edgeOn asked digitAsked
-    letterAsked reduce
+unfolding states alternatives rewritten tries tried atRow stepsFrom stepAt testAt leastOf value recordedOr state
+    edgeOn asked digitAsked letterAsked reduce
 tries-1 = refl
 
 tries-2 : tries (stateAt names states) (alternatives one-of) 2 ≡ 2
-unfolding
-    states alternatives rewritten tries tried atRow stepsFrom stepAt testAt leastOf state edgeOn asked digitAsked
-    letterAsked reduce
+unfolding states alternatives rewritten tries tried atRow stepsFrom stepAt testAt leastOf value recordedOr state
+    edgeOn asked digitAsked letterAsked reduce
 tries-2 = refl
 
 row-tries : (i : ℕ) → i < rows → (x : Matching) → RowMatch names rows (T.asked one-of) states i x
     → triesFound x ≡ tries (stateAt names states) (alternatives one-of) i
 unfolding triesFound
 row-tries i l x w =
-    ap triesFound (matched (trace-good .lists) one-of-accepted (trace-good .codes) l x w)
+    ap triesFound (matched (trace-good .lists) one-of-accepted (trace-good .codes) l x w .is)
     ∙ ap (λ (p : Vector). tries (stateAt names states) (alternatives p) i) one-of-is
 
 pub one-number-of-tries : (t : ℕ) (answers : ℕ → Answer)
@@ -81,19 +77,19 @@ unfolding Finds
 tries-unlike m w h = h (w .comes .1 .count)
 
 -- "an invented .. total": case 1 has one yes, three no, one unknown
-pub total-yes : total (stateAt names states) rises rows Yes ≡ 1
-unfolding total count states rowAnswer numberOf named best answer greatest state edgeOn asked digitAsked letterAsked
-    reduce
+pub total-yes : total (stateAt names states) rises rows 1 ≡ 1
+unfolding total count states rowAnswer numbered best answer greatest value recordedOr state edgeOn asked digitAsked
+    letterAsked reduce
 total-yes = refl
 
-pub total-no : total (stateAt names states) rises rows No ≡ 3
-unfolding total count states rowAnswer numberOf named best answer greatest state edgeOn asked digitAsked letterAsked
-    reduce
+pub total-no : total (stateAt names states) rises rows 0 ≡ 3
+unfolding total count states rowAnswer numbered best answer greatest value recordedOr state edgeOn asked digitAsked
+    letterAsked reduce
 total-no = refl
 
-pub total-unknown : total (stateAt names states) rises rows Unknown ≡ 1
-unfolding total count states rowAnswer numberOf named best answer greatest state edgeOn asked digitAsked letterAsked
-    reduce
+pub total-unknown : total (stateAt names states) rises rows 2 ≡ 1
+unfolding total count states rowAnswer numbered best answer greatest value recordedOr state edgeOn asked digitAsked
+    letterAsked reduce
 total-unknown = refl
 
 pub invented-total : (t : Total) → RowTotals names rows (T.asked rises) states (counting.Counted t)
@@ -129,21 +125,10 @@ module _ {queues : ℕ → Queue} {results : ℕ → Matching} (first : queues 0
     (pushed : (i : ℕ) → i < rows
     → Push names (T.asked rises) (queues i) (codesOf names states i) (results i) (queues (suc i))) where
   queue-number : (i : ℕ) → i < rows → numberFound (results i) ≡ at rises i
-  unfolding Tells Finds numberFound
+  unfolding numberFound
   queue-number i l =
-      let fits : Rows names rows (length (fed (codesOf names states) rows)) = rw fed-is (trace-good .lists) in
-      let codes : Codes (fed (codesOf names states) rows) = rw fed-is (trace-good .codes) in
-      let passed = row-passed (fed (codesOf names states) rows) rows i fits rises-accepted codes l in
-      let r = three-routes (trace-good .lists .name-count) rises-accepted first row-full row-codes pushed
-      (trace-good .lists .row-count) i l
-      (told.Answered
-      (rowAnswer (stateAt names (fed (codesOf names states) rows)) (expression (T.asked rises) names) i))
-      (record { comes = (passed, refl) }) (found names (T.asked rises) (fed (codesOf names states) rows) i)
-      (record { comes = (passed, record { is = refl; count = refl }) }) in
-      ap numberFound (r .2)
-      ∙ ap
-      (λ (s : List ℕ). numberOf (rowAnswer (stateAt names s) (expression (T.asked rises) names) i)) fed-is
-      ∙ ap (λ (p : Vector). at p i) rises-is
+      let r = pushed-found (trace-good .lists .name-count) rises-accepted first row-full row-codes pushed i l in
+      ap numberFound (r .is) ∙ (rw (fed-is, rises-is) at (r .numbered))
 
   pub first-event-only : ((i : ℕ) → 0 < i → i < rows → results i ≡ results 1) → ⊥
   first-event-only same =

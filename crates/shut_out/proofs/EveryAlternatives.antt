@@ -21,7 +21,7 @@ use Rattle.reader.proofs.Unique.{gives-unique}
 use Rattle.writer.specs.Trees.{booleanTree, vectorTree, treeOf}
 use Rattle.spelling.specs.Spelled.{halfByte, pairSpelled, signSpelled, spelled, following, textOf}
 use Rattle.writer.specs.Trees.{text}
-use Rattle.figures.specs.Text.{bytes, joined}
+use Rattle.basics.specs.Text.{bytes, joined}
 use Rattle.figures.specs.Numbers.{digits, widthUpTo, width, decimal}
 use Rattle.alternative_texts.specs.Texts.{readable, shown, expressionOf, testText, behind, between, stepText}
 use Rattle.alternative_texts.specs.Texts.{alternativeText}

@@ -5,22 +5,23 @@ use Prim.Native.Nat.{ℕ, _-_, _<_, _≤_, max}
 use native.Mathlib.Omega.{arith}
 use mathlib.Core.Path.{_≡_, refl}
 use mathlib.Core.List.{List}
-use lib.ListN.{length, getD}
+use lib.ListN.{length}
 use Rattle.basics.specs.declared.Refusal.{Refusal}
 use Rattle.alf.specs.declared.Sort.the-variants as sort
 use Rattle.basics.specs.declared.Outcome.the-variants as outcome
 use Rattle.alf.specs.Expressions.{boolean}
 use Rattle.alf.specs.Bytes.{halfNumber, edgeNumber, booleanBytes, vectorBytes, bytesOf}
-use Rattle.alf.specs.Bytes.{halfAt, edgeAt, leafAt, oneAt, operationAt}
-use Rattle.alf.specs.Bytes.{isBoolean, topBoolean, topVector, under, ifSo, run, stackAt, Decodes}
+use Rattle.alf.specs.Decoder.{halfAt, edgeAt, leafAt, oneAt, operationAt}
+use Rattle.alf.specs.Decoder.{isBoolean, topBoolean, topVector, under, ifSo, run, stackAt, Decodes}
 use Rattle.alf.specs.Alternatives.{alternatives}
 use Rattle.alf.specs.Refusals.{NameCount}
-use Rattle.alf.specs.TableT.{names, rows, times, states, A}
+use Rattle.alf.specs.TableT.{names, rows, states, A}
 use Rattle.alf.proofs.TraceNearness.{steps-pos}
 use Rattle.trees.specs.Brackets.{booleanDepth, depthOf}
+use Rattle.alf.proofs.FewNames.{decodes-encoded}
 use Rattle.acceptance.specs.Accepted.{sortOf, overSize, Accepted}
 use Rattle.writer.specs.Trees.{text}
-use Rattle.step_tests.specs.OperandPlaces.{placed}
+use Rattle.step_tests.specs.OperandPlaces.{byPlaces}
 use Rattle.rewriting.specs.Lists.{joined, alternativesAt, stepList, testList, edgeList, operandList}
 use Rattle.contradictions.specs.Possible.{flagList}
 use Rattle.rewriting.specs.Calls.{Rewrites}
@@ -36,8 +37,6 @@ use Rattle.matching_calls.specs.Matching.{expression, RowMatch, AllMatched, Row
 use Rattle.update_calls.specs.Correcting.{Correction}
 use Rattle.update_calls.specs.Pushing.{Push}
 use Rattle.call_laws.proofs.Routes.{holding-first}
-use Rattle.listing.specs.Listing.{listing}
-use Rattle.listing.specs.Calls.{ListsText}
 use Rattle.figures.specs.Delivering.{Delivers}
 use Rattle.shut_out.specs.Asked.{asked, rises, just-A}
 use Rattle.shut_out.proofs.Reasons.{Four}
@@ -53,7 +52,7 @@ lists-one : (length (stepList (alternativesAt (asked rises) names)) ≡ 1)
     × (length (operandList (alternativesAt (asked rises) names)) ≡ 1)
 unfolding
     edgeNumber halfNumber booleanBytes vectorBytes bytesOf halfAt edgeAt leafAt oneAt operationAt isBoolean topBoolean
-    topVector under ifSo run stackAt placed joined alternatives stepList testList edgeList operandList
+    topVector under ifSo run stackAt byPlaces joined alternatives stepList testList edgeList operandList
 lists-one = (refl, refl, refl, refl)
 
 flags-one : length (flagList names (ownAt (asked rises) names)) ≡ 1
@@ -91,7 +90,7 @@ unfolding
 A-accepted =
     record {
       expression = boolean A;
-      decodes = refl;
+      encodes = decodes-encoded _ _ _ refl;
       sorted = refl;
       tokens = omega arith;
       brackets = omega arith;
@@ -168,15 +167,7 @@ module _ (r : Refusal) where
         codes = c;
       }) r queue′ w
 
-  -- The listing of T with any answers, and each line of the table: where there is room.
-  pub list : {answers out out′ : List ℕ} → length answers ≡ rows
-      → ((i : ℕ) → i < length answers → getD answers i 0 ≤ 3) → length (listing times answers) ≤ length out
-      → ListsText times answers out out′ (outcome.Refused r) → ⊥
-  unfolding times
-  list {answers} {out} {out′} a k room w =
-      texts.list out times answers .no-refusal
-      (record { lists = record { rows = (omega arith, omega arith); same = a }; known = k; room = room }) r out′ w
-
+  -- Each line of the table but a pattern's: where there is room.
   pub line : {text out out′ : List ℕ} → length text ≤ length out
       → Delivers text out out′ (outcome.Refused r) → ⊥
   line {text} {out} {out′} room w = texts.line out text .no-refusal room r out′ w

@@ -11,7 +11,6 @@ use native.Mathlib.Omega.{arith}
 use mathlib.Core.Path.{_≡_, refl, sym, ap, _∙_}
 use mathlib.Core.List.{List, map}
 use lib.ListN.{length, getD}
-use Rattle.alf.specs.declared.Answer.the-variants.{Yes}
 use Rattle.basics.specs.declared.Refusal.{Refusal}
 use Rattle.alf.specs.declared.Sort.the-variants as sort
 use Rattle.basics.specs.declared.Outcome.{Outcome}
@@ -21,9 +20,9 @@ use Rattle.alf.specs.States.{among, reduce}
 use Rattle.alf.specs.Names.{slot, untilZero, slotOf}
 use Rattle.alf.specs.Expressions.{Vector, edge, changes, boolean, vector}
 use Rattle.alf.specs.Expressions.{Over, HalfKnown, EdgeKnown, VectorOver, ExpressionOver}
-use Rattle.alf.specs.Values.{settled, state, value, stateAt}
+use Rattle.alf.specs.Values.{value, recordedOr, state, stateAt}
 use Rattle.alf.specs.Bytes.{halfNumber, edgeNumber, booleanBytes, vectorBytes, bytesOf}
-use Rattle.alf.specs.Windows.{digitAsked, letterAsked, edgeOn, answer, best, named, rowAnswer, numberOf}
+use Rattle.alf.specs.Windows.{digitAsked, letterAsked, edgeOn, answer, best, numbered, rowAnswer}
 use Rattle.alf.specs.Windows as windows
 use Rattle.alf.specs.Alternatives.{alternatives, rewritten, each, overLimit, tests}
 use Rattle.alf.specs.Traces.{total, corrected}
@@ -46,14 +45,15 @@ use Rattle.matching_calls.specs.declared.matching.Counting.the-variants as coun
 use Rattle.basics.specs.Memory.{after}
 use Rattle.matching_calls.specs.Matching.{Counts}
 use Rattle.table_lines.specs.declared.lines.Sums.{Sums}
-use Rattle.figures.specs.Text.{bytes, joined}
+use Rattle.basics.specs.Text.{bytes, joined}
 use Rattle.figures.specs.Numbers.{digits, widthUpTo, width, decimal}
 use Rattle.listing.specs.Listing.{letter, wordOf, line, lines, valuesListing}
 use Rattle.listing.specs.Calls.{ValuesText}
 use Rattle.table_lines.proofs.TableExamples.{case-1-line}
-use Rattle.row_listings.specs.Listings.{patternListing, valueListing, ListsPattern, ListsValues}
+use Rattle.tree_listings.specs.TreeTexts.{patternListing}
+use Rattle.row_listings.specs.Listings.{valueListing, ListsPattern, ListsValues}
 use Rattle.row_listings.proofs.TextListings.{vector-one, boolean-one}
-use Rattle.row_listings.proofs.ListingExamples.{case-1}
+use Rattle.tree_listings.proofs.Examples.{case-1}
 use Rattle.jobs.specs.declared.sums.Adding.the-variants.{Added}
 use Rattle.jobs.specs.Counting.{CountsText}
 use Rattle.jobs.specs.Lines.{lineOf, TableLine}
@@ -127,9 +127,9 @@ invented-total-of-text t w =
     let s = rw (e, letters-count) at (c .totals) in
     (s .yeses ∙ total-yes, s .noes ∙ total-no, s .unknowns ∙ total-unknown)
 
-flips-yes : total (stateAt names states) flips rows Yes ≡ 3
-unfolding total count states rowAnswer numberOf named best answer greatest state edgeOn windows.asked digitAsked
-    letterAsked reduce
+flips-yes : total (stateAt names states) flips rows 1 ≡ 3
+unfolding total count states rowAnswer numbered best answer greatest value recordedOr state edgeOn windows.asked
+    digitAsked letterAsked reduce
 flips-yes = refl
 
 pub one-total-for-all : (t : Total) → CountsText letters rows states (bytes "01 A") (counting.Counted t)
@@ -184,7 +184,7 @@ list-text {out} {out′} r room w =
 values-length : length (valueListing names times states A) ≡ 40
 unfolding
     valueListing valuesListing lines line wordOf letter bytes joined decimal width widthUpTo digits times states listed
-    reduce settled state value
+    reduce value
 values-length = refl
 
 pub values-text : {out out′ : List ℕ} (r : Refusal) → 40 ≤ length out

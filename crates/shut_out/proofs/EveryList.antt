@@ -2,19 +2,17 @@
 use Prim.Native.Nat.{ℕ, zero, suc, _<_, _≤_}
 use native.Mathlib.Omega.{arith}
 use mathlib.Core.Path.{_≡_, refl}
-use mathlib.Core.Bool.{false}
 use mathlib.Core.List.{List, [], _∷_}
 use lib.ListN.{length, getD}
 use Rattle.basics.specs.declared.Refusal.{Refusal}
 use Rattle.basics.specs.declared.Outcome.the-variants as outcome
 use Rattle.basics.specs.Words.{greatestOf, sumOf}
 use Rattle.alf.specs.Bytes.{halfNumber, edgeNumber, booleanBytes, vectorBytes, bytesOf}
-use Rattle.alf.specs.Bytes.{halfAt, edgeAt, leafAt, operationAt}
-use Rattle.alf.specs.Bytes.{isBoolean, topBoolean, under, run, stackAt}
+use Rattle.alf.specs.Decoder.{halfAt, edgeAt, leafAt, operationAt}
+use Rattle.alf.specs.Decoder.{isBoolean, topBoolean, under, run, stackAt}
 use Rattle.alf.specs.Alternatives.{overLimit, tests}
 use Rattle.alf.specs.TableT.{names, rows, states}
 use Rattle.trees.specs.Parts.{top}
-use Rattle.basics.specs.Deciding.{Decides}
 use Rattle.alternatives.specs.InMemory.{cut, sum, testsOf, alternativesOf}
 use Rattle.queue.specs.declared.queues.Queue.{Queue}
 use Rattle.states.specs.FirstBadCode.{Codes}
@@ -22,6 +20,7 @@ use Rattle.matching_calls.specs.declared.matching.Matching.the-variants as matc
 use Rattle.matching_calls.specs.declared.matching.Counting.the-variants as counting
 use Rattle.call_laws.proofs.Routes.{holding-first}
 use Rattle.listed_calls.specs.Lists.{Operand, AcceptedAlternatives}
+use Rattle.listed_calls.specs.Fitting.{ListedFits}
 use Rattle.listed_calls.specs.Listed as listed
 use Rattle.shut_out.specs.Asked.{asked, rises}
 use Rattle.shut_out.proofs.RefusingLists as over-lists
@@ -74,10 +73,12 @@ one-accepted =
     operand-there zero l = operand
     operand-there (suc k) l = absurd (omega arith)
 
-pub listed-fits : Decides false (AcceptedAlternatives names (asked rises) one one edge-01 one) → ⊥
-listed-fits d = over-lists.fits-not-refused names rows (asked rises) one one edge-01 one states one-accepted d
-
 module _ (r : Refusal) where
+  pub listed-fits : ListedFits names (asked rises) one one edge-01 one (outcome.Refused r) → ⊥
+  listed-fits w =
+      over-lists.listed-fits names (asked rises) one one edge-01 one .no-refusal
+      (record { name-count = three; accepted = one-accepted }) r tt w
+
   pub listed-match-row : (i : ℕ) → i < rows
       → listed.ListedMatch names rows (asked rises) one one edge-01 one states i (matching.Refused r) → ⊥
   listed-match-row i l w =

@@ -6,13 +6,14 @@ use native.Mathlib.Omega.{arith}
 use mathlib.Core.Path.{_≡_, refl, ap}
 use mathlib.Core.List.{List}
 use lib.ListN.{length, take}
+use Rattle.basics.specs.Refusing.{refusal}
 use Rattle.basics.specs.declared.Refusal.{Refusal}
 use Rattle.alf.specs.declared.Sort.the-variants as sort
 use Rattle.basics.specs.declared.Outcome.the-variants as outcome
 use Rattle.alf.specs.Names.{slot, untilZero, slotOf}
 use Rattle.alf.specs.Bytes.{halfNumber, edgeNumber, booleanBytes, vectorBytes, bytesOf}
-use Rattle.alf.specs.Bytes.{halfAt, edgeAt, leafAt, oneAt, operationAt}
-use Rattle.alf.specs.Bytes.{isBoolean, topBoolean, under, ifSo, run, stackAt}
+use Rattle.alf.specs.Decoder.{halfAt, edgeAt, leafAt, oneAt, operationAt}
+use Rattle.alf.specs.Decoder.{isBoolean, topBoolean, under, ifSo, run, stackAt}
 use Rattle.alf.specs.Refusals.{Comes}
 use Rattle.alf.specs.TableT.{names, rows, times, states, A}
 use Rattle.names.specs.Check.{namesOrder}
@@ -20,7 +21,7 @@ use Rattle.trees.specs.Parts.{top}
 use Rattle.acceptance.specs.Accepted.{Accepted}
 use Rattle.grammar.specs.Written.{written}
 use Rattle.reader.specs.Reads.{refusedWith}
-use Rattle.reader.specs.Reading.{Reading}
+use Rattle.reader.specs.Reading.{ReadsText}
 use Rattle.writer.specs.Trees.{booleanTree, vectorTree, treeOf}
 use Rattle.spelling.specs.Spelled.{halfByte, pairSpelled, signSpelled, spelled, following, textOf}
 use Rattle.writer.specs.Trees.{text}
@@ -33,7 +34,7 @@ use Rattle.trace_writer.specs.Writing as files
 use Rattle.changes.specs.declared.RowChanges.the-variants as row-changes
 use Rattle.changes.specs.Call as changes
 use Rattle.matching_calls.specs.Matching.{expression}
-use Rattle.figures.specs.Text.{bytes}
+use Rattle.basics.specs.Text.{bytes}
 use Rattle.shut_out.specs.Asked.{asked, letters, rises}
 use Rattle.shut_out.proofs.Reasons.{Three}
 use Rattle.shut_out.proofs.Writing.{brackets-more}
@@ -62,7 +63,7 @@ pub check-names : (r : Refusal)
     → Comes (namesOrder letters) (λ k. k ≡ count letters) (outcome.Refused r) → ⊥
 check-names r w = texts.check-names letters .no-refusal letters-good r tt w
 
-pub read-expression : (n p : ℕ) → Reading letters (bytes "01 A") sort.Vector (refusedWith n p) → ⊥
+pub read-expression : (n p : ℕ) → ReadsText letters (bytes "01 A") sort.Vector (refusedWith n p) → ⊥
 read-expression n p w =
     reading.read-expression letters (textAt letters (asked rises)) sort.Vector .no-refusal
     (record {
@@ -70,7 +71,7 @@ read-expression n p w =
       short = omega (arith, text-short);
       expression = _;
       given = written-gives (record { passed = texts.names-pass letters letters-good }) rises-counted;
-    }) (record { number = n; place = p }) tt (rw text-is w)
+    }) (refusal n p) tt (rw text-is w)
 
 pub write-expression : {out out′ : List ℕ} (r : Refusal) → 4 ≤ length out
     → Writes letters (asked rises) sort.Vector out out′ (outcome.Refused r) → ⊥
@@ -101,5 +102,5 @@ pub write-trace : {out out′ : List ℕ} (r : Refusal) → length (fileOf lette
 write-trace {out} {out′} r room w =
     texts.write-trace letters times states rows out .no-refusal (record { trace = trace-T; room = room }) r out′ w
 
-pub changes-at : (i : ℕ) → i < rows → (r : Refusal) → changes.Comes names rows states i (row-changes.Refused r) → ⊥
+pub changes-at : (i : ℕ) → i < rows → (r : Refusal) → changes.RowChanged names rows states i (row-changes.Refused r) → ⊥
 changes-at i l r w = over-rows.changes-at names rows states i .no-refusal (trace-good, l) r tt w

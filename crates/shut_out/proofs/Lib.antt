@@ -6,7 +6,7 @@
 --
 -- refusing everything, a good input among it
 --     `no-refusal` of each call (Refusing..); on T, under its name (EveryText, EveryCall, EveryList, EveryJob,
---     EveryAlternatives)
+--     EveryAlternatives, EveryTreeText)
 -- accepting what a row of the table shuts out
 --     `no-acceptance` of each call (Refusing..)
 -- another number, another place, another order
@@ -31,6 +31,10 @@
 --     `one-total-for-all`, `invented-total-of-text` (EveryJob)
 -- the sums of another table
 --     `other-sums` (EveryJob)
+-- a listing of other answers, a line of other totals, than those of the tree
+--     `other-listing`, `other-line` (EveryTreeText); `no-other-listing`, `no-other-totals-line` (NothingElse)
+-- an activity listing refused on T, or with another text
+--     `activity`, `activity-on-T`, `no-other-activity`, `activity-attached` (Activity)
 -- a line of the table for a pattern that is counted otherwise, or for a good one that is said to be refused
 --     `counted-in-line`, `table-line` (RefusingJobs)
 -- a queue right at its first event only; one that keeps nothing
@@ -56,12 +60,14 @@ pub mod RefusingRows
 pub mod RefusingUpdates
 pub mod RefusingLists
 pub mod RefusingTexts
+pub mod RefusingTreeTexts
 pub mod RefusingJobs
 pub mod RefusingAlternatives
 pub mod OnT
 pub mod EveryText
 pub mod EveryCall
 pub mod EveryList
+pub mod EveryTreeText
 pub mod EveryJob
 pub mod EveryAlternatives
 pub mod Accepting
@@ -75,3 +81,4 @@ pub mod AttachedLists
 pub mod AttachedJobs
 pub mod AttachedForC
 pub mod AttachedListsForC
+pub mod Activity

@@ -15,14 +15,15 @@ use Rattle.states.specs.declared.changes.Changes.{Changes}
 use Rattle.alf.specs.Expressions.{Expression}
 use Rattle.basics.specs.Words.{listed}
 use Rattle.alf.specs.Values.{stateAt, valueAt}
-use Rattle.alf.specs.Windows.{rowAnswer, named}
-use Rattle.alf.specs.Alternatives.{tries}
+use Rattle.alf.specs.Windows.{rowAnswer, numbered}
+use Rattle.alf.specs.Answers.{numberOf}
+use Rattle.alf.specs.Alternatives.{answerOf, tries}
 use Rattle.alf.specs.Traces.{changeMask, changeCount, corrected}
 use Rattle.alf.specs.Refusals.{Comes}
 use Rattle.trees.specs.Parts.{booleanAt, vectorAt}
 use Rattle.reader.specs.declared.Read.{Read}
 use Rattle.reader.specs.Reads.{made}
-use Rattle.reader.specs.Reading.{Gives, Reading}
+use Rattle.reader.specs.Reading.{Gives, ReadsText}
 use Rattle.reader.proofs.Unique.{read-complete}
 use Rattle.writer.specs.Writing as writing
 use Rattle.trace_format.specs.Format.{fileOf}
@@ -48,19 +49,19 @@ use Rattle.row_calls.specs.Written.{RowState, RowValue, AllValues, RowAnswer, T
 use Rattle.basics.specs.Memory.{after, front}
 use Rattle.row_calls.specs.Windows.{WindowAnswer, answerOver}
 use Rattle.matching_calls.specs.Matching.{Finds, Counts, RowMatch, AllMatched, RowTotals, MatchesTree, TotalsTree}
-use Rattle.matching_calls.specs.Matching.{answersOn, triesOn}
+use Rattle.matching_calls.specs.Matching.{expression, answersOn, triesOn}
 use Rattle.update_calls.specs.Correcting.{Correction, rewritten}
 use Rattle.update_calls.specs.Pushing.{Takes, Push, PushesTree}
+use Rattle.listed_calls.specs.Fitting.{ListedFits}
 use Rattle.listed_calls.specs.Listed as listed-calls
 use Rattle.listed_calls.specs.Listed.{alternativesIn}
-use Rattle.listing.specs.Listing.{listing}
-use Rattle.listing.specs.Calls.{ListsText}
+use Rattle.tree_listings.specs.TreeTexts.{patternListing, totalsLine, ListsTree, LinesTree}
 use Rattle.figures.specs.Delivering.{Delivers}
 use Rattle.shut_out.proofs.Refusing.{GoodNames, names-pass}
 
 -- Texts and files.
 pub no-other-expression : {names text : List ℕ} {sort : Sort} {x : Expression} {r : Read} → GoodNames names
-    → length text ≤ 4096 → Gives names text sort x → Reading names text sort r → r ≡ made x
+    → length text ≤ 4096 → Gives names text sort x → ReadsText names text sort r → r ≡ made x
 no-other-expression {names} g l v w = read-complete (names-pass names g) l v w
 
 module _ {out out′ : List ℕ} {m : ℕ} where
@@ -75,11 +76,18 @@ module _ {out out′ : List ℕ} {m : ℕ} where
   unfolding Comes after
   no-other-file w = (w .outcome .1, w .memory)
 
-  pub no-other-listing : {times answers : List ℕ} → ListsText times answers out out′ (Done m)
-      → (m ≡ length (listing times answers))
-      × (out′ ≡ listing times answers ++ drop (length (listing times answers)) out)
+  pub no-other-listing : {k n : ℕ} {tree times states : List ℕ} → ListsTree k n tree times states out out′ (Done m)
+      → (m ≡ length (patternListing k times states (expression tree k)))
+      × (out′ ≡ front (patternListing k times states (expression tree k)) out)
   unfolding Comes after
-  no-other-listing w = (w .outcome .1, w .memory)
+  no-other-listing w = (w .comes .1, w .memory)
+
+  pub no-other-totals-line : {k n : ℕ} {tree states pattern : List ℕ}
+      → LinesTree k n tree states pattern out out′ (Done m)
+      → (m ≡ length (totalsLine k n states pattern (expression tree k)))
+      × (out′ ≡ front (totalsLine k n states pattern (expression tree k)) out)
+  unfolding Comes after
+  no-other-totals-line w = (w .comes .1, w .memory)
 
   pub no-other-line : {text : List ℕ} → Delivers text out out′ (Done m)
       → (m ≡ length text) × (out′ ≡ text ++ drop (length text) out)
@@ -102,9 +110,9 @@ module _ {k : ℕ} {tree : List ℕ} {m : ℕ} where
 
 -- Rows.
 pub no-other-changes : (k n : ℕ) (codes : List ℕ) (row : ℕ) (c : Changes)
-    → changes.Comes k n codes row (Changed c)
+    → changes.RowChanged k n codes row (Changed c)
     → (c .mask ≡ changeMask k codes row) × (c .many ≡ changeCount k codes row)
-unfolding changes.Comes
+unfolding changes.RowChanged
 no-other-changes k n codes row c w = (w .1 .changed, w .1 .number)
 
 module _ {k n : ℕ} {tree codes : List ℕ} where
@@ -120,7 +128,7 @@ module _ {k n : ℕ} {tree codes : List ℕ} where
     no-other-value w = w .comes .1
 
     pub no-other-answer : {b : Answer} → RowAnswer k n tree codes row (Answered b)
-        → b ≡ rowAnswer (stateAt k codes) (vectorAt tree k (length tree)) row
+        → numberOf b ≡ rowAnswer (stateAt k codes) (vectorAt tree k (length tree)) row
     unfolding Tells
     no-other-answer w = w .comes .1
 
@@ -130,7 +138,7 @@ module _ {k n : ℕ} {tree codes : List ℕ} where
     no-other-match w = w .comes .1
 
   pub no-other-on-window : {a b : ℕ} {c : Answer} → WindowAnswer k n tree codes a b (Answered c)
-      → c ≡ named (answerOver k tree codes a b)
+      → numberOf c ≡ numbered (answerOver k tree codes a b)
   unfolding Tells
   no-other-on-window w = w .comes .1
 
@@ -172,15 +180,20 @@ module _ {k n : ℕ} {tree s t e o codes : List ℕ} where
 
   pub no-other-listed-answers : {answers tried answers′ tried′ : List ℕ} {m : ℕ}
       → listed-calls.ListedAll k n tree s t e o codes answers tried answers′ tried′ (Done m)
-      → (answers′ ≡ listed 0 n (tables.numberAt (stateAt k codes) (alternativesIn k n tree s t e o codes)))
+      → (answers′ ≡ listed 0 n (answerOf (stateAt k codes) (alternativesIn k n tree s t e o codes)))
       × (tried′ ≡ listed 0 n (tries (stateAt k codes) (alternativesIn k n tree s t e o codes)))
   unfolding after
   no-other-listed-answers w = (w .answers-memory, w .tried-memory)
 
   pub no-other-listed-totals : {z : Total} → listed-calls.ListedTotals k n tree s t e o codes (Counted z)
-      → tables.Totals (stateAt k codes) (alternativesIn k n tree s t e o codes) n (z .yes) (z .no) (z .unknown)
+      → tables.TotalsOf (stateAt k codes) (alternativesIn k n tree s t e o codes) n (z .yes) (z .no) (z .unknown)
   unfolding Counts
   no-other-listed-totals w = w .comes .1
+
+pub no-other-number-of-lists : {k : ℕ} {tree s t e o : List ℕ} {m : ℕ} → ListedFits k tree s t e o (Done m)
+    → m ≡ length s
+unfolding Comes
+no-other-number-of-lists w = w .comes .1
 
 module _ {k : ℕ} {tree s t e o : List ℕ} {queue : Queue} {row : List ℕ} {queue′ : Queue} where
   pub no-other-listed-push : {m : Matched} → listed-calls.ListedPush k tree s t e o queue row (Found m) queue′

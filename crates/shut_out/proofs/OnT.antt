@@ -16,14 +16,15 @@ use Rattle.alf.specs.Names.{isLetter, isDecimal, startsName, goesOnName, isName
 use Rattle.alf.specs.Names.{GoodSlot}
 use Rattle.alf.specs.Expressions.{vector}
 use Rattle.alf.specs.Bytes.{joinByte, halfNumber, edgeNumber, booleanBytes, vectorBytes, bytesOf}
-use Rattle.alf.specs.Bytes.{joinAt, halfAt, edgeAt, leafAt, pairAt, oneAt, operationAt}
-use Rattle.alf.specs.Bytes.{isBoolean, isVector, topBoolean, topVector, under, ifSo, run, stackAt, Decodes}
+use Rattle.alf.specs.Decoder.{joinAt, halfAt, edgeAt, leafAt, pairAt, oneAt, operationAt}
+use Rattle.alf.specs.Decoder.{isBoolean, isVector, topBoolean, topVector, under, ifSo, run, stackAt, Decodes}
 use Rattle.alf.specs.Alternatives.{alternatives, rewritten, each, overLimit, tests}
 use Rattle.alf.specs.TableT.{names, rows, times, states, pulse}
 use Rattle.basics.proofs.Bools.{and-left, and-right}
 use Rattle.names.specs.Check.{Slots}
 use Rattle.trace_format.specs.Format.{Trace, count}
 use Rattle.trees.specs.Brackets.{joinLevel, levelOf, bracketed, booleanDepth, vectorDepth, depthOf}
+use Rattle.alf.proofs.FewNames.{decodes-encoded}
 use Rattle.acceptance.specs.Accepted.{sortOf, overSize, Accepted}
 use Rattle.states.specs.FirstBadCode.{Codes}
 use Rattle.matching_calls.specs.Matching.{expression}
@@ -59,7 +60,7 @@ unfolding
 rises-accepted =
     record {
       expression = vector rises;
-      decodes = refl;
+      encodes = decodes-encoded _ _ _ refl;
       sorted = refl;
       tokens = omega arith;
       brackets = omega arith;
@@ -81,7 +82,7 @@ unfolding
 one-of-accepted =
     record {
       expression = vector one-of;
-      decodes = refl;
+      encodes = decodes-encoded _ _ _ refl;
       sorted = refl;
       tokens = omega arith;
       brackets = omega arith;
@@ -103,7 +104,7 @@ unfolding
 pulse-accepted =
     record {
       expression = vector pulse;
-      decodes = refl;
+      encodes = decodes-encoded _ _ _ refl;
       sorted = refl;
       tokens = omega arith;
       brackets = omega arith;

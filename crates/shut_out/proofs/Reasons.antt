@@ -11,10 +11,11 @@ use mathlib.Core.List.{List, [], _∷_}
 use Rattle.basics.specs.declared.Refusal.{Refusal}
 use Rattle.basics.specs.declared.Outcome.{Outcome}
 use Rattle.basics.specs.declared.Outcome.the-variants.{Done, Refused}
-use Rattle.alf.specs.Refusals.{Order, RefusedWith, Passed, Comes}
+use Rattle.alf.specs.Refusals.{Order, RefusedWith, RefusedBy, Passed, Comes}
 use Rattle.alf.proofs.Outcomes.{refused-passed}
 use Rattle.demands.specs.Promises.{One}
-use Rattle.shut_out.specs.Reasons.{Held, IsRefusal, refusal, Exactly}
+use Rattle.basics.specs.Refusing.{refusal}
+use Rattle.shut_out.specs.Reasons.{Held, IsRefusal, Exactly}
 
 pub passed-held : (o : Order) → Passed o → Held o → ⊥
 unfolding Passed Held
@@ -24,7 +25,7 @@ passed-held (c ∷ cs) a (inr h) = passed-held cs (a .1) h
 
 pub record Kept {R M : Type 0} (order : Order) (refused : Refusal → R) (allows : R → M → Type 0) (before : M)
     : Type 0 where
-  pub reason : (r : Refusal) (m : M) → allows (refused r) m → RefusedWith order (r .number) (r .place)
+  pub reason : (r : Refusal) (m : M) → allows (refused r) m → RefusedBy order r
   pub parts : (x : R) (m : M) → allows x m → Passed order ⊎ IsRefusal refused x
   pub refuses : (n p : ℕ) → RefusedWith order n p → allows (refused (refusal n p)) before
   pub one : (a b : R) (m n : M) → allows a m → allows b n → (a ≡ b) × (m ≡ n)

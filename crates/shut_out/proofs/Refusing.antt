@@ -1,8 +1,8 @@
 -- Shut out: "refusing everything (the table says 'exactly when')". For each public call, under its name in Demand1:
 -- what good input is, that its contract allows no refusal of it; that where a row of the table holds it allows
 -- nothing but a refusal, with the number and the place of the first row that holds; and that refused, nothing is
--- written. Here: names, texts, files, rewriting, listing. The calls over rows stand in RefusingRows, reading in
--- RefusingTexts.
+-- written. Here: names, texts, files, rewriting, values listed, lines. The calls over rows stand in RefusingRows,
+-- reading in RefusingTexts, the texts of a pattern's tree in RefusingTreeTexts.
 use Prim.Native.Nat.{ℕ, _/_, _<_, _≤_}
 use native.Mathlib.Omega.{arith}
 use mathlib.Core.Path.{_≡_, refl}
@@ -10,7 +10,6 @@ use mathlib.Core.List.{List}
 use lib.ListN.{length, getD}
 use Rattle.alf.specs.declared.Sort.{Sort}
 use Rattle.alf.specs.declared.Sort.the-variants.{Vector}
-use Rattle.basics.specs.declared.Outcome.{Outcome}
 use Rattle.basics.specs.declared.Outcome.the-variants as outcome
 use Rattle.alf.specs.Names.{GoodSlot}
 use Rattle.alf.specs.Refusals.{Passed, Comes, NameCount}
@@ -24,11 +23,11 @@ use Rattle.rewriting.specs.Lists.{alternativesAt, stepList, testList, edgeList,
 use Rattle.contradictions.specs.Possible.{flagList}
 use Rattle.rewriting.specs.Calls as rewriting
 use Rattle.contradictions.specs.Calls as flagging
-use Rattle.listing.specs.Listing.{listing, valuesListing}
+use Rattle.listing.specs.Listing.{valuesListing}
 use Rattle.figures.specs.Delivering as delivering
 use Rattle.listing.specs.Calls as lines
 use Rattle.listing.proofs.Theorems.{values-unique}
-use Rattle.demands.proofs.Demand1 as one
+use Rattle.demands.proofs.Demand1.{demand-1}
 use Rattle.shut_out.specs.Reasons.{Exactly}
 use Rattle.shut_out.proofs.Reasons.{exactly, comes-parts, None, Four, both}
 use Rattle.basics.specs.Memory.{after}
@@ -52,7 +51,7 @@ module _ (names : List ℕ) where
         reason = λ r m w. w;
         parts = λ x m w. comes-parts (namesOrder names) (λ k. k ≡ length names / 32) x w;
         refuses = λ n p h. h;
-        one = both (one.check-names names);
+        one = both (demand-1 .check-names names);
       })
 
   module _ (tree : List ℕ) (sort : Sort) (out : List ℕ) where
@@ -84,7 +83,7 @@ module _ (names : List ℕ) where
           reason = λ r m w. w .outcome;
           parts = λ x m w. comes-parts _ _ x (w .outcome);
           refuses = λ n p h. record { outcome = h; memory = refl };
-          one = one.write-expression names tree sort out .one;
+          one = demand-1 .write-expression names tree sort out .one;
         })
 
 -- Trace files.
@@ -102,7 +101,7 @@ module _ (names times states : List ℕ) (n : ℕ) (out : List ℕ) where
         reason = λ r m w. w .outcome;
         parts = λ x m w. comes-parts _ _ x (w .outcome);
         refuses = λ k p h. record { outcome = h; memory = refl };
-        one = one.write-trace names times states n out .one;
+        one = demand-1 .write-trace names times states n out .one;
       })
 
 -- Rewriting.
@@ -150,7 +149,7 @@ module _ (names : ℕ) (tree : List ℕ) where
                 outcome = h;
                 memory = record { steps-are = refl; tests-are = refl; edges-are = refl; operands-are = refl };
               };
-          one = one.rewrite names tree steps tests edges operands .one;
+          one = demand-1 .rewrite names tree steps tests edges operands .one;
         })
 
   module _ (flags : List ℕ) where
@@ -177,19 +176,18 @@ module _ (names : ℕ) (tree : List ℕ) where
           reason = λ r m w. w .outcome;
           parts = λ x m w. comes-parts _ _ x (w .outcome);
           refuses = λ k p h. record { outcome = h; memory = refl };
-          one = one.contradictions names tree flags .one;
+          one = demand-1 .contradictions names tree flags .one;
         })
 
--- The two listings, and each line of the table.
+-- The listing of values, and each line of the table but a pattern's.
 module _ (out : List ℕ) where
-  -- codes, each at most `most`: answers, or values
-  module _ (most : ℕ) (text times codes : List ℕ) where
+  module _ (times values : List ℕ) where
     pub record Listable : Type 0 where
-      pub lists : lines.Lists (length times) (length codes)
-      pub known : (i : ℕ) → i < length codes → getD codes i 0 ≤ most
-      pub room : length text ≤ length out
+      pub lists : lines.Lists (length times) (length values)
+      pub known : (i : ℕ) → i < length values → getD values i 0 ≤ 7
+      pub room : length (valuesListing times values) ≤ length out
 
-    list-passes : Listable → Passed (lines.listOrder most text times codes (length out))
+    list-passes : Listable → Passed (lines.listOrder times values (length out))
     unfolding Passed
     list-passes g = (
       λ p a. a .given (g .lists),
@@ -199,30 +197,17 @@ module _ (out : List ℕ) where
       ),
     )
 
-    list-codes : ((a b : Outcome) (m n : List ℕ) → lines.ListsCodes most text times codes out m a
-        → lines.ListsCodes most text times codes out n b → (a ≡ b) × (m ≡ n))
-        → Exactly Listable (lines.listOrder most text times codes (length out)) outcome.Refused
-        (λ r m. lines.ListsCodes most text times codes out m r) out
+    pub list-values : Exactly Listable (lines.listOrder times values (length out)) outcome.Refused
+        (λ r m. lines.ValuesText times values out m r) out
     unfolding Comes after
-    list-codes same =
+    list-values =
         exactly list-passes
         (record {
           reason = λ r m w. w .outcome;
           parts = λ x m w. comes-parts _ _ x (w .outcome);
           refuses = λ k p h. record { outcome = h; memory = refl };
-          one = same;
+          one = λ a b m n x y. values-unique times values out x y;
         })
-
-  pub list : (times answers : List ℕ) → Exactly (Listable 3 (listing times answers) times answers)
-      (lines.listOrder 3 (listing times answers) times answers (length out)) outcome.Refused
-      (λ r m. lines.ListsText times answers out m r) out
-  list times answers = list-codes 3 (listing times answers) times answers (one.list times answers out .one)
-
-  pub list-values : (times values : List ℕ) → Exactly (Listable 7 (valuesListing times values) times values)
-      (lines.listOrder 7 (valuesListing times values) times values (length out)) outcome.Refused
-      (λ r m. lines.ValuesText times values out m r) out
-  list-values times values =
-      list-codes 7 (valuesListing times values) times values (λ a b m n x y. values-unique times values out x y)
 
   module _ (text : List ℕ) where
     line-passes : length text ≤ length out → Passed (delivering.lineOrder text (length out))
@@ -238,5 +223,5 @@ module _ (out : List ℕ) where
           reason = λ r m w. w .outcome;
           parts = λ x m w. comes-parts _ _ x (w .outcome);
           refuses = λ k p h. record { outcome = h; memory = refl };
-          one = one.line text out .one;
+          one = demand-1 .line text out .one;
         })

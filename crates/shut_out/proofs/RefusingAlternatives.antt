@@ -31,7 +31,8 @@ use Rattle.row_listings.specs.Listings.{OfGiven}
 use Rattle.row_listings.proofs.TextListings.{vector-one}
 use Rattle.jobs.specs.AlternativesText.{RewritesText, refused, rewritten}
 use Rattle.jobs.proofs.AlternativesLaws.{text-unique}
-use Rattle.shut_out.specs.Reasons.{IsRefusal, refusal, Exactly}
+use Rattle.basics.specs.Refusing.{refusal}
+use Rattle.shut_out.specs.Reasons.{IsRefusal, Exactly}
 use Rattle.shut_out.proofs.Reasons.{exactly}
 use Rattle.shut_out.proofs.Refusing.{GoodNames}
 use Rattle.shut_out.proofs.RefusingTexts.{Readable, read-passes}

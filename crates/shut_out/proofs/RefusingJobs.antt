@@ -5,7 +5,7 @@
 --   InLine, counted-in-line, table-line     its line: what is counted is count_text's; the line is refused with 9 only
 --   LettersGood, correct-letters            the correction of a row by letters
 --   TextListable, list-text, values-text    the listings of what a text gives
--- `list_values` stands with `list` in Refusing, the alternatives as lines in RefusingAlternatives. `add`, `no_sums` and
+-- `list_values` stands in Refusing, the alternatives as lines in RefusingAlternatives. `add`, `no_sums` and
 -- `row_number` have nothing to refuse.
 use Prim.Native.Nat.{ℕ, _/_, _<_, _≤_}
 use native.Mathlib.Omega.{arith}
@@ -27,7 +27,8 @@ use Rattle.basics.specs.Memory.{after}
 use Rattle.matching_calls.specs.Matching.{Counts}
 use Rattle.call_laws.proofs.Routes.{codes-never}
 use Rattle.figures.specs.Delivering.{lineOrder}
-use Rattle.row_listings.specs.Listings.{patternListing, valueListing, listOrder}
+use Rattle.tree_listings.specs.TreeTexts.{patternListing}
+use Rattle.row_listings.specs.Listings.{valueListing, listOrder}
 use Rattle.row_listings.specs.Listings.{Lists, lists, refuses, ListsPattern, ListsValues}
 use Rattle.row_listings.proofs.TextListings.{vector-one, boolean-one}
 use Rattle.row_listings.proofs.ListingTheorems.{lists-unique}

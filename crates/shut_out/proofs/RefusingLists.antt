@@ -1,13 +1,11 @@
 -- Shut out: "refusing everything (the table says 'exactly when')", for the calls over alternatives handed in as lists.
 use Prim.Native.Nat.{ℕ, _<_}
 use mathlib.Core.Path.{_≡_, refl}
-use mathlib.Core.Bool.{true, false}
 use mathlib.Core.Logic.{_⊎_, inl, inr}
 use mathlib.Core.List.{List}
 use lib.ListN.{length}
 use Rattle.basics.specs.declared.Outcome.the-variants as outcome
-use Rattle.alf.specs.Refusals.{Passed, Comes}
-use Rattle.basics.specs.Deciding.{Decides}
+use Rattle.alf.specs.Refusals.{NameCount, Passed, Comes}
 use Rattle.queue.specs.declared.queues.Queue.{Queue}
 use Rattle.states.specs.FirstBadCode.{Codes}
 use Rattle.matching_calls.specs.declared.matching.Matching.{Matching}
@@ -19,24 +17,37 @@ use Rattle.matching_calls.specs.Matching.{Finds, Counts}
 use Rattle.update_calls.specs.Pushing.{RowFits}
 use Rattle.call_laws.proofs.Routes.{row-passed, codes-passed}
 use Rattle.listed_calls.specs.Lists.{AcceptedAlternatives}
+use Rattle.listed_calls.specs.Fitting.{fitsOrder, ListedFits}
 use Rattle.listed_calls.specs.Listed as listed
-use Rattle.demands.proofs.Demand1 as one
+use Rattle.listed_calls.proofs.Fitting.{listed-fits-unique}
+use Rattle.demands.proofs.Demand1.{demand-1}
 use Rattle.shut_out.specs.Reasons.{IsRefusal, Exactly}
 use Rattle.shut_out.proofs.Reasons.{exactly, comes-parts, None, Two, both}
 use Rattle.shut_out.proofs.RefusingRows.{GoodTrace, finds-parts, counts-parts}
 
+-- whether they are accepted
+module _ (names : ℕ) (tree steps tests edges operands : List ℕ) where
+  pub record Fitting : Type 0 where
+    pub name-count : NameCount names
+    pub accepted : AcceptedAlternatives names tree steps tests edges operands
+
+  fits-pass : Fitting → Passed (fitsOrder names tree steps tests edges operands)
+  unfolding Passed
+  fits-pass g = (λ p a. a .given (g .name-count), (λ p a. a .given (g .accepted), tt))
+
+  pub listed-fits : Exactly {M = None} Fitting (fitsOrder names tree steps tests edges operands) outcome.Refused
+      (λ r m. ListedFits names tree steps tests edges operands r) tt
+  unfolding Comes
+  listed-fits =
+      exactly fits-pass
+      (record {
+        reason = λ r m w. w .comes;
+        parts = λ x m w. comes-parts _ _ x (w .comes);
+        refuses = λ k p h. record { comes = h };
+        one = both (λ a b x y. listed-fits-unique x y);
+      })
+
 module _ (names n : ℕ) (tree steps tests edges operands states : List ℕ) where
-  -- whether they are accepted is answered as it is
-  pub fits-not-refused : AcceptedAlternatives names tree steps tests edges operands
-      → Decides false (AcceptedAlternatives names tree steps tests edges operands) → ⊥
-  unfolding Decides
-  fits-not-refused a d = d a
-
-  pub fits-not-accepted : (AcceptedAlternatives names tree steps tests edges operands → ⊥)
-      → Decides true (AcceptedAlternatives names tree steps tests edges operands) → ⊥
-  unfolding Decides
-  fits-not-accepted a d = a d
-
   pub record GoodLists (lent : Type 0) : Type 0 where
     pub trace : GoodTrace names n states
     pub accepted : AcceptedAlternatives names tree steps tests edges operands
@@ -57,7 +68,7 @@ module _ (names n : ℕ) (tree steps tests edges operands states : List ℕ) whe
           reason = λ r m w. w .comes;
           parts = λ x m w. finds-parts _ _ x (w .comes);
           refuses = λ k p h. record { comes = h };
-          one = both (one.listed-match-row names n tree steps tests edges operands states row);
+          one = both (demand-1 .listed-match-row names n tree steps tests edges operands states row);
         })
 
   module _ (answers tried : List ℕ) where
@@ -81,7 +92,7 @@ module _ (names n : ℕ) (tree steps tests edges operands states : List ℕ) whe
           reason = λ r m w. w .comes;
           parts = λ x m w. comes-parts _ _ x (w .comes);
           refuses = λ k p h. record { comes = h; answers-memory = refl; tried-memory = refl };
-          one = one.listed-match-all names n tree steps tests edges operands states answers tried .one;
+          one = demand-1 .listed-match-all names n tree steps tests edges operands states answers tried .one;
         })
 
   totals-pass : GoodLists (Unit {0})
@@ -98,7 +109,7 @@ module _ (names n : ℕ) (tree steps tests edges operands states : List ℕ) whe
         reason = λ r m w. w .comes;
         parts = λ x m w. counts-parts _ _ x (w .comes);
         refuses = λ k p h. record { comes = h };
-        one = both (one.listed-totals names n tree steps tests edges operands states);
+        one = both (demand-1 .listed-totals names n tree steps tests edges operands states);
       })
 
 module _ (names : ℕ) (tree steps tests edges operands : List ℕ) (queue : Queue) (row : List ℕ) where
@@ -122,5 +133,5 @@ module _ (names : ℕ) (tree steps tests edges operands : List ℕ) (queue : Que
         reason = λ r q w. w .comes .0;
         parts = λ x q w. takes-parts x q (w .comes);
         refuses = λ k p h. record { comes = (h, refl) };
-        one = one.listed-push names tree steps tests edges operands queue row .one;
+        one = demand-1 .listed-push names tree steps tests edges operands queue row .one;
       })

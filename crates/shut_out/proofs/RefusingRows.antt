@@ -30,12 +30,12 @@ use Rattle.basics.specs.Memory.{after}
 use Rattle.row_calls.specs.Windows.{WindowAnswer}
 use Rattle.matching_calls.specs.Matching.{Finds, Counts, RowMatch, AllMatched, RowTotals}
 use Rattle.call_laws.proofs.Routes.{codes-never, row-passed, codes-passed}
-use Rattle.demands.proofs.Demand1 as one
+use Rattle.demands.proofs.Demand1.{demand-1}
 use Rattle.shut_out.specs.Reasons.{IsRefusal, Exactly}
 use Rattle.shut_out.proofs.Reasons.{exactly, comes-parts, None, Two, both}
 
 -- a result that is told, found, counted, changed: not refused, or a refusal
-tells-parts : (o : Order) (a : Answer) (x : Told) → Tells o a x → Passed o ⊎ IsRefusal told.Refused x
+tells-parts : (o : Order) (a : ℕ) (x : Told) → Tells o a x → Passed o ⊎ IsRefusal told.Refused x
 unfolding Tells
 tells-parts o a (told.Answered b) w = inl (w .0)
 tells-parts o a (told.Refused r) w = inr (r, refl)
@@ -77,22 +77,22 @@ module _ (names n : ℕ) (states : List ℕ) (row : ℕ) where
         (codes-never states (g .0 .codes), (λ p a. omega (arith, g .1, a .given), tt)),
       )
 
-  changes-parts : (x : RowChanges) → changes.Comes names n states row x
+  changes-parts : (x : RowChanges) → changes.RowChanged names n states row x
       → Passed (changes.order names n states row) ⊎ IsRefusal row-changes.Refused x
-  unfolding changes.Comes
+  unfolding changes.RowChanged
   changes-parts (row-changes.Changed c) w = inl (w .0)
   changes-parts (row-changes.Refused r) w = inr (r, refl)
 
   pub changes-at : Exactly {M = None} (GoodTrace names n states × (row < n)) (changes.order names n states row)
-      row-changes.Refused (λ r m. changes.Comes names n states row r) tt
-  unfolding changes.Comes
+      row-changes.Refused (λ r m. changes.RowChanged names n states row r) tt
+  unfolding changes.RowChanged
   changes-at =
       exactly changes-pass
       (record {
         reason = λ r m w. w;
         parts = λ x m w. changes-parts x w;
         refuses = λ k p h. h;
-        one = both (one.changes-at names n states row);
+        one = both (demand-1 .changes-at names n states row);
       })
 
 -- A tree handed in.
@@ -115,7 +115,7 @@ module _ (names n : ℕ) (tree states : List ℕ) where
           reason = λ r m w. w .comes;
           parts = λ x m w. comes-parts _ _ x (w .comes);
           refuses = λ k p h. record { comes = h };
-          one = both (one.row-state names n tree states row);
+          one = both (demand-1 .row-state names n tree states row);
         })
 
     pub row-value : Exactly {M = None} (GoodRow names n tree Boolean states row)
@@ -127,7 +127,7 @@ module _ (names n : ℕ) (tree states : List ℕ) where
           reason = λ r m w. w .comes;
           parts = λ x m w. comes-parts _ _ x (w .comes);
           refuses = λ k p h. record { comes = h };
-          one = both (one.row-value names n tree states row);
+          one = both (demand-1 .row-value names n tree states row);
         })
 
     pub row-answer : Exactly {M = None} (GoodRow names n tree Vector states row)
@@ -139,7 +139,7 @@ module _ (names n : ℕ) (tree states : List ℕ) where
           reason = λ r m w. w .comes;
           parts = λ x m w. tells-parts _ _ x (w .comes);
           refuses = λ k p h. record { comes = h };
-          one = both (one.row-answer names n tree states row);
+          one = both (demand-1 .row-answer names n tree states row);
         })
 
     pub match-row : Exactly {M = None} (GoodRow names n tree Vector states row)
@@ -151,7 +151,7 @@ module _ (names n : ℕ) (tree states : List ℕ) where
           reason = λ r m w. w .comes;
           parts = λ x m w. finds-parts _ _ x (w .comes);
           refuses = λ k p h. record { comes = h };
-          one = both (one.match-row names n tree states row);
+          one = both (demand-1 .match-row names n tree states row);
         })
 
   pub window-answer : (from to : ℕ) → Exactly {M = None} (GoodRow names n tree Vector states (max from to))
@@ -164,7 +164,7 @@ module _ (names n : ℕ) (tree states : List ℕ) where
         reason = λ r m w. w .comes;
         parts = λ x m w. tells-parts _ _ x (w .comes);
         refuses = λ k p h. record { comes = h };
-        one = both (one.window-answer names n tree states from to);
+        one = both (demand-1 .window-answer names n tree states from to);
       })
 
   pub values : (out : List ℕ) → Exactly (GoodRows names n (length out ≡ n) tree Boolean states)
@@ -177,7 +177,7 @@ module _ (names n : ℕ) (tree states : List ℕ) where
         reason = λ r m w. w .comes;
         parts = λ x m w. comes-parts _ _ x (w .comes);
         refuses = λ k p h. record { comes = h; memory = refl };
-        one = one.values names n tree states out .one;
+        one = demand-1 .values names n tree states out .one;
       })
 
   pub match-all : (answers tried : List ℕ)
@@ -191,7 +191,7 @@ module _ (names n : ℕ) (tree states : List ℕ) where
         reason = λ r m w. w .comes;
         parts = λ x m w. comes-parts _ _ x (w .comes);
         refuses = λ k p h. record { comes = h; answers-memory = refl; tried-memory = refl };
-        one = one.match-all names n tree states answers tried .one;
+        one = demand-1 .match-all names n tree states answers tried .one;
       })
 
   totals-pass : GoodRows names n (Unit {0}) tree Vector states → Passed (traceOrder names n tree Vector states)
@@ -206,5 +206,5 @@ module _ (names n : ℕ) (tree states : List ℕ) where
         reason = λ r m w. w .comes;
         parts = λ x m w. counts-parts _ _ x (w .comes);
         refuses = λ k p h. record { comes = h };
-        one = both (one.totals names n tree states);
+        one = both (demand-1 .totals names n tree states);
       })

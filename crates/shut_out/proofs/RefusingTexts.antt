@@ -18,7 +18,7 @@ use Rattle.basics.proofs.Bools.{never}
 use Rattle.reader.specs.declared.Read.{Read}
 use Rattle.reader.specs.Reads.{made, refusedBy, refusedWith}
 use Rattle.reader.specs.Reading as texts
-use Rattle.reader.specs.Reading.{readOrder, Gives, Reading}
+use Rattle.reader.specs.Reading.{readOrder, Gives, ReadsText}
 use Rattle.reader.proofs.Unique.{read-unique, gives-read, read-complete}
 use Rattle.trace_reader.specs.declared.Reading as files
 use Rattle.trace_reader.specs.declared.Reading.the-variants as file
@@ -26,7 +26,8 @@ use Rattle.trace_format.specs.Format.{Trace, fileOf, count}
 use Rattle.trace_reader.specs.Reading.{FileRefused, RoomRefused, Reads}
 use Rattle.trace_laws.proofs.Theorems.{TraceOf, OneReading, got-trace}
 use Rattle.trace_laws.proofs.RoundTrips.{reads-unique, read-write}
-use Rattle.shut_out.specs.Reasons.{Held, IsRefusal, refusal, Exactly}
+use Rattle.basics.specs.Refusing.{refusal}
+use Rattle.shut_out.specs.Reasons.{Held, IsRefusal, Exactly}
 use Rattle.shut_out.proofs.Reasons.{passed-held, None, Three}
 use Rattle.shut_out.proofs.Refusing.{GoodNames, names-pass}
 
@@ -41,7 +42,7 @@ module _ (names text : List ℕ) (sort : Sort) where
   abbrev refused : Refusal → Read
   refused r = refusedWith (r .number) (r .place)
 
-  passed-read : {r : Read} → Reading names text sort r → r .refused ≡ false → Passed (readOrder names text sort)
+  passed-read : {r : Read} → ReadsText names text sort r → r .refused ≡ false → Passed (readOrder names text sort)
   unfolding refusedBy
   passed-read (texts.refused n p a) e = never (sym e)
   passed-read (texts.read a g) e = a
@@ -50,17 +51,17 @@ module _ (names text : List ℕ) (sort : Sort) where
   unfolding made
   read-passes g = passed-read (gives-read (names-pass names (g .names-good)) (g .short) (g .given)) refl
 
-  not-refused : (r : Read) → Readable → Reading names text sort r → r .refused ≡ false
+  not-refused : (r : Read) → Readable → ReadsText names text sort r → r .refused ≡ false
   unfolding made
   not-refused r g w =
       ap (λ (x : Read). x .refused) (read-complete (names-pass names (g .names-good)) (g .short) (g .given) w)
 
-  only-refused : Held (readOrder names text sort) → (x : Read) → Reading names text sort x → IsRefusal refused x
+  only-refused : Held (readOrder names text sort) → (x : Read) → ReadsText names text sort x → IsRefusal refused x
   only-refused h x (texts.refused n p a) = (refusal n p, refl)
   only-refused h x (texts.read a g) = absurd (passed-held (readOrder names text sort) a h)
 
   pub read-expression : Exactly {M = None} Readable (readOrder names text sort) refused
-      (λ r m. Reading names text sort r) tt
+      (λ r m. ReadsText names text sort r) tt
   unfolding refusedBy
   read-expression =
       record {

@@ -19,7 +19,7 @@ use Rattle.basics.specs.Memory.{after}
 use Rattle.update_calls.specs.Correcting.{correctionOrder, Correction}
 use Rattle.update_calls.specs.Pushing.{RowFits, Handed, pushOrder, Takes, Push}
 use Rattle.call_laws.proofs.Routes.{codes-never, codes-passed}
-use Rattle.demands.proofs.Demand1 as one
+use Rattle.demands.proofs.Demand1.{demand-1}
 use Rattle.shut_out.specs.Reasons.{IsRefusal, Exactly}
 use Rattle.shut_out.proofs.Reasons.{exactly, comes-parts, Two}
 use Rattle.shut_out.proofs.RefusingRows.{GoodTrace}
@@ -57,7 +57,7 @@ module _ (names n : ℕ) (tree states : List ℕ) where
           reason = λ r m w. w .comes;
           parts = λ x m w. comes-parts _ _ x (w .comes);
           refuses = λ k p h. record { comes = h; states-memory = refl; answers-memory = refl };
-          one = one.correct names n tree states answers row new .one;
+          one = demand-1 .correct names n tree states answers row new .one;
         })
 
 -- The queue.
@@ -82,5 +82,5 @@ module _ (names : ℕ) (tree : List ℕ) (queue : Queue) (row : List ℕ) where
         reason = λ r q w. w .comes .0;
         parts = λ x q w. takes-parts x q (w .comes);
         refuses = λ k p h. record { comes = (h, refl) };
-        one = one.push names tree queue row .one;
+        one = demand-1 .push names tree queue row .one;
       })

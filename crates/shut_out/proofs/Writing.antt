@@ -26,8 +26,8 @@ use Rattle.matching_calls.specs.declared.matching.Matching.the-variants as matc
 use Rattle.matching_calls.specs.Matching.{AllMatched}
 use Rattle.update_calls.specs.Pushing.{Push}
 use Rattle.update_calls.specs.Correcting.{Correction}
-use Rattle.listing.specs.Calls.{ListsText}
-use Rattle.demands.proofs.Demand1 as one
+use Rattle.tree_listings.specs.TreeTexts.{ListsTree}
+use Rattle.demands.proofs.Demand1.{demand-1}
 use Rattle.alf.specs.TableT as T
 use Rattle.shut_out.specs.Asked.{letters}
 use Rattle.shut_out.proofs.Reasons.{Two, Three, Four}
@@ -82,13 +82,13 @@ rows-swapped n₀ t₀ s₀ m r a b c w e =
 -- a refusal that has written something
 module _ {names tree : List ℕ} {sort : Sort} {out out′ : List ℕ} {e : Refusal} where
   pub wrote-and-refused : writing.Writes names tree sort out out′ (Refused e) → (out′ ≡ out → ⊥) → ⊥
-  wrote-and-refused w differ = differ (one.write-expression names tree sort out .stays e out′ w)
+  wrote-and-refused w differ = differ (demand-1 .write-expression names tree sort out .stays e out′ w)
 
 pub matched-and-refused : {k n : ℕ} {tree codes answers tried answers′ tried′ : List ℕ} {e : Refusal}
     → AllMatched k n tree codes answers tried answers′ tried′ (Refused e)
     → ((answers′ ≡ answers) × (tried′ ≡ tried) → ⊥) → ⊥
 matched-and-refused {k} {n} {tree} {codes} {answers} {tried} {answers′} {tried′} {e} w differ =
-    let s = one.match-all k n tree codes answers tried .stays e (answers′, tried′) w in
+    let s = demand-1 .match-all k n tree codes answers tried .stays e (answers′, tried′) w in
     differ (ap (λ (p : Two). p .0) s, ap (λ (p : Two). p .1) s)
 
 pub corrected-and-refused : {k n : ℕ} {tree codes answers : List ℕ} {row : ℕ}
@@ -96,23 +96,23 @@ pub corrected-and-refused : {k n : ℕ} {tree codes answers : List ℕ} {row : �
     → Correction k n tree codes answers row new codes′ answers′ (Refused e)
     → ((codes′ ≡ codes) × (answers′ ≡ answers) → ⊥) → ⊥
 corrected-and-refused {k} {n} {tree} {codes} {answers} {row} {new} {codes′} {answers′} {e} w differ =
-    let s = one.correct k n tree codes answers row new .stays e (codes′, answers′) w in
+    let s = demand-1 .correct k n tree codes answers row new .stays e (codes′, answers′) w in
     differ (ap (λ (p : Two). p .0) s, ap (λ (p : Two). p .1) s)
 
 pub read-and-refused : (bytes n₀ t₀ s₀ : List ℕ) (m : Three) (e : Refusal)
     → Reads bytes n₀ t₀ s₀ (m .0) (m .1) (m .2) (file.Refused e) → (m ≡ (n₀, t₀, s₀) → ⊥) → ⊥
-read-and-refused bytes n₀ t₀ s₀ m e w differ = differ (one.read-trace bytes n₀ t₀ s₀ .stays e m w)
+read-and-refused bytes n₀ t₀ s₀ m e w differ = differ (demand-1 .read-trace bytes n₀ t₀ s₀ .stays e m w)
 
-pub listed-and-refused : {times answers out out′ : List ℕ} {e : Refusal}
-    → ListsText times answers out out′ (Refused e) → (out′ ≡ out → ⊥) → ⊥
-listed-and-refused {times} {answers} {out} {out′} {e} w differ =
-    differ (one.list times answers out .stays e out′ w)
+pub listed-and-refused : {k n : ℕ} {tree times states out out′ : List ℕ} {e : Refusal}
+    → ListsTree k n tree times states out out′ (Refused e) → (out′ ≡ out → ⊥) → ⊥
+listed-and-refused {k} {n} {tree} {times} {states} {out} {out′} {e} w differ =
+    differ (demand-1 .list k n tree states times out .stays e out′ w)
 
 pub rewrote-and-refused : {k : ℕ} {tree s t e o s′ t′ e′ o′ : List ℕ} {r : Refusal}
     → Rewrites k tree s t e o s′ t′ e′ o′ (Refused r)
     → ((s′ ≡ s) × (t′ ≡ t) × (e′ ≡ e) × (o′ ≡ o) → ⊥) → ⊥
 rewrote-and-refused {k} {tree} {s} {t} {e} {o} {s′} {t′} {e′} {o′} {r} w differ =
-    let p = one.rewrite k tree s t e o .stays r (s′, t′, e′, o′) w in
+    let p = demand-1 .rewrite k tree s t e o .stays r (s′, t′, e′, o′) w in
     differ (
       ap (λ (x : Four). x .0) p,
       ap (λ (x : Four). x .1) p,
@@ -123,4 +123,4 @@ rewrote-and-refused {k} {tree} {s} {t} {e} {o} {s′} {t′} {e′} {o′} {r} w
 pub pushed-and-refused : {k : ℕ} {tree : List ℕ} {queue : Queue} {row : List ℕ} {queue′ : Queue} {e : Refusal}
     → Push k tree queue row (matching.Refused e) queue′ → (queue′ ≡ queue → ⊥) → ⊥
 pushed-and-refused {k} {tree} {queue} {row} {queue′} {e} w differ =
-    differ (one.push k tree queue row .stays e queue′ w)
+    differ (demand-1 .push k tree queue row .stays e queue′ w)

@@ -9,6 +9,7 @@ use mathlib.Core.Logic.{_⊎_}
 use mathlib.Core.Path.{_≡_}
 use mathlib.Core.List.{[], _∷_}
 use Rattle.basics.specs.declared.Refusal.{Refusal}
+use Rattle.basics.specs.Refusing.{refusal}
 use Rattle.alf.specs.Refusals.{Order, RefusedWith}
 
 unfoldable pub Held : Order → Type 0
@@ -17,9 +18,6 @@ Held (c ∷ cs) = ((p : ℕ) × c .row p) ⊎ Held cs
 
 abbrev pub IsRefusal : {R : Type 0} → (Refusal → R) → R → Type 0
 IsRefusal refused x = (r : Refusal) × (x ≡ refused r)
-
-abbrev pub refusal : ℕ → ℕ → Refusal
-refusal n p = record { number = n; place = p }
 
 pub record Exactly {R M : Type 0} (good : Type 0) (order : Order) (refused : Refusal → R)
     (allows : R → M → Type 0) (before : M)

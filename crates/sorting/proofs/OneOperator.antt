@@ -13,7 +13,8 @@ use borrow.Author.Tests.{eqb-true, eqb-false, ltb-true, ltb-false, leb-true, ne-
 use Rattle.basics.specs.Words.{if_then_else_}
 use Rattle.alf.specs.Expressions.{Boolean, name, literal, negated, binary, choice, Vector, edge, join, while}
 use Rattle.alf.specs.Expressions.{with, or-else, on-right, on-left, Expression, boolean, vector}
-use Rattle.alf.specs.Bytes.{bytesOf, booleanBytes, vectorBytes, joinByte, binaryAt, joinAt, edgeAt}
+use Rattle.alf.specs.Bytes.{bytesOf, booleanBytes, vectorBytes, joinByte}
+use Rattle.alf.specs.Decoder.{binaryAt, joinAt, edgeAt}
 use Rattle.alf.proofs.OperatorBytes.{binary-byte, join-byte, edge-byte}
 use Rattle.grammar.specs.declared.Token.{Token}
 use Rattle.sorting.specs.declared.sorts.Sorting.{Sorting}

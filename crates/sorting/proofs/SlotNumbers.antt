@@ -22,7 +22,7 @@ use Rattle.names.specs.Check.{NameLength}
 use Rattle.names.proofs.Slots.{slot-part}
 use Rattle.token_steps.specs.Taking.{nameBytes}
 use Rattle.token_steps.proofs.RightName.{names-le}
-use Rattle.sorting.specs.Lookup.{word, countOf, first, numberOf, numberAt, isUnknown}
+use Rattle.sorting.specs.Lookup.{word, countOf, first, slotNumber, numberAt, isUnknown}
 
 pub first-here :
     (n : ℕ) (p : ℕ → Bool) (k : ℕ) → k < n → p k ≡ true → ((j : ℕ) → j < k → p j ≡ false) →
@@ -84,8 +84,8 @@ pub record Found (names w : List ℕ) (k : ℕ) : Type 0 where
   pub there : k < countOf names → nameAt names k ≡ w
   pub before : (j : ℕ) → j < k → nameAt names j ≡ w → ⊥
 
-pub number-found : (names w : List ℕ) → Found names w (numberOf names w)
-unfolding numberOf
+pub number-found : (names w : List ℕ) → Found names w (slotNumber names w)
+unfolding slotNumber
 number-found names w =
     record {
       within = first-bound _ _;
@@ -101,8 +101,8 @@ pub number-here :
     k < countOf names →
     nameAt names k ≡ w →
     ((j : ℕ) → j < k → nameAt names j ≡ w → ⊥) →
-    k ≡ numberOf names w
-unfolding numberOf
+    k ≡ slotNumber names w
+unfolding slotNumber
 number-here names w k l e b =
     first-here (countOf names) (λ k. same (nameAt names k) w) k l (same-true _ _ e) (λ j h. same-false _ _ (b j h))
 
@@ -110,8 +110,8 @@ pub number-none :
     (names w : List ℕ) (k : ℕ) →
     k ≡ countOf names →
     ((j : ℕ) → j < k → nameAt names j ≡ w → ⊥) →
-    k ≡ numberOf names w
-unfolding numberOf
+    k ≡ slotNumber names w
+unfolding slotNumber
 number-none names w k e b =
     rw e (first-none (countOf names) (λ k. same (nameAt names k) w) (λ j h. same-false _ _ (b j (rw e h))))
 

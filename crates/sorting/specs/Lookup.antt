@@ -1,8 +1,8 @@
 -- Document 01, refusal 6: the name that stands at a byte of a text, and the number of the slot that holds it.
--- That a number is the first slot's with the name, or that there is none, is shown in proofs/SlotNumbers.antt.
+-- That a number is the first slot's with the name, or that there is none, is a law.
 --   word, countOf             the name bytes from a byte on; how many names a list has
 --   first                     the first number that passes a test
---   numberOf, numberAt        the number of a name, and of the name at a byte
+--   slotNumber, numberAt        the number of a name, and of the name at a byte
 --   isUnknown, unknownAt      a token is a name that no slot holds; the first that is
 use Prim.Native.Nat.{ℕ, zero, suc, _/_}
 use mathlib.Core.Bool.{Bool, _&&_}
@@ -27,12 +27,12 @@ first zero p = 0
 first (suc n) p = if p 0 then 0 else suc (first n (λ k. p (suc k)))
 
 -- the number of the slot that holds a name; the number of slots where none does
-unfoldable pub numberOf : List ℕ → List ℕ → ℕ
-numberOf names w = first (countOf names) (λ k. same (nameAt names k) w)
+unfoldable pub slotNumber : List ℕ → List ℕ → ℕ
+slotNumber names w = first (countOf names) (λ k. same (nameAt names k) w)
 
 -- the number of the name that stands at byte p
 abbrev pub numberAt : List ℕ → List ℕ → ℕ → ℕ
-numberAt names text p = numberOf names (word text p)
+numberAt names text p = slotNumber names (word text p)
 
 -- a token is a name that no slot holds
 unfoldable pub isUnknown : List ℕ → List ℕ → ℕ → ℕ → Bool

@@ -1,5 +1,5 @@
 -- For the functions inside: the sort pass as a run over the nodes of a tree with a stack of expressions. That a run
--- over a tree's nodes comes to `sorted` is shown in proofs/NodeRuns.antt.
+-- over a tree's nodes comes to `sorted` is a law.
 --   Run, settled, takesOne, takesTwo, takesThree, applied, stepped, run     the run, node by node
 --   isNode, isVector, sortsOf, stackBytes       the codes of nodes; the sorts and the bytes of a stack
 --   Shows, Fine, Moved                          what the code has at hand shows a run

@@ -11,7 +11,7 @@ use Rattle.alf.specs.declared.Sort.the-variants as the-sort
 use Rattle.basics.specs.Words.{if_then_else_}
 use Rattle.alf.specs.Expressions.{Boolean, name, literal, negated, binary, choice, Vector, edge, join, while}
 use Rattle.alf.specs.Expressions.{with, or-else, on-right, on-left, Expression, boolean, vector}
-use Rattle.alf.specs.Bytes.{binaryAt, joinAt, edgeAt}
+use Rattle.alf.specs.Decoder.{binaryAt, joinAt, edgeAt}
 use Rattle.grammar.specs.declared.Token.{Token}
 use Rattle.grammar.specs.Grammar.{Tree, leaf, one, two, three}
 

@@ -24,7 +24,7 @@ use Rattle.token_steps.proofs.Search.{all-in, in-all}
 use Rattle.token_steps.proofs.TokenStarts.{token-size}
 use Rattle.grammar.specs.declared.Token.{Token}
 use Rattle.spelling.specs.Spelled.{spelled, following, textOf}
-use Rattle.spelling.specs.Placed.{placed}
+use Rattle.spelling.specs.TokenPlaces.{tokensFrom}
 use Rattle.spelling.proofs.LongestSigns.{Behind, end, blank}
 use Rattle.spelling.proofs.LongestWords.{Known, spelled-taken}
 
@@ -103,16 +103,16 @@ space = refl
 
 -- the text of some tokens from place p on
 following-reads : (p : ℕ) {names : List ℕ} {ts : List Token} → AllKnown names ts
-    → Reads p (following names ts) (placed names (suc p) ts)
-unfolding following placed
+    → Reads p (following names ts) (tokensFrom names (suc p) ts)
+unfolding following tokensFrom
 following-reads p none = Reads.done
 following-reads p {names} (more {t = t} {ts = ts} k a) =
     Reads.blank space
     (taken-reads (spelled names t) (spelled-taken k (following-behind names ts)) (following-reads _ a))
 
 pub text-reads : {names : List ℕ} {ts : List Token} → AllKnown names ts
-    → Reads 0 (textOf names ts) (placed names 0 ts)
-unfolding textOf placed
+    → Reads 0 (textOf names ts) (tokensFrom names 0 ts)
+unfolding textOf tokensFrom
 text-reads none = Reads.done
 text-reads {names} (more {t = t} {ts = ts} k a) =
     taken-reads (spelled names t) (spelled-taken k (following-behind names ts)) (following-reads _ a)

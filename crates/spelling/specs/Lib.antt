@@ -2,6 +2,6 @@
 -- proofs and
 -- the functions inside.
 pub mod Spelled
-pub mod Placed
+pub mod TokenPlaces
 pub mod Signs
 pub mod Inner

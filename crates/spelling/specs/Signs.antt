@@ -2,7 +2,7 @@
 --   sign             a token's byte
 --   word, markAt     a sign's spelling, and where the code's table has it
 --   gap, lineFrom    the blank before a word, and the words of some signs
--- That the line of some tokens' signs is their text is shown in proofs/Lines.antt.
+-- That the line of some tokens' signs is their text is a law.
 use Prim.Native.Nat.{ℕ, suc, _-_}
 use mathlib.Core.List.{List, [], _∷_, _++_}
 use lib.Dec.{eqb, ltb}

@@ -4,7 +4,7 @@
 ghost use mathlib.Core.Path.{_≡_};
 ghost use Prim.Native.Nat.{_<_, min, max};
 ghost use Rattle.alf.specs.Windows.{asked, digitAsked, certainty, edgeOn};
-ghost use Rattle.alf.specs.Bytes.{halfAt, edgeAt};
+ghost use Rattle.alf.specs.Decoder.{halfAt, edgeAt};
 use crate::states::reduced;
 
 // of 0 1 X H L W Z U

@@ -10,7 +10,7 @@ use Rattle.alf.specs.Expressions.{Boolean, literal, the, Edge, pair, Vector, ed
 use Rattle.alf.specs.Expressions.{Join, followed-by, either-order, with-or-then, any-order, with, or-else}
 use Rattle.alf.specs.Alternatives.{Test, test, Step, Alternative, each, padded, zipped, overlaid, conditioned}
 use Rattle.alf.specs.Alternatives.{rewritten, alternatives}
-use Rattle.step_tests.specs.OperandPlaces.{placed}
+use Rattle.step_tests.specs.OperandPlaces.{byPlaces}
 
 unfoldable pub testsOn : (Edge → Edge) → (Boolean → Boolean) → Vector → Vector
 testsOn g f (edge e c) = edge (g e) (f c)
@@ -111,8 +111,8 @@ module _ (g : Edge → Edge) (f : Boolean → Boolean) where
 abbrev bare : Vector → Vector
 bare = testsOn (λ e. e) (λ c. literal 0)
 
-placed-bare : (end : ℕ) (p : Vector) → bare (placed end p) ≡ bare p
-unfolding placed testsOn
+placed-bare : (end : ℕ) (p : Vector) → bare (byPlaces end p) ≡ bare p
+unfolding byPlaces testsOn
 placed-bare end (edge e c) = refl
 placed-bare end (join j p q) = rw (placed-bare _ p, placed-bare _ q) refl
 placed-bare end (while on-right p c) = rw (placed-bare _ p) refl
@@ -120,10 +120,10 @@ placed-bare end (while on-left p c) = rw (placed-bare _ p) refl
 
 -- so alternatives with places and those of the expression differ in the operands alone
 pub placed-same : (end : ℕ) (p : Vector)
-    → map (alternativeOn (λ e. e) (λ c. literal 0)) (alternatives (placed end p))
+    → map (alternativeOn (λ e. e) (λ c. literal 0)) (alternatives (byPlaces end p))
     ≡ map (alternativeOn (λ e. e) (λ c. literal 0)) (alternatives p)
 placed-same end p =
-    sym (alternatives-on _ _ refl (placed end p)) ∙ ap alternatives (placed-bare end p) ∙ alternatives-on _ _ refl p
+    sym (alternatives-on _ _ refl (byPlaces end p)) ∙ ap alternatives (placed-bare end p) ∙ alternatives-on _ _ refl p
 
 bare-number : (p : Vector) → length (alternatives (bare p)) ≡ length (alternatives p)
 bare-number p = ap length (alternatives-on _ _ refl p) ∙ length-map (alternatives p) _
@@ -139,13 +139,13 @@ bare-length p t =
     go (x ∷ xs) zero = length-map x _
     go (x ∷ xs) (suc t) = go xs t
 
-pub placed-number : (end : ℕ) (p : Vector) → length (alternatives (placed end p)) ≡ length (alternatives p)
+pub placed-number : (end : ℕ) (p : Vector) → length (alternatives (byPlaces end p)) ≡ length (alternatives p)
 placed-number end p =
-    sym (bare-number (placed end p))
+    sym (bare-number (byPlaces end p))
     ∙ ap (λ (q : Vector). length (alternatives q)) (placed-bare end p) ∙ bare-number p
 
 pub placed-length : (end : ℕ) (p : Vector) (t : ℕ)
-    → length (getD (alternatives (placed end p)) t []) ≡ length (getD (alternatives p) t [])
+    → length (getD (alternatives (byPlaces end p)) t []) ≡ length (getD (alternatives p) t [])
 placed-length end p t =
-    sym (bare-length (placed end p) t)
+    sym (bare-length (byPlaces end p) t)
     ∙ ap (λ (q : Vector). length (getD (alternatives q) t [])) (placed-bare end p) ∙ bare-length p t

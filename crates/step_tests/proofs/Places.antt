@@ -8,7 +8,8 @@ use mathlib.Core.Logic.{_⊎_, inl, inr}
 use mathlib.Core.List.{List}
 use lib.ListN.{length, getD}
 use Rattle.alf.specs.Expressions.{Boolean, Edge, Vector, edge, join, while, Join, Side}
-use Rattle.alf.specs.Bytes.{edgeNumber, edgeAt, arityAt}
+use Rattle.alf.specs.Bytes.{edgeNumber}
+use Rattle.alf.specs.Decoder.{edgeAt, arityAt}
 use Rattle.basics.proofs.Bools.{equal?, below?}
 use Rattle.alf.proofs.OperatorBytes.{edge-byte}
 use Rattle.alf.proofs.StackTops.{edge-top, condition-before-top}
@@ -17,7 +18,7 @@ use Rattle.trees.specs.Parts.{Ends, EndsBoolean, EndsVector, vectorAt, booleanA
 use Rattle.trees.proofs.Starts.{Going, going-first, going-on, going-done}
 use Rattle.trees.proofs.Vectors.{Conditioned, Joined, vector-pos, edge-is, before-is, before-ends, boolean-under}
 use Rattle.trees.proofs.Vectors.{condition-is, join-is}
-use Rattle.step_tests.specs.OperandPlaces.{placed, placeOf}
+use Rattle.step_tests.specs.OperandPlaces.{byPlaces, placeOf}
 use Rattle.step_tests.proofs.Exchanging.{testsOn}
 use Rattle.step_tests.proofs.Placing.{vector-start, boolean-start}
 use Rattle.step_tests.proofs.StepTests.{last-ends}
@@ -57,15 +58,15 @@ module _ (t : List ℕ) (names : ℕ) where
   Known c = EndsBoolean t names (placeOf c)
 
   pub record Stands (end : ℕ) : Type 0 where
-    pub back : testsOn edgeBack (operandBack t names) (placed end (vectorAt t names end)) ≡ vectorAt t names end
-    pub each : Each Known (placed end (vectorAt t names end))
+    pub back : testsOn edgeBack (operandBack t names) (byPlaces end (vectorAt t names end)) ≡ vectorAt t names end
+    pub each : Each Known (byPlaces end (vectorAt t names end))
 
   module _ (end : ℕ) (h : EndsVector t names end) where
     inside : end - 1 ≤ length t
     inside = omega (arith, h .within)
 
     edge-stands : 64 ≤ getD t (end - 1) 0 → Stands end
-    unfolding placed testsOn placeOf
+    unfolding byPlaces testsOn placeOf
     edge-stands k =
         let u = edge-top names _ (made-last t names end (vector-pos t names end h)) (h .whole) k in
         let e = edge-byte k (u .small) in
@@ -77,7 +78,7 @@ module _ (t : List ℕ) (names : ℕ) where
 
     module _ {m : ℕ} (s : Start t names (end - 1) m) where
       before-stands : getD t (end - 1) 0 ≡ 57 → Stands (end - 1) → Stands end
-      unfolding placed testsOn placeOf
+      unfolding byPlaces testsOn placeOf
       before-stands k r =
           let u = condition-before-top names _ (made-last t names end (vector-pos t names end h)) (h .whole) k in
           let b = before-is t names end h k in
@@ -88,7 +89,7 @@ module _ (t : List ℕ) (names : ℕ) where
           }
 
       condition-stands : Conditioned t names end m → Stands m → Stands end
-      unfolding placed testsOn placeOf
+      unfolding byPlaces testsOn placeOf
       condition-stands c r =
           let v = boolean-start t names (end - 1) (c .right) s in
           record {
@@ -97,7 +98,7 @@ module _ (t : List ℕ) (names : ℕ) where
           }
 
       join-stands : Joined t names end m → Stands m → Stands (end - 1) → Stands end
-      unfolding placed testsOn
+      unfolding byPlaces testsOn
       join-stands j r q =
           let v = vector-start t names (end - 1) (j .right) s in
           record {

@@ -8,8 +8,9 @@ use mathlib.Core.List.{List, [], _∷_, _++_}
 use lib.ListN.{length, getD}
 use Rattle.alf.specs.Expressions.{Boolean, name, the, Edge, pair, Vector, edge, join, while, Side, on-right, on-left}
 use Rattle.alf.specs.Expressions.{Join, boolean, vector}
-use Rattle.alf.specs.Bytes.{edgeAt, joinAt, booleanBytes, vectorBytes, bytesOf, Stack, empty, broken, push}
-use Rattle.alf.specs.Bytes.{isBoolean, isVector, topBoolean, topVector}
+use Rattle.alf.specs.Bytes.{booleanBytes, vectorBytes, bytesOf}
+use Rattle.alf.specs.Decoder.{edgeAt, joinAt, Stack, empty, broken, push}
+use Rattle.alf.specs.Decoder.{isBoolean, isVector, topBoolean, topVector}
 use Rattle.alf.specs.Alternatives.{test, Alternative, conditioned, alternatives}
 use Rattle.basics.proofs.Bools.{never}
 use Rattle.trees.specs.Parts.{EndsBoolean, EndsVector, vectorAt, booleanAt, top, Start}
@@ -17,7 +18,7 @@ use Rattle.trees.proofs.Vectors.{Conditioned, Joined, edge-is, before-is, befor
 use Rattle.alternatives.specs.declared.picking.How.{How}
 use Rattle.alternatives.specs.Picks.{Picked}
 use Rattle.basics.proofs.Entries.{getD-map}
-use Rattle.step_tests.specs.OperandPlaces.{placed}
+use Rattle.step_tests.specs.OperandPlaces.{byPlaces}
 use Rattle.step_tests.specs.Steps.{stepAt, Split}
 use Rattle.step_tests.proofs.Exchanging.{placed-number, placed-length}
 use Rattle.step_tests.proofs.Splits.{getD-conditioned}
@@ -56,10 +57,10 @@ while-steps s p c a j l k =
 
 placed-while : (s : Side) (end : ℕ) (p : Vector) (c : Boolean) (a j : ℕ) → a < length (alternatives p)
     → j < length (getD (alternatives p) a [])
-    → getD (getD (alternatives (while s (placed end p) c)) a []) j []
-    ≡ getD (getD (alternatives (placed end p)) a []) j [] ++ (test (pair (the 1) (the 1)) c ∷ [])
+    → getD (getD (alternatives (while s (byPlaces end p) c)) a []) j []
+    ≡ getD (getD (alternatives (byPlaces end p)) a []) j [] ++ (test (pair (the 1) (the 1)) c ∷ [])
 placed-while s end p c a j l u =
-    while-steps s (placed end p) c a j (rw (placed-number end p) l) (rw (placed-length end p a) u)
+    while-steps s (byPlaces end p) c a j (rw (placed-number end p) l) (rw (placed-length end p a) u)
 
 join-steps : (o : Join) (p q : Vector) {n m a x y : ℕ} (i k j l r : ℕ) {how : How} → Picked o n m a how i k
     → length (alternatives p) ≡ n → length (alternatives q) ≡ m → Split how x y j l r
@@ -83,14 +84,14 @@ module _ (t : List ℕ) (names end : ℕ) where
 module _ (t : List ℕ) (names end a j : ℕ) (h : EndsVector t names end) where
   pub edge-step : 64 ≤ getD t (end - 1) 0 → a < 1 → j < 1
       → stepAt t names end a j ≡ test (edgeAt (getD t (end - 1) 0 - 64)) (name (end - 1)) ∷ []
-  unfolding placed
+  unfolding byPlaces
   edge-step k l u = rw (edge-is t names end h k) (edge-steps _ _ a j l u)
 
   pub before-step : {m : ℕ} → getD t (end - 1) 0 ≡ 57 → Start t names (end - 1) m
       → a < length (alternatives (vectorAt t names (end - 1)))
       → j < length (getD (alternatives (vectorAt t names (end - 1))) a [])
       → stepAt t names end a j ≡ stepAt t names (end - 1) a j ++ (test (pair (the 1) (the 1)) (name m) ∷ [])
-  unfolding placed
+  unfolding byPlaces
   before-step k s l u =
       rw (before-is t names end h k, vector-start t names (end - 1) (before-ends t names end h k) s)
       (placed-while on-left (end - 1) (vectorAt t names (end - 1)) _ a j l u)
@@ -98,7 +99,7 @@ module _ (t : List ℕ) (names end a j : ℕ) (h : EndsVector t names end) where
   pub condition-step : {m : ℕ} → Conditioned t names end m → Start t names (end - 1) m
       → a < length (alternatives (vectorAt t names m)) → j < length (getD (alternatives (vectorAt t names m)) a [])
       → stepAt t names end a j ≡ stepAt t names m a j ++ (test (pair (the 1) (the 1)) (name (end - 1)) ∷ [])
-  unfolding placed
+  unfolding byPlaces
   condition-step {m} c s l u =
       rw (c .is, boolean-start t names (end - 1) (c .right) s)
       (placed-while on-right m (vectorAt t names m) _ a j l u)
@@ -109,9 +110,9 @@ module _ (t : List ℕ) (names end a j : ℕ) (h : EndsVector t names end) where
       → Split how x y j l r → length (getD (alternatives (vectorAt t names m)) i []) ≡ x
       → length (getD (alternatives (vectorAt t names (end - 1))) k []) ≡ y
       → stepAt t names end a j ≡ stepAt t names m i l ++ stepAt t names (end - 1) k r
-  unfolding placed
+  unfolding byPlaces
   join-step {m} {i = i} {k = k} {l = l} {r = r} g s p e d q u v =
       rw (g .is, vector-start t names (end - 1) (g .right) s)
-      (join-steps _ (placed m (vectorAt t names m)) (placed (end - 1) (vectorAt t names (end - 1))) i k j l r p
+      (join-steps _ (byPlaces m (vectorAt t names m)) (byPlaces (end - 1) (vectorAt t names (end - 1))) i k j l r p
       (placed-number m _ ∙ e) (placed-number (end - 1) _ ∙ d) q (placed-length m _ i ∙ u)
       (placed-length (end - 1) _ k ∙ v))

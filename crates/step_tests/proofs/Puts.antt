@@ -17,7 +17,7 @@ use Rattle.alf.specs.Bytes.{edgeNumber}
 use Rattle.alf.specs.Alternatives.{Test, test, Step, Alternative, alternatives, stepsOf}
 use Rattle.trees.specs.Parts.{vectorAt}
 use Rattle.acceptance.specs.Sizes.{alternativeAt, Shaped}
-use Rattle.step_tests.specs.OperandPlaces.{placed, placeOf, numberOf, endOf, numbers, ends}
+use Rattle.step_tests.specs.OperandPlaces.{byPlaces, placeOf, edgeOf, endOf, numbers, ends}
 use Rattle.step_tests.specs.Steps.{stepAt, Placing, Put, OnePut}
 use Rattle.step_tests.proofs.Exchanging.{placed-length}
 
@@ -28,7 +28,7 @@ pub put-one : {e : Edge} {k place from next : ℕ} {edges operands edges′ oper
     → edgeNumber e ≡ k
     → OnePut k place from edges operands next edges′ operands′
     → Put (test e (name place) ∷ []) from edges operands next edges′ operands′
-unfolding numberOf endOf placeOf
+unfolding edgeOf endOf placeOf
 put-one d h = record { next-is = h .next-is; edges-is = rw d (h .edges-is); operands-is = h .operands-is }
 
 sets-then : (f : Test → ℕ) (s u : Step) (from : ℕ) (l : List ℕ) {next : ℕ} {l′ l″ : List ℕ}
@@ -44,7 +44,7 @@ pub put-then : {s u : Step} {from next last : ℕ} {edges operands edges′ oper
 put-then {s} {u} {from} {edges = edges} {operands = operands} h k =
     record {
       next-is = let l = length-append s u in omega (arith, h .next-is, k .next-is);
-      edges-is = sets-then numberOf s u from edges (h .next-is) (h .edges-is) (k .edges-is);
+      edges-is = sets-then edgeOf s u from edges (h .next-is) (h .edges-is) (k .edges-is);
       operands-is = sets-then endOf s u from operands (h .next-is) (h .operands-is) (k .operands-is);
     }
 
@@ -83,7 +83,7 @@ module _ {t : List ℕ} {names end a j : ℕ} {edges operands : List ℕ} {from 
   beyond g l =
       let e = placed-length end (vectorAt t names end) a in
       let k = short-one in
-      rw (List·getD-eq-default (getD (alternatives (placed end (vectorAt t names end))) a []) [] {n = j}
+      rw (List·getD-eq-default (getD (alternatives (byPlaces end (vectorAt t names end))) a []) [] {n = j}
       (omega (arith, g .steps-is))) put-none
 
   pub there : {s n : ℕ} → Shaped (alternativeAt t names end a) s n → j < s

@@ -8,7 +8,8 @@ use mathlib.Core.Path.{_≡_, refl, ap, _∙_}
 use mathlib.Core.List.{List, [], _∷_, _++_}
 use lib.ListN.{length, getD, length-append}
 use Rattle.alf.specs.Expressions.{Boolean, name, the, pair, Vector, join, while, Join, Side, on-right, on-left}
-use Rattle.alf.specs.Bytes.{edgeNumber, halfNumber, edgeAt, joinAt}
+use Rattle.alf.specs.Bytes.{edgeNumber, halfNumber}
+use Rattle.alf.specs.Decoder.{edgeAt, joinAt}
 use Rattle.alf.specs.Alternatives.{test, Step, conditioned, alternatives, numberOfAlternatives, stepsOf}
 use Rattle.alf.proofs.Steps.{conditioned-length}
 use Rattle.alf.proofs.OperatorBytes.{edge-byte}

@@ -1,8 +1,8 @@
 -- A test in memory is the number of its edge and the end of its operand in the bytes of a tree. So the alternatives
 -- that are written are those of document 01, of the same expression with each boolean operand named by the place where
 -- it ends.
---   placed               the expression with its operands as places
---   placeOf, numberOf, endOf, numbers, ends    the two numbers of a test, and of the tests of a step
+--   byPlaces               the expression with its operands as places
+--   placeOf, edgeOf, endOf, numbers, ends    the two numbers of a test, and of the tests of a step
 use Prim.Native.Nat.{ℕ, _-_}
 use mathlib.Core.List.{List, map}
 use lib.ListN.{length}
@@ -13,11 +13,11 @@ use Rattle.alf.specs.Alternatives.{Test, test, Step}
 
 -- the expression that ends at `end`, its boolean operands as places: an operator stands last, its last operand ends
 -- right before it, and the operand before that ends where the last one starts
-unfoldable pub placed : ℕ → Vector → Vector
-placed end (edge e c) = edge e (name (end - 1))
-placed end (join j p q) = join j (placed (end - 1 - length (vectorBytes q)) p) (placed (end - 1) q)
-placed end (while on-right p c) = while on-right (placed (end - 1 - length (booleanBytes c)) p) (name (end - 1))
-placed end (while on-left p c) = while on-left (placed (end - 1) p) (name (end - 1 - length (vectorBytes p)))
+unfoldable pub byPlaces : ℕ → Vector → Vector
+byPlaces end (edge e c) = edge e (name (end - 1))
+byPlaces end (join j p q) = join j (byPlaces (end - 1 - length (vectorBytes q)) p) (byPlaces (end - 1) q)
+byPlaces end (while on-right p c) = while on-right (byPlaces (end - 1 - length (booleanBytes c)) p) (name (end - 1))
+byPlaces end (while on-left p c) = while on-left (byPlaces (end - 1) p) (name (end - 1 - length (vectorBytes p)))
 
 -- the two numbers of a test, and of the tests of a step
 unfoldable pub placeOf : Boolean → ℕ
@@ -27,14 +27,14 @@ placeOf (negated a) = 0
 placeOf (binary o a b) = 0
 placeOf (choice c a b) = 0
 
-unfoldable pub numberOf : Test → ℕ
-numberOf (test e c) = edgeNumber e
+unfoldable pub edgeOf : Test → ℕ
+edgeOf (test e c) = edgeNumber e
 
 unfoldable pub endOf : Test → ℕ
 endOf (test e c) = placeOf c
 
 abbrev pub numbers : Step → List ℕ
-numbers = map numberOf
+numbers = map edgeOf
 
 abbrev pub ends : Step → List ℕ
 ends = map endOf

@@ -13,11 +13,11 @@ use Rattle.trees.specs.Parts.{vectorAt}
 use Rattle.alternatives.specs.declared.picking.How.{How}
 use Rattle.alternatives.specs.Picks.{put}
 use Rattle.acceptance.specs.Sizes.{Chosen}
-use Rattle.step_tests.specs.OperandPlaces.{placed, numbers, ends}
+use Rattle.step_tests.specs.OperandPlaces.{byPlaces, numbers, ends}
 
 -- step j of alternative t of the expression that ends at `end`, its operands as places; none where there is no step j
 abbrev pub stepAt : List ℕ → ℕ → ℕ → ℕ → ℕ → Step
-stepAt tree names end t j = getD (getD (alternatives (placed end (vectorAt tree names end))) t []) j []
+stepAt tree names end t j = getD (getD (alternatives (byPlaces end (vectorAt tree names end))) t []) j []
 
 -- what is asked: there is such an alternative, none is too long, and there is room for the tests of the step
 pub record Placing (tree : List ℕ) (names end t j : ℕ) (edges operands : List ℕ) (from : ℕ) : Type 0 where

@@ -10,7 +10,7 @@ use mir.Val.{Fits}
 use mir.Syntax.{w8, w32, w64}
 use Rattle.basics.specs.Memory.{Room}
 use Rattle.basics.proofs.PartByPart.{Going, going-start}
-use Rattle.figures.specs.Text.{bytes, joined}
+use Rattle.basics.specs.Text.{bytes, joined}
 use Rattle.figures.specs.Numbers.{decimal}
 use Rattle.figures.specs.Share.{share}
 use Rattle.figures.proofs.Digits.{decimal-short, word-short}

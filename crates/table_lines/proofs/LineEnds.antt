@@ -10,7 +10,7 @@ use lib.ListN.{length, getD, take, length-append, length-map, List·getD-map}
 use Rattle.basics.specs.declared.Outcome.{Outcome}
 use Rattle.basics.proofs.PartByPart.{Going, going-start}
 use Rattle.basics.specs.Memory.{Holds}
-use Rattle.figures.specs.Text.{bytes, joined}
+use Rattle.basics.specs.Text.{bytes, joined}
 use Rattle.figures.specs.Delivering.{Delivers}
 use Rattle.table_lines.specs.Table.{plain, ended}
 

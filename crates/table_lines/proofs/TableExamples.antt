@@ -1,6 +1,6 @@
 -- Lines of the table, computed: the heading, case 1, a pattern that is refused, totals.
 use mathlib.Core.Path.{_≡_, refl}
-use Rattle.figures.specs.Text.{bytes, joined}
+use Rattle.basics.specs.Text.{bytes, joined}
 use Rattle.figures.specs.Numbers.{digits, widthUpTo, width, decimal}
 use Rattle.figures.specs.Share.{millionths, withPoint, share}
 use Rattle.table_lines.specs.Table.{plain, ended, heading, headingLine, columns, patternLine, refusedColumns}

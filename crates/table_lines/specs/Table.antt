@@ -9,7 +9,7 @@ use Prim.Native.Nat.{ℕ}
 use mathlib.Core.List.{List, [], _∷_, map}
 use lib.Dec.{ltb}
 use Rattle.basics.specs.Words.{if_then_else_}
-use Rattle.figures.specs.Text.{bytes, joined}
+use Rattle.basics.specs.Text.{bytes, joined}
 use Rattle.figures.specs.Numbers.{decimal}
 use Rattle.figures.specs.Share.{share}
 

@@ -13,7 +13,7 @@ use Rattle.trace_reader.specs.declared.Reading.{Reading}
 use Rattle.trace_reader.specs.declared.Reading.the-variants as the-reading
 use Rattle.changes.specs.declared.RowChanges.{RowChanges}
 use Rattle.changes.specs.declared.RowChanges.the-variants as the-changes
-use Rattle.alf.specs.Windows.{numberOf}
+use Rattle.alf.specs.Answers.{numberOf}
 use Rattle.row_calls.specs.declared.written.Told as written
 use Rattle.row_calls.specs.declared.written.Told.the-variants as the-answer
 use Rattle.telling.specs.declared.Told.{Told}

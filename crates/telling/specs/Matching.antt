@@ -4,7 +4,7 @@
 --   queueOf, Pushes                     a queue of C's as the call's, and what a push hands on
 use Prim.Native.Nat.{ℕ}
 use mathlib.Core.List.{List}
-use Rattle.alf.specs.Windows.{numberOf}
+use Rattle.alf.specs.Answers.{numberOf}
 use Rattle.queue.specs.declared.queues.Queue as updates
 use Rattle.matching_calls.specs.declared.matching.Matching.{Matching}
 use Rattle.matching_calls.specs.declared.matching.Matching.the-variants as the-match

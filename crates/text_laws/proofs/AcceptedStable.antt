@@ -10,15 +10,17 @@ use lib.ListN.{length}
 use Rattle.alf.specs.declared.Sort.{Sort}
 use Rattle.alf.specs.declared.Sort.the-variants.{Boolean, Vector}
 use Rattle.alf.specs.Expressions.{Expression, boolean, vector}
-use Rattle.alf.specs.Bytes.{Decodes}
+use Rattle.alf.specs.Decoder.{Decodes}
 use Rattle.basics.proofs.Bools.{never}
 use Rattle.basics.proofs.Stable.{le-stable}
+use Rattle.alf.proofs.FewNames.{decodes-encoded}
 use Rattle.alf.proofs.Decoding.{decode-unique}
 use Rattle.trees.specs.declared.sorts.Kind.{Kind}
 use Rattle.trees.specs.declared.sorts.Kind.the-variants as kind
 use Rattle.trees.specs.Sorts.{treeKind, Holds}
 use Rattle.trees.specs.Brackets.{depthOf}
 use Rattle.trees.proofs.Trees.{kind-decodes}
+use Rattle.acceptance.proofs.Acceptance.{accepted-decodes}
 use Rattle.acceptance.specs.Accepted.{Accepted, sortOf, overSize}
 
 -- what is not false is true, of a test and of a sort
@@ -43,7 +45,7 @@ module _ (names : ℕ) (sort : Sort) (tree : List ℕ) (f : (Accepted names sort
   from-decoded e h =
       record {
         expression = e;
-        decodes = h;
+        encodes = decodes-encoded names tree e h;
         sorted = sort-stable (sortOf e) sort (λ n. f (λ a. n (ap sortOf (same a) ∙ a .sorted)));
         tokens = le-stable (length tree) 256 (λ n. f (λ a. n (a .tokens)));
         brackets = le-stable (depthOf e) 32 (λ n. f (λ a. n (rw (same a) (a .brackets))));
@@ -51,13 +53,13 @@ module _ (names : ℕ) (sort : Sort) (tree : List ℕ) (f : (Accepted names sort
       }
     where
       same : (a : Accepted names sort tree) → e ≡ a .expression
-      same a = decode-unique names tree e (a .expression) h (a .decodes)
+      same a = decode-unique names tree e (a .expression) h (accepted-decodes a)
 
   from-kind : (k : Kind) → Holds k (Decodes names tree) → Accepted names sort tree
   unfolding Holds
   from-kind kind.Boolean (c, h) = from-decoded (boolean c) h
   from-kind kind.Vector (p, h) = from-decoded (vector p) h
-  from-kind kind.Neither h = absurd (f (λ a. h (a .expression) (a .decodes)))
+  from-kind kind.Neither h = absurd (f (λ a. h (a .expression) (accepted-decodes a)))
 
   pub accepted-stable : Accepted names sort tree
   accepted-stable = from-kind (treeKind tree names) (kind-decodes tree names)

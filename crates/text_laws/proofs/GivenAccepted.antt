@@ -15,9 +15,11 @@ use Rattle.alf.specs.declared.Sort.{Sort}
 use Rattle.alf.specs.declared.Sort.the-variants as the-sort
 use Rattle.alf.specs.Expressions.{Expression, boolean, vector, ExpressionOver}
 use Rattle.alf.specs.Alternatives.{alternatives, overLimit}
-use Rattle.alf.specs.Bytes.{bytesOf, Decodes}
+use Rattle.alf.specs.Bytes.{bytesOf}
+use Rattle.alf.specs.Decoder.{Decodes}
 use Rattle.alf.specs.Refusals.{Passed}
 use Rattle.alf.proofs.Encoding.{decode-bytes}
+use Rattle.alf.proofs.FewNames.{decodes-encoded}
 use Rattle.names.specs.Check.{namesOrder}
 use Rattle.tokens.proofs.TextLaws.{reads-unique}
 use Rattle.grammar.specs.Tokens.{counted}
@@ -113,7 +115,7 @@ module _ {names text : List ℕ} {sort : Sort} {x : Expression} (good : Passed (
   gives-accepted =
       record {
         expression = x;
-        decodes = gives-decodes;
+        encodes = decodes-encoded _ _ _ gives-decodes;
         sorted = fits .sort-is;
         tokens = few-bytes;
         brackets = few-brackets;

@@ -8,7 +8,7 @@ use mathlib.Core.Logic.{_⊎_, inl, inr}
 use borrow.Author.Tests.{le-leb, lt-leb}
 use Rattle.basics.proofs.Bools.{below?}
 use Rattle.tokens.specs.Texts.{Token, Reads, running, opened, deep}
-use Rattle.tokens.specs.Reading.{codesOf, placesOf}
+use Rattle.tokens.specs.Tokenizing.{codesOf, placesOf}
 use Rattle.tokens.proofs.Places.{Rising, reads-rising}
 use Rattle.grammar.specs.Tokens.{tokens}
 use Rattle.grammar.specs.Written.{depth}

@@ -16,7 +16,8 @@ use lib.ListN.{length, take, replicate, length-take}
 use Rattle.alf.specs.declared.Sort.{Sort}
 use Rattle.alf.specs.declared.Sort.the-variants as the-sort
 use Rattle.alf.specs.Expressions.{Boolean, Vector, Expression, boolean, vector}
-use Rattle.alf.specs.Bytes.{bytesOf, Decodes}
+use Rattle.alf.specs.Bytes.{bytesOf}
+use Rattle.alf.specs.Decoder.{Decodes}
 use Rattle.alf.specs.Refusals.{RefusedWith, Passed}
 use Rattle.basics.proofs.Bools.{never}
 use Rattle.basics.proofs.Stores.{front-take}
@@ -24,16 +25,17 @@ use Rattle.alf.proofs.Decoding.{decode-unique}
 use Rattle.names.specs.Check.{namesOrder}
 use Rattle.alf.proofs.Orders.{passed-left, Sole}
 use Rattle.grammar.specs.Answers.{padded}
+use Rattle.acceptance.proofs.Acceptance.{accepted-decodes}
 use Rattle.acceptance.specs.Accepted.{sortOf, Accepted}
 use Rattle.reader.specs.declared.Read.{Read}
 use Rattle.sorting.specs.Lookup.{countOf}
 use Rattle.reader.specs.Reads.{made, refusedBy, refusedWith}
-use Rattle.reader.specs.Reading.{readOrder, Gives, Reading, refused, read}
+use Rattle.reader.specs.Reading.{readOrder, Gives, ReadsText, refused, read}
 use Rattle.reader.proofs.Unique.{read-unique}
 use Rattle.text_laws.proofs.GivenAccepted.{gives-accepted, gives-decodes}
 
 -- the text is refused
-pub read-refused : {names text : List ℕ} {sort : Sort} {r : Read} → Reading names text sort r → r .refused ≡ true
+pub read-refused : {names text : List ℕ} {sort : Sort} {r : Read} → ReadsText names text sort r → r .refused ≡ true
     → RefusedWith (readOrder names text sort) (r .refusal .number) (r .refusal .place)
 unfolding made refusedBy
 read-refused (refused n p a) e = a
@@ -52,7 +54,7 @@ pub record Found (names text : List ℕ) (sort : Sort) (r : Read) : Type 0 where
   pub gives : Gives names text sort it
   pub is-it : r ≡ made it
 
-pub read-found : {names text : List ℕ} {sort : Sort} {r : Read} → Reading names text sort r → r .refused ≡ false
+pub read-found : {names text : List ℕ} {sort : Sort} {r : Read} → ReadsText names text sort r → r .refused ≡ false
     → Found names text sort r
 unfolding made refusedBy
 read-found (refused n p a) e = never (sym e)
@@ -85,7 +87,7 @@ module _ {names text : List ℕ} {sort : Sort} {r : Read} (f : Found names text 
   pub found-sort : sortOf (f .it) ≡ sort
   found-sort =
       let a = found-accepted in
-      ap sortOf (decode-unique _ _ (f .it) (a .expression) found-decodes (a .decodes)) ∙ a .sorted
+      ap sortOf (decode-unique _ _ (f .it) (a .expression) found-decodes (accepted-decodes a)) ∙ a .sorted
 
 -- what it is, by the sort
 isVector : Sort → Bool

@@ -2,7 +2,7 @@
 --   written-read         a written text is read as the expression that the tree is
 --   read-write           so reading a written text gives the tree, byte for byte
 --   read-again           writing what was read and reading it again gives the same result
---   written-at-limit     a tree whose text has exactly 4,096 bytes is written, given room
+--   written-within       a tree whose text has at most 4,096 bytes is written, given room
 --   refused-past-limit   one whose text has more is refused with 1 at 4,096
 --   one-pair-less        the tokens of a written text with a pair of brackets left out are another tree, or none
 use Prim.Native.Nat.{ℕ, _<_, _≤_}
@@ -36,12 +36,12 @@ use Rattle.acceptance.specs.Accepted.{Accepted}
 use Rattle.reader.specs.declared.Read.{Read}
 use Rattle.reader.specs.Texts.{tokensOf}
 use Rattle.reader.specs.Reads.{made}
-use Rattle.reader.specs.Reading.{Reading}
+use Rattle.reader.specs.Reading.{ReadsText}
 use Rattle.reader.proofs.Unique.{read-unique, read-sound, gives-read}
 use Rattle.writer.specs.Trees.{treeOf}
 use Rattle.writer.specs.Trees.{text}
 use Rattle.writer.specs.Writing.{countOf, textAt, order, Writes, Named, endOrder}
-use Rattle.basics.specs.Memory.{after}
+use Rattle.basics.specs.Memory.{after, front}
 use Rattle.acceptance.proofs.Acceptance.{accepted-bytes}
 use Rattle.writer.proofs.Theorems.{text-tokens, text-parses, writes-unique}
 use Rattle.text_laws.proofs.AcceptedStable.{accepted-stable}
@@ -98,13 +98,13 @@ made-as x e b =
 
 pub written-read : {names tree : List ℕ} {sort : Sort} {out out′ : List ℕ} {k : ℕ}
     → Writes names tree sort out out′ (Done k)
-    → Reading names (take k out′) sort (made (expressionAt tree (countOf names) (length tree)))
+    → ReadsText names (take k out′) sort (made (expressionAt tree (countOf names) (length tree)))
 written-read w =
     let g = was-written w in
     rw (g .is) (gives-read (g .named .passed) (rw (g .is) at (g .short)) (written-gives (g .named) (g .accepted)))
 
 pub read-write : {names tree : List ℕ} {sort : Sort} {out out′ : List ℕ} {k : ℕ} {r : Read}
-    → Writes names tree sort out out′ (Done k) → Reading names (take k out′) sort r → ReadAs tree r
+    → Writes names tree sort out out′ (Done k) → ReadsText names (take k out′) sort r → ReadAs tree r
 read-write {names} {tree} {sort} w v =
     let a = was-written w .accepted in
     let n = countOf names in
@@ -125,8 +125,8 @@ unfolding made
 tree-of x = front-take (replicate 256 0) (bytesOf x) (length (bytesOf x)) refl
 
 pub read-again : {names bytes : List ℕ} {sort : Sort} {q r : Read} {out out′ : List ℕ} {k : ℕ}
-    → Reading names bytes sort q → q .refused ≡ false
-    → Writes names (take (q .len) (q .tree)) sort out out′ (Done k) → Reading names (take k out′) sort r
+    → ReadsText names bytes sort q → q .refused ≡ false
+    → Writes names (take (q .len) (q .tree)) sort out out′ (Done k) → ReadsText names (take k out′) sort r
     → r ≡ q
 read-again {q = q} u n w v =
     let s = read-sound u n in
@@ -134,27 +134,27 @@ read-again {q = q} u n w v =
     let b = a .bytes ∙ ap (λ (z : Read). take (z .len) (z .tree)) (s .is-it) ∙ tree-of (s .it) in
     a .is-it ∙ made-same (a .it) (s .it) b ∙ sym (s .is-it)
 
--- at the limit of 4,096 bytes, and past it
+-- within the limit of 4,096 bytes, and past it
 module _ {names tree : List ℕ} {sort : Sort} {out out′ : List ℕ} {r : Outcome} (h : Named names)
     (a : Accepted (countOf names) sort tree) (w : Writes names tree sort out out′ r) where
-  pub written-at-limit : length (textAt names tree) ≡ 4096 → 4096 ≤ length out → r ≡ Done 4096
-  unfolding Comes Passed order endOrder
-  written-at-limit e l =
+  pub written-within : length (textAt names tree) ≤ 4096 → length (textAt names tree) ≤ length out
+      → (r ≡ Done (length (textAt names tree))) × (out′ ≡ front (textAt names tree) out)
+  unfolding Comes Passed order endOrder after
+  written-within e l =
       let fits : Passed (endOrder (textAt names tree) (length out)) =
       ((λ p y. omega (arith, y .given)), ((λ p y. omega (arith, y .given)), tt))
       in
-      writes-unique {s = Done 4096} w
+      writes-unique {s = Done (length (textAt names tree))} w
       (record {
-        outcome = ((h .passed .0, (h .passed .1 .0, ((λ p y. y .given a), fits))), sym e);
+        outcome = ((h .passed .0, (h .passed .1 .0, ((λ p y. y .given a), fits))), refl);
         memory = refl;
       })
-      .0
 
   pub refused-past-limit : 4096 < length (textAt names tree)
-      → (r ≡ Refused (record { number = 1; place = 4096 })) × (out′ ≡ out)
+      → (r ≡ Refused (refusal 1 4096)) × (out′ ≡ out)
   unfolding Comes RefusedWith Passed order after
   refused-past-limit l =
-      writes-unique {s = Refused (record { number = 1; place = 4096 })} w
+      writes-unique {s = Refused (refusal 1 4096)} w
       (record {
         outcome =
             inr (

@@ -11,7 +11,7 @@ use borrow.Author.Tests.{eqb-true, eqb-false, ltb-true, ltb-false, leb-true, le-
 use Rattle.basics.specs.Words.{if_then_else_}
 use Rattle.alf.specs.Expressions.{name, literal, negated, binary, edge, join, while}
 use Rattle.alf.specs.Expressions.{with, or-else, on-right, on-left, Expression, boolean, vector}
-use Rattle.alf.specs.Bytes.{binaryAt, joinAt, edgeAt}
+use Rattle.alf.specs.Decoder.{binaryAt, joinAt, edgeAt}
 use Rattle.basics.proofs.Choices.{every, every-at}
 use Rattle.alf.proofs.OperatorBytes.{binary-byte, edge-byte}
 use Rattle.grammar.specs.declared.Token.{Token}

@@ -15,8 +15,9 @@ use Rattle.alf.specs.Expressions.{Binary, and, or, xor, xnor, equals, differs, 
 use Rattle.alf.specs.Expressions.{Join, followed-by, either-order, with-or-then, any-order, with, or-else}
 use Rattle.alf.specs.Expressions.{Edge, EdgeKnown, Over, VectorOver, ExpressionOver}
 use Rattle.alf.specs.Expressions.{on-right, on-left, Expression, boolean, vector}
-use Rattle.alf.specs.Bytes.{binaryByte, binaryAt, joinAt, edgeNumber, edgeAt, Operation, oneAt}
-use Rattle.alf.specs.Bytes.{empty, push, run, ifSo, isBoolean, topBoolean, topVector, under}
+use Rattle.alf.specs.Bytes.{binaryByte, edgeNumber}
+use Rattle.alf.specs.Decoder.{binaryAt, joinAt, edgeAt, Operation, oneAt}
+use Rattle.alf.specs.Decoder.{empty, push, run, ifSo, isBoolean, topBoolean, topVector, under}
 use Rattle.alf.proofs.OperatorBytes.{one-class, edge-operation}
 use Rattle.grammar.specs.declared.Token.{Token}
 use Rattle.grammar.specs.Grammar.{Tree, leaf, one, two, three}

@@ -29,11 +29,11 @@ use Rattle.reader.specs.Texts.{tokensOf}
 use Rattle.reader.specs.Reading.{tooLarge, Gives}
 use Rattle.writer.specs.Trees.{treeOf}
 use Rattle.writer.specs.Trees.{text}
-use Rattle.spelling.specs.Placed.{placed}
+use Rattle.spelling.specs.TokenPlaces.{tokensFrom}
 use Rattle.writer.specs.Writing.{textAt, Named}
 use Rattle.spelling.proofs.Reading.{AllKnown}
 use Rattle.writer.proofs.Known.{written-known, tree-known, nodes-bytes}
-use Rattle.acceptance.proofs.Acceptance.{decoded}
+use Rattle.acceptance.proofs.Acceptance.{decoded, accepted-decodes}
 use Rattle.writer.proofs.Calls.{names-named}
 use Rattle.writer.proofs.Theorems.{text-tokens, text-parses}
 use Rattle.text_laws.proofs.Renumbering.{renumbered, numbers, codes-by, Matched, matched}
@@ -63,7 +63,7 @@ module _ {names : List ℕ} (h : Named names) (x : Expression) (o : ExpressionOv
   number = numberAt names (text names x)
 
   abbrev pub there : List texts.Token
-  there = placed names 0 written-tokens
+  there = tokensFrom names 0 written-tokens
 
   known : AllKnown names written-tokens
   known = written-known 6 (tree-known (names-named h) x o)
@@ -120,6 +120,6 @@ unfolding textAt
 written-gives {names} {tree} {sort} h a =
     let n = countOf names in
     let x = a .expression in
-    let b = ap length (bytes-decode n tree x (a .decodes)) in
-    rw (decoded n tree x (a .decodes), ← a .sorted)
-    (text-gives h x (decode-over n tree x (a .decodes)) (omega (arith, a .tokens)) (a .brackets) (a .sized))
+    let b = ap length (bytes-decode n tree x (accepted-decodes a)) in
+    rw (decoded n tree x (accepted-decodes a), ← a .sorted)
+    (text-gives h x (decode-over n tree x (accepted-decodes a)) (omega (arith, a .tokens)) (a .brackets) (a .sized))

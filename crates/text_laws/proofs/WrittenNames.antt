@@ -15,7 +15,7 @@ use Rattle.basics.proofs.Bools.{never}
 use Rattle.basics.proofs.AllEntries.{All}
 use Rattle.token_steps.specs.Taking.{nameBytes}
 use Rattle.tokens.specs.Texts as texts
-use Rattle.tokens.specs.Reading as reading
+use Rattle.tokens.specs.Tokenizing as reading
 use Rattle.grammar.specs.declared.Token.{Token}
 use Rattle.grammar.specs.Tokens.{tokens}
 use Rattle.sorting.specs.Lookup.{word, countOf, numberAt}
@@ -23,7 +23,7 @@ use Rattle.reader.specs.Texts.{tokensOf}
 use Rattle.reader.specs.Reading.{Stands, here, there, Unknown}
 use Rattle.sorting.proofs.SlotNumbers.{number-here}
 use Rattle.spelling.specs.Spelled.{spelled, following, textOf}
-use Rattle.spelling.specs.Placed.{placed}
+use Rattle.spelling.specs.TokenPlaces.{tokensFrom}
 use Rattle.writer.specs.Writing.{Named}
 use Rattle.spelling.proofs.LongestSigns.{Behind}
 use Rattle.spelling.proofs.LongestWords.{Known, a-name, a-sign, name-bytes, sign-positive, spelled-name}
@@ -91,8 +91,8 @@ module _ {names : List ℕ} (h : Named names) (text : List ℕ) where
   token-numbered p t ts (a-sign s) d = rw (ne-eqb (t .code) 0 (λ e. omega (arith, sign-positive s))) refl
 
   pub placed-numbered : (p : ℕ) {ts : List Token} → AllKnown names ts → drop p text ≡ textOf names ts
-      → map (renumbered (numberAt names text)) (tokensOf (placed names p ts)) ≡ map (renumbered (λ k. k)) ts
-  unfolding placed textOf tokens
+      → map (renumbered (numberAt names text)) (tokensOf (tokensFrom names p ts)) ≡ map (renumbered (λ k. k)) ts
+  unfolding tokensFrom textOf tokens
   placed-numbered p none d = refl
   placed-numbered p (more {t = t} {ts = ts} k a) d =
       let e = token-numbered p t ts k d in
@@ -106,14 +106,14 @@ module _ {names : List ℕ} (h : Named names) (text : List ℕ) where
   token-held p t ts (a-sign s) d z = absurd (omega (arith, sign-positive s))
 
   placed-held : (p : ℕ) {ts : List Token} → AllKnown names ts → drop p text ≡ textOf names ts
-      → All (λ (u : texts.Token). u .code ≡ 0 → Held names text (u .place)) (placed names p ts)
-  unfolding placed textOf
+      → All (λ (u : texts.Token). u .code ≡ 0 → Held names text (u .place)) (tokensFrom names p ts)
+  unfolding tokensFrom textOf
   placed-held p none d = All.none
   placed-held p (more {t = t} {ts = ts} k a) d =
       All.more {x = texts.tokenAt (t .code) p} (token-held p t ts k d)
       (placed-held (suc (p + length (spelled names t))) a (rest-stands names text p t ts d))
 
   pub none-unknown : {ts : List Token} → AllKnown names ts → text ≡ textOf names ts
-      → (q : ℕ) → Unknown names text (placed names 0 ts) q → ⊥
+      → (q : ℕ) → Unknown names text (tokensFrom names 0 ts) q → ⊥
   none-unknown a d q u =
       let s = stands-held (u .stands) (placed-held 0 a d) in u .missing (s .slot) (s .within) (s .is)

@@ -3,8 +3,8 @@
 --   SomeText    some text does, for some list of that many names
 --   Exactly     the one exactly if the other
 -- What a text gives is said in reader/specs/Reading.antt: 2 to 8 are given nowhere; how long it is does not matter.
--- That a tree is accepted (acceptance/specs/Accepted.antt) exactly if some text gives it is shown in
--- proofs/Exactness.antt.
+-- That a tree is accepted (acceptance/specs/Accepted.antt) exactly if some text gives it is a
+-- law.
 use Prim.Native.Nat.{ℕ}
 use mathlib.Core.Path.{_≡_}
 use mathlib.Core.List.{List}

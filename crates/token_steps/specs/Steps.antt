@@ -1,5 +1,5 @@
 -- One token step as a computation: what stands at the start of bs, as a code and a number of bytes, or `none` and how
--- far on the byte refused is. That this is the token taken, or the place where none is, is shown in proofs/Taking.antt.
+-- far on the byte refused is. That this is the token taken, or the place where none is, is a law.
 --   none, step               the code that no token has; a step
 --   starts, firstOf          to begin with some bytes; the first spelling with which bs begin
 --   nameStep, basedStep, plainStep      the step at a name, at a `'`, at any other byte

@@ -11,7 +11,7 @@ use lib.ListN.{length, take, getD, set, length-map, length-replicate}
 use Rattle.basics.specs.Memory.{front}
 use Rattle.basics.proofs.Stores.{front-take, front-at, front-holds, front-next}
 use Rattle.tokens.specs.Texts.{Token}
-use Rattle.tokens.specs.Reading.{zeros, filled}
+use Rattle.tokens.specs.Tokenizing.{zeros, filled}
 
 zeros-length : length zeros ≡ 4096
 unfolding zeros

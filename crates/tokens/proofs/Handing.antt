@@ -12,7 +12,7 @@ use lib.ListN.{length, take, getD, length-append}
 use Rattle.tokens.specs.declared.Tokens.{Tokens}
 use Rattle.tokens.specs.Texts.{Token, Reads}
 use Rattle.tokens.specs.Texts.Reads.{done, blank, token}
-use Rattle.tokens.specs.Reading.{filled, codesOf, placesOf, made, refusedWith, Reading}
+use Rattle.tokens.specs.Tokenizing.{filled, codesOf, placesOf, made, refusedWith, Tokenized}
 use Rattle.tokens.specs.Inner.{Scan, Counting, changed, overAt}
 use Rattle.tokens.specs.Inner.Scan.{stopped, whole}
 use Rattle.token_steps.proofs.Bytes.{contrary}
@@ -25,7 +25,7 @@ pub stopped-reading :
     length text ≤ 4096 →
     Scan text t →
     t .refused ≡ true →
-    Reading text t
+    Tokenized text t
 unfolding made
 stopped-reading {text} l (stopped q s) h = read-stuck text l s
 stopped-reading l (whole ts r) h = absurd (contrary h refl)
@@ -90,7 +90,7 @@ module _ {text : List ℕ} {t : Tokens} (l : length text ≤ 4096) (w : Whole te
       i ≡ over true 32 →
       i < t .count →
       r ≡ refusedWith 3 (getD (t .places) i 0) →
-      Reading text r
+      Tokenized text r
   deep-reading {i} e h f =
       rw (f, place-at i h, index true 32 e)
       (read-deep text l (w .read) (rw (← index true 32 e) (omega (arith, w .count-is))))
@@ -104,11 +104,11 @@ module _ {text : List ℕ} {t : Tokens} (l : length text ≤ 4096) (w : Whole te
         i ≡ over false 256 →
         i < t .count →
         r ≡ refusedWith 4 (getD (t .places) i 0) →
-        Reading text r
+        Tokenized text r
     many-reading {i} e h f =
         rw (f, place-at i h, index false 256 e)
         (read-many text l (w .read) shallow (rw (← index false 256 e) (omega (arith, w .count-is))))
 
-    pub whole-reading : {i : ℕ} → i ≡ over false 256 → t .count ≤ i → Reading text t
+    pub whole-reading : {i : ℕ} → i ≡ over false 256 → t .count ≤ i → Tokenized text t
     whole-reading {i} e h =
         rw (w .is) (read-whole text l (w .read) shallow (rw (← index false 256 e) (omega (arith, w .count-is))))

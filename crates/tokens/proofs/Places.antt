@@ -14,7 +14,7 @@ use borrow.Author.Tests.{le-leb, lt-leb, leb-true, leb-false, ltb-true, ltb-fals
 use Rattle.alf.specs.Refusals.{First}
 use Rattle.tokens.specs.Texts.{Token, Reads, running}
 use Rattle.tokens.specs.Texts.Reads.{done, blank, token}
-use Rattle.tokens.specs.Reading.{codesOf, placesOf}
+use Rattle.tokens.specs.Tokenizing.{codesOf, placesOf}
 use Rattle.tokens.specs.Inner.{overAt}
 use Rattle.token_steps.proofs.TokenStarts.{token-size}
 

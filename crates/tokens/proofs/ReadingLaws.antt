@@ -16,8 +16,8 @@ use Rattle.alf.specs.Refusals.{Row, First, Never, check, RefusedWith, Passed, t
 use Rattle.alf.proofs.Outcomes.{Fixed, AllFixed, at-fixed, first-fixed, refused-unique, refused-passed}
 use Rattle.tokens.specs.declared.Tokens.{Tokens}
 use Rattle.tokens.specs.Texts.{Token, Reads, Stuck, running, opened, counted, OfTokens, deep, many, order}
-use Rattle.tokens.specs.Reading.{codesOf, placesOf, made, refusedWith, Reading}
-use Rattle.tokens.specs.Reading.Reading.{refused, read}
+use Rattle.tokens.specs.Tokenizing.{codesOf, placesOf, made, refusedWith, Tokenized}
+use Rattle.tokens.specs.Tokenizing.Tokenized.{refused, read}
 use Rattle.tokens.specs.Inner.{overAt}
 use Rattle.tokens.proofs.TextLaws.{reads-unique, stuck-unique, reads-not-stuck, reads-or-stuck, Outcome}
 use Rattle.tokens.proofs.Places.{reads-rising, over-first, over-none}
@@ -46,14 +46,14 @@ order-fixes text = (
   ),
 )
 
-pub reading-unique : {text : List ℕ} {r s : Tokens} → Reading text r → Reading text s → r ≡ s
+pub reading-unique : {text : List ℕ} {r s : Tokens} → Tokenized text r → Tokenized text s → r ≡ s
 reading-unique {text} (refused n p a) (refused m q b) =
     let e = refused-unique (order text) (order-fixes text) a b in rw (e .0, e .1)
 reading-unique {text} (refused n p a) (read b c) = absurd (refused-passed (order text) n p b a)
 reading-unique {text} (read a b) (refused n p c) = absurd (refused-passed (order text) n p a c)
 reading-unique (read a b) (read c d) = ap made (reads-unique b d)
 
-pub read-long : (text : List ℕ) → 4096 < length text → Reading text (refusedWith 1 4096)
+pub read-long : (text : List ℕ) → 4096 < length text → Tokenized text (refusedWith 1 4096)
 unfolding RefusedWith order
 read-long text h = refused 1 4096 (inl (refl, record { given = h; there = refl }))
 
@@ -61,7 +61,7 @@ module _ (text : List ℕ) (l : length text ≤ 4096) where
   short : Never (check 1 (too-long (length text)))
   short p a = let h = a .given in omega arith
 
-  pub read-stuck : {q : ℕ} → Stuck 0 text q → Reading text (refusedWith 2 q)
+  pub read-stuck : {q : ℕ} → Stuck 0 text q → Tokenized text (refusedWith 2 q)
   unfolding RefusedWith order
   read-stuck {q} s =
       refused 2 q
@@ -84,7 +84,7 @@ module _ (text : List ℕ) (l : length text ≤ 4096) where
 
     pub read-deep :
         overAt opened 32 0 (codesOf ts) < length ts →
-        Reading text (refusedWith 3 (getD (placesOf ts) (overAt opened 32 0 (codesOf ts)) 0))
+        Tokenized text (refusedWith 3 (getD (placesOf ts) (overAt opened 32 0 (codesOf ts)) 0))
     unfolding RefusedWith order
     read-deep h =
         refused 3 _
@@ -103,7 +103,7 @@ module _ (text : List ℕ) (l : length text ≤ 4096) where
     module _ (d : length ts ≤ overAt opened 32 0 (codesOf ts)) where
       pub read-many :
           overAt counted 256 0 (codesOf ts) < length ts →
-          Reading text (refusedWith 4 (getD (placesOf ts) (overAt counted 256 0 (codesOf ts)) 0))
+          Tokenized text (refusedWith 4 (getD (placesOf ts) (overAt counted 256 0 (codesOf ts)) 0))
       unfolding RefusedWith order
       read-many h =
           refused 4 _
@@ -122,23 +122,23 @@ module _ (text : List ℕ) (l : length text ≤ 4096) where
             ),
           ))
 
-      pub read-whole : length ts ≤ overAt counted 256 0 (codesOf ts) → Reading text (made ts)
+      pub read-whole : length ts ≤ overAt counted 256 0 (codesOf ts) → Tokenized text (made ts)
       unfolding Passed order
       read-whole h = read (short, (unstuck, (under opened 32 d, (under counted 256 h, tt)))) r
 
 -- every text is read or refused
-pub reading-total : (text : List ℕ) → (r : Tokens) × Reading text r
+pub reading-total : (text : List ℕ) → (r : Tokens) × Tokenized text r
 reading-total text = go (ltb 4096 (length text)) refl (reads-or-stuck text)
   where
     tokens : length text ≤ 4096 → (ts : List Token) → Reads 0 text ts → (x y : Bool) →
         ltb (overAt opened 32 0 (codesOf ts)) (length ts) ≡ x →
         ltb (overAt counted 256 0 (codesOf ts)) (length ts) ≡ y →
-        (r : Tokens) × Reading text r
+        (r : Tokens) × Tokenized text r
     tokens l ts r true y e f = (_, read-deep text l r (ltb-true _ _ e))
     tokens l ts r false true e f = (_, read-many text l r (ltb-false _ _ e) (ltb-true _ _ f))
     tokens l ts r false false e f = (_, read-whole text l r (ltb-false _ _ e) (ltb-false _ _ f))
 
-    go : (x : Bool) → ltb 4096 (length text) ≡ x → Outcome 0 text → (r : Tokens) × Reading text r
+    go : (x : Bool) → ltb 4096 (length text) ≡ x → Outcome 0 text → (r : Tokens) × Tokenized text r
     go true e o = (_, read-long text (ltb-true _ _ e))
     go false e (inl (ts, r)) = tokens (ltb-false _ _ e) ts r _ _ refl refl
     go false e (inr (q, s)) = (_, read-stuck text (ltb-false _ _ e) s)

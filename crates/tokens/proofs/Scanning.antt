@@ -20,7 +20,7 @@ use Rattle.tokens.specs.Texts.{Token, tokenAt, Reads, Stuck}
 use Rattle.tokens.specs.Texts.Reads.{done, blank, token}
 use Rattle.tokens.specs.Texts.Stuck.{blank as blank-then, token as token-then, here}
 use Rattle.token_steps.specs.Steps.{none, stepOf}
-use Rattle.tokens.specs.Reading.{zeros, filled, codesOf, placesOf, made}
+use Rattle.tokens.specs.Tokenizing.{zeros, filled, codesOf, placesOf, made}
 use Rattle.tokens.specs.Inner.{Scan}
 use Rattle.tokens.specs.Inner.Scan.{whole}
 use Rattle.token_steps.proofs.TokenStarts.{token-size}

@@ -20,7 +20,7 @@ use Rattle.token_steps.specs.Taking.{Taken, NoToken}
 use Rattle.tokens.specs.Texts.{Token, tokenAt, Reads, Stuck}
 use Rattle.tokens.specs.Texts.Reads.{token}
 use Rattle.token_steps.specs.Steps.{none, step, stepOf}
-use Rattle.tokens.specs.Reading.{Reading}
+use Rattle.tokens.specs.Tokenizing.{Tokenized}
 use Rattle.token_steps.proofs.Right.{Right}
 use Rattle.token_steps.proofs.Taking.{right}
 use Rattle.tokens.proofs.TextLaws.{taken-unique, taken-not-none, no-token-unique}
@@ -92,8 +92,8 @@ one-text text =
 
 pub record OneReading (text : List ℕ) : Type 0 where
   pub answer : Tokens
-  pub is : Reading text answer
-  pub only : (r : Tokens) → Reading text r → r ≡ answer
+  pub is : Tokenized text answer
+  pub only : (r : Tokens) → Tokenized text r → r ≡ answer
 
 pub one-reading : (text : List ℕ) → OneReading text
 one-reading text =

@@ -10,7 +10,7 @@ use lib.ListN.{length}
 use Rattle.basics.specs.Words.{if_then_else_}
 use Rattle.tokens.specs.declared.Tokens.{Tokens}
 use Rattle.tokens.specs.Texts.{Token, Reads, Stuck, opened, counted}
-use Rattle.tokens.specs.Reading.{made, refusedWith}
+use Rattle.tokens.specs.Tokenizing.{made, refusedWith}
 
 -- the text's tokens, limits aside
 pub data Scan (text : List ℕ) : Tokens → Type 0 where

@@ -5,7 +5,7 @@ ghost use mathlib.Core.Path.{_≡_};
 ghost use Prim.Native.Nat.{_≤_};
 ghost use lib.ListN.{length};
 ghost use Rattle.tokens.specs.Inner.{Scan};
-ghost use Rattle.tokens.specs.Reading.{Reading, refusedWith, zeros};
+ghost use Rattle.tokens.specs.Tokenizing.{Tokenized, refusedWith, zeros};
 use crate::limits::first_over;
 use basics::Refusal;
 use basics::refusing::refusal_of;
@@ -84,7 +84,7 @@ fn scan(text: &[u8]) -> Tokens
 
 // The tokens of a text, or refused with 1, 2, 3 or 4, in this order, each over the whole text before the next.
 pub fn read_tokens(text: &[u8]) -> Tokens
-    ensures { λ r. ⌜ Reading (now (text .entry)) r ⌝ }
+    ensures { λ r. ⌜ Tokenized (now (text .entry)) r ⌝ }
 {
     if 4096 < text.len() {
         return refuse_text(1, 4096);

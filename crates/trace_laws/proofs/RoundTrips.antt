@@ -1,6 +1,8 @@
 -- Outcomes are unique, and both ways round give back what was put in.
 --   reads-unique     any two outcomes of a reading coincide, and so does the memory
 --   writes-unique    likewise of a writing
+--   checks-unique    likewise of the check of a trace in lists
+--   trace-passes     a trace passes that check
 --   read-write       reading what was written gives the same names, times and states
 --   write-read       writing what was read gives the same bytes
 use mathlib.Core.Path.{_≡_, refl, sym, ap, _∙_}
@@ -12,13 +14,15 @@ use lib.ListN.{length}
 use Rattle.basics.specs.declared.Outcome.{Outcome}
 use Rattle.basics.specs.declared.Outcome.the-variants as Outcome
 use Rattle.alf.specs.Refusals.{Passed, Comes}
-use Rattle.alf.proofs.Outcomes.{AllFixed, at-fixed, first-fixed, refused-passed, refused-unique, comes-unique}
+use Rattle.basics.proofs.Refusals.{refusal-same}
+use Rattle.alf.proofs.Outcomes.{at-fixed, refused-passed, refused-unique, comes-unique}
 use Rattle.alf.proofs.Orders.{passed-both, fixed-both}
 use Rattle.trace_reader.specs.declared.Reading.{Reading}
 use Rattle.trace_reader.specs.declared.Reading.the-variants.{Read, Refused}
 use Rattle.trace_format.specs.Format.{fileOf, count, Trace}
 use Rattle.trace_reader.specs.Reading.{FileRefused, RoomRefused, roomOrder, Got, Reads}
-use Rattle.trace_writer.specs.Writing.{rowsOrder, writeOrder, Writes, BadState}
+use Rattle.trace_writer.specs.Writing.{rowsOrder, listsOrder, writeOrder, Writes, BadState}
+use Rattle.trace_writer.proofs.TraceChecks.{trace-fixed}
 use Rattle.basics.specs.Memory.{after, front}
 use Rattle.trace_format.proofs.RowByRow.{room-for}
 use Rattle.trace_laws.proofs.Places.{accepted-unique, accepted-refused, refusal-unique}
@@ -71,18 +75,19 @@ module _ (file names times states : List ℕ) where
   reads-unique (Refused p) (Refused q) g h =
       let e = one-refusal (g .0) (h .0) in
       record {
-        answer = λ i. Refused (record { number = e .0 i; place = e .1 i });
+        answer = ap Refused (refusal-same e);
         names-now = g .1 .names-kept ∙ sym (h .1 .names-kept);
         times-now = g .1 .times-kept ∙ sym (h .1 .times-kept);
         states-now = g .1 .states-kept ∙ sym (h .1 .states-kept);
       }
 
--- each row of the order of writing fixes its place
-rows-fixed : (k : ℕ) (times states : List ℕ) (n : ℕ) → AllFixed (rowsOrder k times states n)
-unfolding rowsOrder
-rows-fixed k times states zero = tt
-rows-fixed k times states (suc n) =
-    fixed-both (rowsOrder k times states n) _ (rows-fixed k times states n) (at-fixed _ _, (first-fixed _, tt))
+pub checks-unique :
+    (names times states : List ℕ) (n : ℕ) (r s : Outcome) →
+    Comes (listsOrder names times states n) (λ k. k ≡ count names) r →
+    Comes (listsOrder names times states n) (λ k. k ≡ count names) s →
+    r ≡ s
+checks-unique names times states n r s a b =
+    comes-unique (listsOrder names times states n) _ (trace-fixed names times states n) (λ j k x y. x ∙ sym y) r s a b
 
 pub record OneWriting (r : Outcome) (out : List ℕ) (r′ : Outcome) (out′ : List ℕ) : Type 0 where
   pub answer : r ≡ r′
@@ -96,14 +101,8 @@ module _ {names times states : List ℕ} {n : ℕ} {out : List ℕ} where
       OneWriting r o₁ r′ o₂
   writes-unique {r} {r′} w v =
       let e : r ≡ r′ =
-      comes-unique (writeOrder names times states n (length out)) _ (
-        at-fixed _ _,
-        (
-          first-fixed _,
-          fixed-both (rowsOrder (count names) times states n) _ (rows-fixed (count names) times states n)
-              (at-fixed _ _, tt),
-        ),
-      )
+      comes-unique (writeOrder names times states n (length out)) _
+      (fixed-both (listsOrder names times states n) _ (trace-fixed names times states n) (at-fixed _ _, tt))
       (λ j k x y. x ∙ sym y) r r′ (w .outcome) (v .outcome)
       in
       record {
@@ -135,17 +134,18 @@ module _ {names times states : List ℕ} {n : ℕ} (t : Trace names times states
         ),
       )
 
+  pub trace-passes : Passed (listsOrder names times states n)
+  unfolding Passed
+  trace-passes = (
+    (λ p a. a .given (record { slots = t .slots; lists = t .lists })),
+    ((λ p a. a .given .1 (t .good p (a .given .0))), rows-pass n (omega arith)),
+  )
+
   pub writing-passes : {room : ℕ} → length (fileOf names times states n) ≤ room → Passed
       (writeOrder names times states n room)
   unfolding Passed
-  writing-passes h = (
-    (λ p a. a .given (record { slots = t .slots; lists = t .lists })),
-    (
-      (λ p a. a .given .1 (t .good p (a .given .0))),
-      passed-both (rowsOrder (count names) times states n) _ (rows-pass n (omega arith))
-          ((λ p a. omega (arith, a .given)), tt),
-    ),
-  )
+  writing-passes h =
+      passed-both (listsOrder names times states n) _ trace-passes ((λ p a. omega (arith, a .given)), tt)
 
   -- writing a trace into enough room gives its bytes
   pub writes-bytes :

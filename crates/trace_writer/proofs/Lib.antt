@@ -3,4 +3,5 @@ pub mod StableNames
 pub mod PutRecords
 pub mod Putting
 pub mod RowOrders
+pub mod TraceChecks
 pub mod WriteOutcomes

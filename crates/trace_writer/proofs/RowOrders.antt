@@ -89,6 +89,6 @@ module _ (k : ℕ) (times states : List ℕ) where
 
   pub rows-passed : {r n : ℕ} → r ≡ n → Passed (rowsOrder k times states r)
       → Comes (rowsOrder k times states n)
-      (λ m. m ≡ n) (Done n)
+      (λ m. m ≡ k) (Done k)
   unfolding Comes
   rows-passed e p = (rw e at p, refl)

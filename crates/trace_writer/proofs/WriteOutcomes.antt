@@ -1,30 +1,25 @@
--- What writing comes to: 18, 12, 13 or 15, 9, or the file in front of the buffer.
--- Main names: writes-18, writes-12, writes-row, writes-9, written.
+-- What writing comes to: what the check of the trace refuses, 9, or the file in front of the buffer.
+-- Main names: writes-refused, writes-9, written.
 use mathlib.Core.Path.{_≡_, refl, sym}
-use mathlib.Core.Bool.{Bool, false}
-use mathlib.Core.List.{List, [], _∷_}
-use mathlib.Core.Logic.{inl, inr}
+use mathlib.Core.List.{List}
+use mathlib.Core.Logic.{inl}
 use Prim.Native.Nat.{ℕ, _+_, _*_, _≤_, _<_}
 use native.Mathlib.Omega.{arith}
 use native.Mathlib.Nat.{mul-le-mul}
 use lib.ListN.{length, length-append}
-use Rattle.basics.specs.Deciding.{Decides}
-use Rattle.basics.proofs.Deciding.{not-told}
 use Rattle.basics.specs.declared.Refusal.{Refusal}
 use Rattle.basics.specs.declared.Outcome.{Outcome}
 use Rattle.basics.specs.declared.Outcome.the-variants.{Done, Refused}
-use Rattle.alf.specs.Names.{GoodSlot}
-use Rattle.alf.specs.Refusals.{Order, RefusedWith, Passed, Comes}
-use Rattle.names.specs.Check.{namesOrder}
-use Rattle.alf.proofs.Orders.{Is, refused-first, refused-then, passed-both, none-first}
+use Rattle.alf.specs.Refusals.{RefusedWith, Passed, Comes}
+use Rattle.alf.proofs.Orders.{Is, refused-first, refused-then, passed-both}
 use Rattle.trace_format.specs.Format.{nameRecords, rowRecords, endRecord, fileOf, count}
-use Rattle.trace_writer.specs.Writing.{AllLists, rowsOrder, writeOrder, Writes}
+use Rattle.trace_writer.specs.Writing.{listsOrder, writeOrder, Writes}
 use Rattle.basics.specs.Memory.{Put, after}
 use Rattle.basics.proofs.PartByPart.{put-then, put-front, put-length}
-use Rattle.trace_writer.specs.Putting.{RowsLent, SlotsLent, SlotsFit, NamesSize, RowsFit, NamesGood, Good}
+use Rattle.trace_writer.specs.Putting.{SlotsLent, SlotsFit, NamesSize, RowsFit, Good}
 use Rattle.trace_writer.proofs.PutRecords.{word-length}
 use Rattle.trace_writer.proofs.Putting.{rows-length}
-use Rattle.trace_writer.proofs.StableNames.{slot-stable}
+use Rattle.trace_writer.proofs.TraceChecks.{rows-lent}
 
 module _ {names times states : List ℕ} {n : ℕ} (out : List ℕ) where
   stopped :
@@ -35,92 +30,16 @@ module _ {names times states : List ℕ} {n : ℕ} (out : List ℕ) where
   unfolding Comes after
   stopped o number p e r = rw e (record { outcome = r; memory = refl })
 
-  pub writes-18 :
-      {b : Bool} {o : Outcome} →
-      Decides b (AllLists names times states n) →
-      b ≡ false →
-      Is o 18 0 →
-      Writes names times states n out out o
-  unfolding RefusedWith
-  writes-18 t f e = stopped _ 18 0 e (inl (refl, record { given = not-told _ t f; there = refl }))
-
-  module _ (all : AllLists names times states n) where
-    -- a list of names that is refused is refused with 12
-    pub writes-12 :
-        {o : Outcome} {r : Refusal} →
-        Comes (namesOrder names) (λ m. m ≡ count names) o →
-        o ≡ Refused r →
-        Writes names times states n out out (Refused r)
-    unfolding Comes RefusedWith
-    writes-12 {o} {r} c e = stopped (Refused r) (r .number) (r .place) refl (go (rw e at c))
-      where
-        go :
-            RefusedWith (namesOrder names) (r .number) (r .place) →
-            RefusedWith (writeOrder names times states n (length out)) (r .number) (r .place)
-        go (inl h) = absurd (h .1 .given (all .slots))
-        go (inr (h, inl i)) = inr ((λ p a. a .given all), inl i)
-        go (inr (h, inr i)) = absurd (i .1)
-
-module _ {names times states : List ℕ} {n : ℕ} (all : AllLists names times states n) where
-  pub names-good :
-      {o : Outcome} {k : ℕ} →
-      Comes (namesOrder names) (λ m. m ≡ count names) o →
-      o ≡ Done k →
-      NamesGood names times states n k
-  unfolding Comes Passed
-  names-good {o} {k} c e =
-      let d : Comes (namesOrder names) (λ m. m ≡ count names) (Done k) = rw e at c in
-      record {
-        all = all;
-        good =
-            λ j h.
-            slot-stable names j
-            (λ n.
-            none-first (λ i. (i < count names) × (GoodSlot names i → ⊥)) (d .0 .1 .0) j (h, n));
-        counted = d .1;
-      }
-
--- the lists that pass 18 and 12
-module _ {names times states : List ℕ} {n k : ℕ} (g : NamesGood names times states n k) where
-  pub rows-lent : RowsLent k times states n
-  rows-lent =
-      record { times-all = g .all .lists .times-all; states-all = rw (g .counted) (g .all .lists .states-all) }
-
-  no-18 : (p : ℕ) → Rattle.alf.specs.Refusals.At 0 (AllLists names times states n → ⊥) p → ⊥
-  no-18 p a = a .given (g .all)
-
-  no-12 : (p : ℕ) → Rattle.alf.specs.Refusals.bad-slot names p → ⊥
-  no-12 p a = a .given .1 (g .good p (a .given .0))
-
-  room-check : ℕ → Order
-  room-check room =
-      Rattle.alf.specs.Refusals.check 9 (Rattle.alf.specs.Refusals.no-room
-      (length (fileOf names times states n)) room) ∷ []
-
-  pub writes-row :
-      (out : List ℕ) {o : Outcome} {r : Refusal} →
-      Comes (rowsOrder k times states n) (λ m. m ≡ n) o →
+  -- a trace that is refused before there is talk of room
+  pub writes-refused :
+      {o : Outcome} {r : Refusal} (made : ℕ → Type 0) →
+      Comes (listsOrder names times states n) made o →
       o ≡ Refused r →
       Writes names times states n out out (Refused r)
-  unfolding Comes RefusedWith
-  writes-row out {o} {r} c e =
-      stopped out (Refused r) (r .number) (r .place) refl
-      (inr (
-        no-18,
-        inr (
-          no-12,
-          refused-first (rowsOrder (count names) times states n) _ (r .number) (r .place)
-              (rw (g .counted) at (rw e at c)),
-        ),
-      ))
-
-  pub rows-good :
-      {o : Outcome} {m : ℕ} → Comes (rowsOrder k times states n)
-      (λ m. m ≡ n) o → o ≡ Done m → Good names times states n k
   unfolding Comes
-  rows-good {o} {m} c e =
-      let d : Comes (rowsOrder k times states n) (λ m. m ≡ n) (Done m) = rw e at c in
-      record { named = g; passed = d .0 }
+  writes-refused {o} {r} made c e =
+      stopped (Refused r) (r .number) (r .place) refl
+      (refused-first (listsOrder names times states n) _ (r .number) (r .place) (rw e at c))
 
 -- a good trace
 module _ {names times states : List ℕ} {n k : ℕ} (g : Good names times states n k) where
@@ -152,9 +71,6 @@ module _ {names times states : List ℕ} {n k : ℕ} (g : Good names times state
     all-size : length (fileOf names times states n) ≡ s + n * (6 + k) + 6
     all-size = omega (arith, file-length, size .is)
 
-    passed-rows : Passed (rowsOrder (count names) times states n)
-    passed-rows = rw (g .named .counted) at (g .passed)
-
     pub writes-9 :
         {o : Outcome} →
         Is o 9 (s + n * (6 + k) + 6) →
@@ -163,14 +79,8 @@ module _ {names times states : List ℕ} {n k : ℕ} (g : Good names times state
     unfolding RefusedWith
     writes-9 {o} e h =
         stopped out o 9 (s + n * (6 + k) + 6) e
-        (inr (
-          no-18 (g .named),
-          inr (
-            no-12 (g .named),
-            refused-then (rowsOrder (count names) times states n) _ 9 (s + n * (6 + k) + 6) passed-rows
-                (inl (refl, record { given = omega (arith, all-size); there = sym all-size })),
-          ),
-        ))
+        (refused-then (listsOrder names times states n) _ 9 (s + n * (6 + k) + 6) (g .passed)
+        (inl (refl, record { given = omega (arith, all-size); there = sym all-size })))
 
     module _ (room : s + n * (6 + k) + 6 ≤ length out) where
       pub slots-fit : SlotsFit names k out
@@ -207,14 +117,8 @@ module _ {names times states : List ℕ} {n k : ℕ} (g : Good names times state
               in
               record {
                 outcome = (
-                  (
-                    no-18 (g .named),
-                    (
-                      no-12 (g .named),
-                      passed-both (rowsOrder (count names) times states n) _ passed-rows
-                          ((λ p a. omega (arith, a .given, all-size)), tt),
-                    ),
-                  ),
+                  passed-both (listsOrder names times states n) _ (g .passed)
+                      ((λ p a. omega (arith, a .given, all-size)), tt),
                   omega (arith, file .next),
                 );
                 memory = put-front file (omega (arith, all-size));

@@ -11,7 +11,7 @@ use lib.ListN.{length, getD}
 use Rattle.alf.specs.Names.{GoodSlot}
 use Rattle.alf.specs.Refusals.{Passed}
 use Rattle.trace_format.specs.Format.{nameRecords, count}
-use Rattle.trace_writer.specs.Writing.{AllLists, rowsOrder}
+use Rattle.trace_writer.specs.Writing.{AllLists, listsOrder}
 
 -- a name of at most 32 bytes, and room for its record
 pub record NameFits (name out : List ℕ) (at : ℕ) : Type 0 where
@@ -56,4 +56,4 @@ pub record NamesGood (names times states : List ℕ) (n k : ℕ) : Type 0 where
 -- lists that pass 13 and 15 too
 pub record Good (names times states : List ℕ) (n k : ℕ) : Type 0 where
   pub named : NamesGood names times states n k
-  pub passed : Passed (rowsOrder k times states n)
+  pub passed : Passed (listsOrder names times states n)

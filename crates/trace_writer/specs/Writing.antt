@@ -1,6 +1,8 @@
 -- Document 01, "Trace writing: 18, 12, then 13 and 15 row by row, 9", and what writing leaves in memory.
 --   AllLists, BadState      what 18 and 15 look at
---   rowsOrder, writeOrder   the order of the rows, and of the whole call
+--   rowsOrder, listsOrder   the order of the rows, and of a trace in lists, whatever is made of it
+--   ChecksTrace             what the check of a trace in lists comes to
+--   writeOrder              the order of the whole call
 --   Writes                  what the call comes to, and the buffer afterwards
 use Prim.Native.Nat.{ℕ, zero, suc, _+_, _-_, _*_, _<_, _≤_}
 use mathlib.Core.Path.{_≡_}
@@ -30,12 +32,21 @@ rowsOrder k times states (suc r) =
     rowsOrder k times states r
     ++ (check 13 (not-above times r) ∷ check 15 (First (BadState k states r)) ∷ [])
 
-abbrev pub writeOrder : List ℕ → List ℕ → List ℕ → ℕ → ℕ → Order
-writeOrder names times states n room =
+-- 18, 12, then 13 and 15 row by row: what every call asks first that is handed a trace in lists
+abbrev pub listsOrder : List ℕ → List ℕ → List ℕ → ℕ → Order
+listsOrder names times states n =
     check 18 (bad-lists (AllLists names times states n))
     ∷ check 12 (bad-slot names)
-    ∷ (rowsOrder (count names) times states n
-    ++ (check 9 (no-room (length (fileOf names times states n)) room) ∷ []))
+    ∷ rowsOrder (count names) times states n
+
+-- what the check of a trace in lists comes to: how many names
+abbrev pub ChecksTrace : List ℕ → List ℕ → List ℕ → ℕ → Outcome → Type 0
+ChecksTrace names times states n = Comes (listsOrder names times states n) (λ k. k ≡ count names)
+
+-- then 9
+abbrev pub writeOrder : List ℕ → List ℕ → List ℕ → ℕ → ℕ → Order
+writeOrder names times states n room =
+    listsOrder names times states n ++ (check 9 (no-room (length (fileOf names times states n)) room) ∷ [])
 
 pub record Writes (names times states : List ℕ) (n : ℕ) (out out′ : List ℕ) (r : Outcome) : Type 0 where
   pub outcome :

@@ -1,3 +1,4 @@
-// Trace files: writing one, as document 01's chapter "Trace file" has it.
+// Trace files: writing one, as document 01's chapter "Trace file" has it, and the check of a trace in lists.
+pub mod checks;
 mod puts;
 pub mod write;

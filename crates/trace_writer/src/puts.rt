@@ -5,6 +5,7 @@ ghost use lib.ListN.{length};
 ghost use Rattle.basics.specs.Memory.{Put};
 ghost use Rattle.trace_format.specs.Format.{word, nameRecord, rowRecord, endRecord};
 ghost use Rattle.trace_writer.specs.Putting.{NameFits};
+use alf::Stamp;
 use basics::puts::push;
 use basics::puts::put;
 
@@ -41,12 +42,13 @@ pub fn put_name(name: &[u8], out: &mut [u8], at: usize) -> usize
 }
 
 // The record of a row: its time, and its codes.
-pub fn put_row(time: u32, codes: &[u8], out: &mut [u8], at: usize) -> usize
+pub fn put_row(time: Stamp, codes: &[u8], out: &mut [u8], at: usize) -> usize
     requires { ⌜ at + 6 + length (now codes) ≤ length (now out) ⌝ }
-    ensures { λ r. ⌜ Put (now (out .entry)) at (rowRecord time (now (codes .entry))) (now (out .exit)) r ⌝ }
+    ensures { λ r. ⌜ Put (now (out .entry)) at (rowRecord (time .0) (now (codes .entry))) (now (out .exit)) r ⌝ }
 {
+    let t = time.0;
     let marked = put_mark(out, at, b'R', b'W');
-    let timed = put_word(out, marked, time);
+    let timed = put_word(out, marked, t);
     put(codes, out, timed)
 }
 

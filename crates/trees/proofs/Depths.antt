@@ -8,7 +8,7 @@ use mathlib.Core.List.{List}
 use lib.Dec.{ltb}
 use lib.ListN.{getD}
 use Rattle.basics.specs.Words.{if_then_else_}
-use Rattle.alf.specs.Bytes.{Stack, under, stackAt}
+use Rattle.alf.specs.Decoder.{Stack, under, stackAt}
 use Rattle.basics.proofs.Bools.{never}
 use Rattle.alf.proofs.Made.{Made, a-name, a-literal, a-negation, a-binary, a-choice, an-edge, a-join}
 use Rattle.alf.proofs.Made.{a-condition, a-condition-before, nothing}

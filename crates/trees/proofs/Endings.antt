@@ -12,14 +12,14 @@ use native.Mathlib.Nat.{zero-add}
 use borrow.Author.Tests.{ltb-true, ltb-false, ne-eqb}
 use Rattle.basics.specs.Words.{if_then_else_}
 use Rattle.alf.specs.Expressions.{Boolean, boolean, Vector, vector}
-use Rattle.alf.specs.Bytes.{Stack, empty, broken, push, Operation, leafAt, pairAt, threeAt, oneAt}
-use Rattle.alf.specs.Bytes.{isBoolean, isVector, under, ifSo, run, arityAt, stackAt}
+use Rattle.alf.specs.Decoder.{Stack, empty, broken, push, Operation, leafAt, pairAt, threeAt, oneAt}
+use Rattle.alf.specs.Decoder.{isBoolean, isVector, under, ifSo, run, arityAt, stackAt}
 use Rattle.basics.proofs.Bools.{never}
 use Rattle.alf.proofs.OperatorBytes.{leaf-class, pair-class, three-class, one-class}
 use Rattle.alf.proofs.Parts.{last, arity-zero, arity-one, arity-two, arity-three, deep, unders}
 use Rattle.trees.specs.Parts.{isWhole, Ends, Start}
 use Rattle.trees.specs.Sorts.{kindOf, givenOne, givenTwo, leafKind, oneKind, pairKind}
-use Rattle.trees.specs.Sorts.{threeKind, placed, Ending}
+use Rattle.trees.specs.Sorts.{threeKind, startOf, Ending}
 use Rattle.trees.proofs.Operands.{arity-some, arity-more}
 use Rattle.trees.proofs.Starts.{Going, going-first, going-on, going-part, going-done, whole-at, start-unique}
 
@@ -91,8 +91,8 @@ three-kind : (b : ℕ) (s : Stack)
 unfolding threeAt threeKind run
 three-kind b s = simp (kind-choice, so-boolean, boolean-kind, kind-broken)
 
-pub none : (t : List ℕ) (names : ℕ) → Ending t names 0 0 (placed 0 0)
-unfolding stackAt kindOf placed
+pub none : (t : List ℕ) (names : ℕ) → Ending t names 0 0 (startOf 0 0)
+unfolding stackAt kindOf startOf
 none t names = record { is = refl; from = λ q. absurd (omega arith); nowhere = λ q. refl }
 
 -- an expression that a byte takes has a kind
@@ -108,8 +108,8 @@ module _ (t : List ℕ) (names end : ℕ) (p : 0 < end) (u : end ≤ length t) w
 
   ended : {v : ℕ} (m : ℕ) → v ≡ kindOf (stackAt t names end)
       → (Going t names end (end - 1) (arityAt (getD t (end - 1) 0)) → Start t names end m)
-      → Ending t names end v (placed v m)
-  unfolding placed
+      → Ending t names end v (startOf v m)
+  unfolding startOf
   ended {v} m e f =
       record {
         is = e;
@@ -117,7 +117,7 @@ module _ (t : List ℕ) (names end : ℕ) (p : 0 < end) (u : end ≤ length t) w
         nowhere = λ o. rw o refl;
       }
 
-  absent : (Going t names end (end - 1) (arityAt (getD t (end - 1) 0)) → ⊥) → Ending t names end 0 (placed 0 0)
+  absent : (Going t names end (end - 1) (arityAt (getD t (end - 1) 0)) → ⊥) → Ending t names end 0 (startOf 0 0)
   absent f = ended 0 (sym (go (ltb 0 (kindOf (stackAt t names end))) refl)) (λ g. absurd (f g))
     where
       go : (q : Bool) → ltb 0 (kindOf (stackAt t names end)) ≡ q → kindOf (stackAt t names end) ≡ 0
@@ -125,27 +125,27 @@ module _ (t : List ℕ) (names end : ℕ) (p : 0 < end) (u : end ≤ length t) w
       go false e = let l = ltb-false 0 (kindOf (stackAt t names end)) e in omega arith
 
   pub leaf-found : {v : ℕ} → getD t (end - 1) 0 < 40 → v ≡ leafKind names (getD t (end - 1) 0)
-      → Ending t names end v (placed v (end - 1))
+      → Ending t names end v (startOf v (end - 1))
   leaf-found k e =
       ended (end - 1) (rw (last t names end p, leaf-class names _ k, leaf-kind) e)
       (λ g. going-done (rw (arity-zero _ k) at g) (omega arith))
 
   module _ {r m : ℕ} (a : Ending t names (end - 1) r m) where
-    pub no-right : 40 ≤ getD t (end - 1) 0 → r ≡ 0 → Ending t names end 0 (placed 0 0)
+    pub no-right : 40 ≤ getD t (end - 1) 0 → r ≡ 0 → Ending t names end 0 (startOf 0 0)
     unfolding unders
     no-right k z =
         absent (λ g. let d = deep-at 0 _ _ (arity-some _ k) (g .has) in let i = a .is in omega arith)
 
     module _ (q : 0 < r) where
       pub one-found : {v : ℕ} → 64 ≤ getD t (end - 1) 0 → v ≡ oneKind (getD t (end - 1) 0) r
-          → Ending t names end v (placed v m)
+          → Ending t names end v (startOf v m)
       one-found k e =
           ended m (rw (last t names end p, one-class names _ k, one-kind, ← a .is) e)
           (λ g. going-done (going-part t names end _ 0 m (rw (arity-one _ k) at g) (a .from q)) (omega arith))
 
       module _ {l o : ℕ} (c : Ending t names m l o) where
         pub no-left : 40 ≤ getD t (end - 1) 0 → getD t (end - 1) 0 < 64 → l ≡ 0
-            → Ending t names end 0 (placed 0 0)
+            → Ending t names end 0 (startOf 0 0)
         unfolding unders
         no-left k j z =
             absent (λ g.
@@ -155,7 +155,7 @@ module _ (t : List ℕ) (names end : ℕ) (p : 0 < end) (u : end ≤ length t) w
 
         module _ (w : 0 < l) where
           pub pair-found : {v : ℕ} → 40 ≤ getD t (end - 1) 0 → getD t (end - 1) 0 < 60
-              → v ≡ pairKind (getD t (end - 1) 0) l r → Ending t names end v (placed v o)
+              → v ≡ pairKind (getD t (end - 1) 0) l r → Ending t names end v (startOf v o)
           pair-found k j e =
               ended o
               (rw (last t names end p, pair-class names _ k j, pair-kind, ← a .from q .left, ← a .is, ← c .is) e)
@@ -165,7 +165,7 @@ module _ (t : List ℕ) (names end : ℕ) (p : 0 < end) (u : end ≤ length t) w
 
           module _ {f n : ℕ} (y : Ending t names o f n) where
             pub no-first : 60 ≤ getD t (end - 1) 0 → getD t (end - 1) 0 < 64 → f ≡ 0
-                → Ending t names end 0 (placed 0 0)
+                → Ending t names end 0 (startOf 0 0)
             unfolding unders
             no-first k j z =
                 absent (λ g.
@@ -175,7 +175,7 @@ module _ (t : List ℕ) (names end : ℕ) (p : 0 < end) (u : end ≤ length t) w
                 omega arith)
 
             pub three-found : {v : ℕ} → 60 ≤ getD t (end - 1) 0 → getD t (end - 1) 0 < 64 → 0 < f
-                → v ≡ threeKind (getD t (end - 1) 0) f l r → Ending t names end v (placed v n)
+                → v ≡ threeKind (getD t (end - 1) 0) f l r → Ending t names end v (startOf v n)
             three-found k j x e =
                 ended n
                 (rw (last t names end p, three-class names _ k j, three-kind)

@@ -8,7 +8,7 @@ use mathlib.Core.List.{List, [], _∷_}
 use lib.Dec.{ltb, eqb}
 use lib.ListN.{getD}
 use borrow.Author.Tests.{lt-ltb, le-ltb, ltb-true, eqb-true}
-use Rattle.alf.specs.Bytes.{Stack, binaryAt, joinAt}
+use Rattle.alf.specs.Decoder.{Stack, binaryAt, joinAt}
 use Rattle.basics.proofs.Bools.{never}
 use Rattle.basics.proofs.Choices.{every, every-at}
 use Rattle.alf.proofs.Made.{Made, a-name, a-literal, a-negation, a-binary, a-choice, an-edge, a-join}

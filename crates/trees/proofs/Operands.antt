@@ -7,7 +7,7 @@ use mathlib.Core.List.{List}
 use lib.Dec.{ltb}
 use lib.ListN.{getD, length}
 use borrow.Author.Tests.{lt-ltb, le-ltb}
-use Rattle.alf.specs.Bytes.{arityAt, stackAt}
+use Rattle.alf.specs.Decoder.{arityAt, stackAt}
 use Rattle.basics.proofs.Choices.{if-all}
 use Rattle.alf.proofs.Parts.{deep, unders, back, arity-three}
 use Rattle.trees.specs.Parts.{Ends, Start}

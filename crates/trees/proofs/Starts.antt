@@ -7,7 +7,8 @@ use mathlib.Core.Path.{_≡_, refl, ap, _∙_}
 use mathlib.Core.Bool.{true}
 use mathlib.Core.List.{List}
 use lib.ListN.{getD, length}
-use Rattle.alf.specs.Bytes.{bytesOf, Stack, empty, broken, push, under, arityAt, stackAt, isBoolean, isVector}
+use Rattle.alf.specs.Bytes.{bytesOf}
+use Rattle.alf.specs.Decoder.{Stack, empty, broken, push, under, arityAt, stackAt, isBoolean, isVector}
 use Rattle.basics.proofs.Bools.{never}
 use Rattle.alf.proofs.Parts.{deep, unders, size, back, deep-le, deep-under, size-under}
 use Rattle.trees.specs.Parts.{isWhole, top, Ends, EndsBoolean, EndsVector, Start}

@@ -8,7 +8,7 @@ use mathlib.Core.Bool.{Bool, true, false}
 use mathlib.Core.List.{List}
 use lib.ListN.{length}
 use Rattle.alf.specs.Expressions.{Boolean, Vector, boolean, vector}
-use Rattle.alf.specs.Bytes.{Stack, empty, broken, push, under, stackAt, Decodes}
+use Rattle.alf.specs.Decoder.{Stack, empty, broken, push, under, stackAt, Decodes}
 use Rattle.basics.proofs.Bools.{never}
 use Rattle.alf.proofs.Made.{Made, a-name, a-literal, a-negation, a-binary, a-choice, an-edge, a-join}
 use Rattle.alf.proofs.Made.{a-condition, a-condition-before, nothing}

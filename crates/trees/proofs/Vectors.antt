@@ -10,7 +10,7 @@ use lib.Dec.{eqb}
 use lib.ListN.{getD, length}
 use borrow.Author.Tests.{eqb-true, eqb-false}
 use Rattle.alf.specs.Expressions.{edge, join, while, on-right, on-left}
-use Rattle.alf.specs.Bytes.{edgeAt, joinAt, isBoolean, isVector, topBoolean, topVector, under, stackAt}
+use Rattle.alf.specs.Decoder.{edgeAt, joinAt, isBoolean, isVector, topBoolean, topVector, under, stackAt}
 use Rattle.alf.proofs.Made.{Made}
 use Rattle.alf.proofs.Parts.{made-last}
 use Rattle.alf.proofs.StackTops.{edge-top, join-top, condition-top, condition-before-top, vector-class}

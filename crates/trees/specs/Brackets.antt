@@ -9,7 +9,7 @@ use Rattle.alf.specs.Expressions.{Binary, and, or, xor, xnor, equals, differs, 
 use Rattle.alf.specs.Expressions.{Boolean, name, literal, negated, binary, choice, Vector, edge, join, while}
 use Rattle.alf.specs.Expressions.{Join, followed-by, either-order, with-or-then, any-order, with, or-else}
 use Rattle.alf.specs.Expressions.{on-right, on-left, Expression, boolean, vector}
-use Rattle.alf.specs.Bytes.{binaryAt, joinAt}
+use Rattle.alf.specs.Decoder.{binaryAt, joinAt}
 
 -- (1) `! ~` and edges; (2) `^ ~^ == != > < >= <=`; (3) `& &&`; (4) `-> <-> &> <&>`; (5) `| ||`; (6) `? :`
 unfoldable pub binaryLevel : Binary → ℕ

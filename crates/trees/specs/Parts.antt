@@ -9,8 +9,9 @@ use mathlib.Core.Bool.{Bool, true, false}
 use mathlib.Core.List.{List}
 use lib.ListN.{length}
 use Rattle.alf.specs.Expressions.{Boolean, literal, Vector, Expression, boolean}
-use Rattle.alf.specs.Bytes.{bytesOf, Stack, empty, broken, push, isBoolean, isVector, topBoolean, topVector}
-use Rattle.alf.specs.Bytes.{under, stackAt}
+use Rattle.alf.specs.Bytes.{bytesOf}
+use Rattle.alf.specs.Decoder.{Stack, empty, broken, push, isBoolean, isVector, topBoolean, topVector}
+use Rattle.alf.specs.Decoder.{under, stackAt}
 
 -- an expression is on top; which one, where there is one
 unfoldable pub isWhole : Stack → Bool

@@ -1,7 +1,7 @@
 -- Document 01, "Sorts", for trees: the kind of expression that the bytes before a place end with, and what a tree is.
 --   kindOf, wholeKind, treeKind          the kind of what is on top of a stack, of a whole stack, of a tree
 --   givenOne, givenTwo, leafKind, oneKind, pairKind, threeKind   the kind that a byte makes of its operands' kinds
---   placed, Ending                       what the bytes before a place end with, and where that starts
+--   startOf, Ending                       what the bytes before a place end with, and where that starts
 --   Holds                                which expressions something holds of, by the kind
 use Prim.Native.Nat.{ℕ, _<_}
 use mathlib.Core.Path.{_≡_}
@@ -12,7 +12,7 @@ use lib.ListN.{length}
 use Rattle.basics.specs.Words.{if_then_else_}
 use Rattle.alf.specs.Expressions.{Expression, boolean, vector}
 use Rattle.alf.specs.Expressions as expressions
-use Rattle.alf.specs.Bytes.{Stack, empty, broken, push, stackAt}
+use Rattle.alf.specs.Decoder.{Stack, empty, broken, push, stackAt}
 use Rattle.trees.specs.declared.sorts.Kind.{Kind}
 use Rattle.trees.specs.declared.sorts.Kind.the-variants.{Boolean, Vector, Neither}
 use Rattle.trees.specs.Parts.{Start}
@@ -51,8 +51,8 @@ unfoldable pub threeKind : ℕ → ℕ → ℕ → ℕ → ℕ
 threeKind b first left right = if eqb b 60 then (if eqb right 1 && (eqb left 1 && eqb first 1) then 1 else 0) else 0
 
 -- what the bytes before `end` end with, and where it starts: 0 where there is nothing
-unfoldable pub placed : ℕ → ℕ → ℕ
-placed kind start = if eqb kind 0 then 0 else start
+unfoldable pub startOf : ℕ → ℕ → ℕ
+startOf kind start = if eqb kind 0 then 0 else start
 
 pub record Ending (tree : List ℕ) (names end kind start : ℕ) : Type 0 where
   pub is : kind ≡ kindOf (stackAt tree names end)

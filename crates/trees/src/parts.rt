@@ -1,6 +1,6 @@
 // Where the parts of a tree start.
 ghost use mathlib.Core.Path.{_≡_};
-ghost use Rattle.alf.specs.Bytes.{arityAt};
+ghost use Rattle.alf.specs.Decoder.{arityAt};
 ghost use Rattle.trees.specs.Parts.{Ends, Start};
 
 // How many operands a byte takes.

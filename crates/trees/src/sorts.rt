@@ -3,7 +3,7 @@ ghost use mathlib.Core.Path.{_≡_};
 ghost use Prim.Native.Nat.{_≤_};
 ghost use lib.ListN.{length};
 ghost use Rattle.trees.specs.Sorts.{givenOne, givenTwo, leafKind, oneKind, pairKind, threeKind};
-ghost use Rattle.trees.specs.Sorts.{placed, Ending, treeKind};
+ghost use Rattle.trees.specs.Sorts.{startOf, Ending, treeKind};
 
 // What a tree is.
 pub enum Kind {
@@ -91,7 +91,7 @@ fn three_kind(b: u8, first: u8, left: u8, right: u8) -> u8
 }
 
 fn place(kind: u8, start: usize) -> Part
-    ensures { λ r. ⌜ (r .kind ≡ kind) × (r .start ≡ placed kind start) ⌝ }
+    ensures { λ r. ⌜ (r .kind ≡ kind) × (r .start ≡ startOf kind start) ⌝ }
 {
     if kind == 0 {
         return Part { kind, start: 0 };

@@ -3,24 +3,24 @@
 --   RowFits, Keeps, Handed, pushOrder     what may be handed in, and the order of the refusals
 --   PushesTree, Takes, Push               the call
 --   Small, DecidesQueue, TreePush         what the functions inside ask and tell
-use Prim.Native.Nat.{ℕ, _≤_}
+use Prim.Native.Nat.{ℕ, _+_, _≤_, min}
 use mathlib.Core.Path.{_≡_}
 use mathlib.Core.Bool.{Bool}
 use mathlib.Core.List.{List}
 use lib.ListN.{length}
 use Rattle.alf.specs.declared.Answer.{Answer}
 use Rattle.alf.specs.declared.Sort.the-variants.{Vector}
-use Rattle.alf.specs.Alternatives.{alternatives, stepsOf}
-use Rattle.alf.specs.Refusals.{Order, NameCount, RefusedWith, Passed}
+use Rattle.alf.specs.Alternatives.{stepsOf}
+use Rattle.alf.specs.Refusals.{Order, NameCount, RefusedBy, Passed}
 use Rattle.acceptance.specs.Accepted.{Accepted}
 use Rattle.basics.specs.Deciding.{Decides}
 use Rattle.queue.specs.declared.queues.Queue.{Queue}
 use Rattle.states.specs.FirstBadCode.{Codes}
-use Rattle.queue.specs.Queues.{heldOf, Pushes}
+use Rattle.queue.specs.Queues.{heldOf, traceOf, lastRows, stored}
 use Rattle.matching_calls.specs.declared.matching.Matching.{Matching}
 use Rattle.matching_calls.specs.declared.matching.Matching.the-variants.{Found, Refused}
 use Rattle.judging.specs.Orders.{order, codes}
-use Rattle.matching_calls.specs.Matching.{expression}
+use Rattle.matching_calls.specs.Matching.{expression, MatchesTree}
 
 -- 1 to 32 names, and a state for each
 pub record RowFits (names row : ℕ) : Type 0 where
@@ -41,15 +41,20 @@ pub record Handed (names : ℕ) (tree : List ℕ) (queue : Queue) : Type 0 where
 abbrev pub pushOrder : ℕ → List ℕ → Queue → List ℕ → Order
 pushOrder names tree queue row = order (RowFits names (length row)) (Handed names tree queue) (codes row)
 
--- the answer and the number tried for the row pushed; the last K rows are kept
-abbrev pub PushesTree : ℕ → List ℕ → Queue → List ℕ → Answer → ℕ → Queue → Type 0
-PushesTree names tree queue row = Pushes names (alternatives (expression tree names)) queue row
+-- the answer on windows and the number tried at the last row of what is kept and pushed; of that the last K rows are
+-- kept
+pub record PushesTree (names : ℕ) (tree : List ℕ) (queue : Queue) (row : List ℕ) (answer : Answer) (tried : ℕ)
+    (queue′ : Queue) : Type 0 where
+  pub matched : MatchesTree names tree (traceOf names queue row) (queue .kept .0) answer tried
+  pub kept : queue′ .kept .0 ≡ min (queue .kept .0 + 1) (stepsOf (expression tree names))
+  pub states : queue′ .states
+      ≡ stored (lastRows names (stepsOf (expression tree names)) (queue .kept .0 + 1) (traceOf names queue row))
 
 unfoldable pub Takes : ℕ → List ℕ → Queue → List ℕ → Matching → Queue → Type 0
 Takes names tree queue row (Found m) queue′ =
     Passed (pushOrder names tree queue row) × PushesTree names tree queue row (m .answer) (m .tries) queue′
 Takes names tree queue row (Refused r) queue′ =
-    RefusedWith (pushOrder names tree queue row) (r .number) (r .place) × (queue′ ≡ queue)
+    RefusedBy (pushOrder names tree queue row) r × (queue′ ≡ queue)
 
 pub record Push (names : ℕ) (tree : List ℕ) (queue : Queue) (row : List ℕ) (told : Matching) (queue′ : Queue)
     : Type 0 where

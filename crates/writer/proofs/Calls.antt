@@ -20,7 +20,8 @@ use Rattle.basics.specs.declared.Outcome.{Outcome}
 use Rattle.basics.specs.declared.Outcome.the-variants.{Done, Refused}
 use Rattle.alf.specs.Names.{isName, nameAt}
 use Rattle.alf.specs.Expressions.{Expression, ExpressionOver}
-use Rattle.alf.specs.Bytes.{bytesOf, Decodes}
+use Rattle.alf.specs.Bytes.{bytesOf}
+use Rattle.alf.specs.Decoder.{Decodes}
 use Rattle.basics.proofs.Bools.{never}
 use Rattle.alf.proofs.Decoding.{bytes-decode, decode-over}
 use Rattle.alf.specs.Refusals.{RefusedWith, Passed, Comes}
@@ -29,7 +30,7 @@ use Rattle.trees.specs.Parts.{Ends, isWhole, expressionAt}
 use Rattle.names.specs.Check.{namesOrder}
 use Rattle.alf.proofs.Orders.{none-first}
 use Rattle.acceptance.specs.Accepted.{Accepted}
-use Rattle.acceptance.proofs.Acceptance.{decoded}
+use Rattle.acceptance.proofs.Acceptance.{decoded, accepted-decodes}
 use Rattle.writer.specs.Trees.{treeOf}
 use Rattle.writer.specs.Trees.{text}
 use Rattle.spelling.specs.Signs.{sign, lineFrom}
@@ -152,13 +153,13 @@ module _ {names tree : List ℕ} {sort : Sort} (h : Named names) (a : Accepted (
 
   over : ExpressionOver (countOf names) e
   over =
-      rw (decoded (countOf names) tree (a .expression) (a .decodes))
-      (decode-over (countOf names) tree (a .expression) (a .decodes))
+      rw (decoded (countOf names) tree (a .expression) (accepted-decodes a))
+      (decode-over (countOf names) tree (a .expression) (accepted-decodes a))
 
   bytes : length (bytesOf e) ≡ length tree
   bytes =
-      rw (decoded (countOf names) tree (a .expression) (a .decodes))
-      (ap length (bytes-decode (countOf names) tree (a .expression) (a .decodes)))
+      rw (decoded (countOf names) tree (a .expression) (accepted-decodes a))
+      (ap length (bytes-decode (countOf names) tree (a .expression) (accepted-decodes a)))
 
   tokens : AllKnown names (written 6 (treeOf e))
   tokens = written-known 6 (tree-known (names-named h) e over)
@@ -168,7 +169,7 @@ module _ {names tree : List ℕ} {sort : Sort} (h : Named names) (a : Accepted (
 
   ends : Ends tree (countOf names) (length tree)
   unfolding Decodes isWhole
-  ends = record { within = omega arith; whole = rw (a .decodes) refl }
+  ends = record { within = omega arith; whole = rw (accepted-decodes a) refl }
 
   pub laid : Layable tree (countOf names)
   unfolding signs treeAt

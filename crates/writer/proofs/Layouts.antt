@@ -12,7 +12,7 @@ use lib.Dec.{eqb, ltb, leb}
 use lib.ListN.{getD, length}
 use borrow.Author.Tests.{ne-eqb}
 use Rattle.basics.specs.Words.{if_then_else_}
-use Rattle.alf.specs.Bytes.{stackAt}
+use Rattle.alf.specs.Decoder.{stackAt}
 use Rattle.basics.proofs.Choices.{if-all}
 use Rattle.alf.proofs.Parts.{made-last}
 use Rattle.grammar.specs.declared.Token.{Token}

@@ -7,7 +7,8 @@ use mathlib.Core.Bool.{true}
 use mathlib.Core.Logic.{_⊎_, inl, inr}
 use lib.Dec.{eqb}
 use borrow.Author.Tests.{eqb-true, lt-ltb}
-use Rattle.alf.specs.Bytes.{Stack, under, joinAt, binaryAt, binaryByte}
+use Rattle.alf.specs.Bytes.{binaryByte}
+use Rattle.alf.specs.Decoder.{Stack, under, joinAt, binaryAt}
 use Rattle.basics.proofs.Bools.{never}
 use Rattle.alf.proofs.OperatorBytes.{binary-byte, edge-byte}
 use Rattle.alf.proofs.Made.{Made, a-name, a-literal, a-negation, a-binary, a-choice, an-edge, a-join}

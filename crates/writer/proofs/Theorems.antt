@@ -28,7 +28,7 @@ use Rattle.grammar.proofs.Written.{written-expression}
 use Rattle.grammar.proofs.Fewest.{written-fewest}
 use Rattle.writer.specs.Trees.{named, joinCode, booleanTree, vectorTree, treeOf}
 use Rattle.writer.specs.Trees.{text}
-use Rattle.spelling.specs.Placed.{placed}
+use Rattle.spelling.specs.TokenPlaces.{tokensFrom}
 use Rattle.writer.specs.Writing.{order, Writes, Named}
 use Rattle.spelling.proofs.Reading.{text-reads}
 use Rattle.writer.proofs.Known.{written-known, tree-known, edge-small}
@@ -104,7 +104,7 @@ tree-formed n (vector p) h = vector-formed n p h
 
 -- for every expression over checked names, of whatever length its text is
 module _ {names : List ℕ} (h : Named names) (e : Expression) (o : ExpressionOver (length names / 32) e) where
-  pub text-tokens : Reads 0 (text names e) (placed names 0 (written 6 (treeOf e)))
+  pub text-tokens : Reads 0 (text names e) (tokensFrom names 0 (written 6 (treeOf e)))
   unfolding text
   text-tokens = text-reads (written-known 6 (tree-known (names-named h) e o))
 

@@ -40,6 +40,7 @@ pub changes-at-spec : {M : Type 1} → statement M
 changes-at-spec =
     tie.close
     (tie.spec
+    (λ c. search needs)  -- cast-at
     (λ c κs. search needs)  -- lists-fit-requires
     (λ c κs. search needs)  -- refusal-of-requires
     returns

@@ -1,6 +1,6 @@
 -- `no_places` gives 4,096 zeros.
 use mathlib.Core.Path.{refl}
-use Rattle.tokens.specs.Reading.{zeros}
+use Rattle.tokens.specs.Tokenizing.{zeros}
 use Rattle.tokens.proofs.no_places.Statement.{statement}
 use Rattle.tokens.proofs.no_places.Tie as tie
 

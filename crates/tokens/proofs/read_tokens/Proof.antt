@@ -10,11 +10,14 @@ use Rattle.tokens.proofs.Handing.{many-reading, whole-reading}
 use Rattle.tokens.proofs.read_tokens.Statement.{statement}
 use Rattle.tokens.proofs.read_tokens.Tie as tie
 
--- where the text was read whole: it is short enough, and these are its tokens
-short : (c : tie.Else2) → length (c .before .before .before .before .args .text .now) ≤ 4096
+-- where the text was read whole: it is short enough, and these are its tokens; `entry` is where the call began
+abbrev entry : tie.Else2 → tie.Start
+entry c = c .before .before .before .before
+
+short : (c : tie.Else2) → length (entry c .args .text .now) ≤ 4096
 short c = c .before .before .if1 .left
 
-whole : (c : tie.Else2) → Whole (c .before .before .before .before .args .text .now) (c .before .scan .result)
+whole : (c : tie.Else2) → Whole (entry c .args .text .now) (c .before .scan .result)
 whole c = whole-of (c .before .scan .ensures) (c .if2 .left)
 
 returns : tie.Need-returns

@@ -1,6 +1,6 @@
 -- `refuse_text` hands over a refusal and no tokens.
 use borrow.Author.Needs.{needs}
-use Rattle.tokens.specs.Reading.{refusedWith}
+use Rattle.tokens.specs.Tokenizing.{refusedWith}
 use Rattle.tokens.proofs.refuse_text.Statement.{statement}
 use Rattle.tokens.proofs.refuse_text.Tie as tie
 

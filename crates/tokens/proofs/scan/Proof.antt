@@ -44,9 +44,10 @@ returns c =
 -- where a token was taken: it has a byte, and ends in the text
 fits :
     (c : tie.Else2 Inv-loop μ-loop) →
+    let turn = c .before .before .before .before .before .before in
+    let start = turn .before .before .before .before in
     (0 < c .before .take-token .result .size) ×
-    (c .before .before .before .before .before .before .loop .at + c .before .take-token .result .size ≤
-    length (c .before .before .before .before .before .before .before .before .before .before .args .text .now))
+    (turn .loop .at + c .before .take-token .result .size ≤ length (start .args .text .now))
 fits c =
     let turn = c .before .before .before .before .before in
     token-fits _ _ (turn .loop-test .taken) (turn .before .loop .inv) (c .before .take-token .ensures) (c .if2 .left)

@@ -1,6 +1,6 @@
 -- `put_all` meets its contract: the heading, then the lines.
 use borrow.Author.Needs.{needs}
-use Rattle.figures.specs.Text.{bytes}
+use Rattle.basics.specs.Text.{bytes}
 use Rattle.alternative_lines.proofs.LineParts.{all-asked, heading-put}
 use Rattle.alternative_lines.proofs.numbered.put_all.Statement.{statement}
 use Rattle.alternative_lines.proofs.numbered.put_all.Tie as tie

@@ -1,6 +1,6 @@
 -- `put_line` meets its contract.
 use borrow.Author.Needs.{needs}
-use Rattle.figures.specs.Text.{bytes}
+use Rattle.basics.specs.Text.{bytes}
 use Rattle.alternative_lines.proofs.LineParts.{line-put}
 use Rattle.alternative_lines.proofs.numbered.put_line.Statement.{statement}
 use Rattle.alternative_lines.proofs.numbered.put_line.Tie as tie

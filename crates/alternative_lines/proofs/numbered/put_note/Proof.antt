@@ -1,6 +1,6 @@
 -- `put_note` meets its contract.
 use borrow.Author.Needs.{needs}
-use Rattle.figures.specs.Text.{bytes}
+use Rattle.basics.specs.Text.{bytes}
 use Rattle.alternative_lines.proofs.LineParts.{note-none, note-some}
 use Rattle.alternative_lines.proofs.numbered.put_note.Statement.{statement}
 use Rattle.alternative_lines.proofs.numbered.put_note.Tie as tie

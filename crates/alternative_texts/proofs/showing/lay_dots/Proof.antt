@@ -2,7 +2,7 @@
 use borrow.Author.Needs.{needs}
 use native.Mathlib.Omega.{arith}
 use Rattle.basics.proofs.PartByPart.{held}
-use Rattle.figures.specs.Text.{bytes}
+use Rattle.basics.specs.Text.{bytes}
 use Rattle.alternative_texts.proofs.showing.lay_dots.Statement.{statement}
 use Rattle.alternative_texts.proofs.showing.lay_dots.Tie as tie
 

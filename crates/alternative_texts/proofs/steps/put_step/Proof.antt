@@ -1,6 +1,6 @@
 -- `put_step` meets its contract.
 use borrow.Author.Needs.{needs}
-use Rattle.figures.specs.Text.{bytes}
+use Rattle.basics.specs.Text.{bytes}
 use Rattle.alternative_texts.proofs.StepWalks.{tests-asked, empty-countable, step-empty, step-some}
 use Rattle.alternative_texts.proofs.steps.put_step.Statement.{statement}
 use Rattle.alternative_texts.proofs.steps.put_step.Tie as tie

@@ -3,7 +3,7 @@ use borrow.Author.Needs.{needs}
 use mathlib.Core.Path.{refl}
 use native.Mathlib.Omega.{arith}
 use Rattle.basics.proofs.PartByPart.{holds-within, holds-count}
-use Rattle.figures.specs.Text.{bytes}
+use Rattle.basics.specs.Text.{bytes}
 use Rattle.alternative_texts.proofs.StepWalks.{test-asked, test-countable, test-put}
 use Rattle.alternative_texts.proofs.steps.put_test.Statement.{statement}
 use Rattle.alternative_texts.proofs.steps.put_test.Tie as tie

@@ -1,9 +1,9 @@
 -- `corrections::rewrite` meets its contract. The loop's invariant is Writing: i answers are rewritten.
 use Prim.Native.Nat.{_-_}
 use native.Mathlib.Omega.{arith}
+use Rattle.alf.specs.Alternatives.{answerOf}
 use Rattle.alf.specs.Values.{stateAt}
 use Rattle.alternatives.specs.InMemory.{alternativesOf}
-use Rattle.matcher.specs.Tables.{numberAt}
 use Rattle.matcher.proofs.Filling.{row-asked}
 use Rattle.basics.specs.Words.{listed}
 use Rattle.basics.proofs.Stores.{Writing, writing-first, writing-length}
@@ -14,7 +14,7 @@ use Rattle.correction.proofs.corrections.rewrite.Tie as tie
 abbrev Inv-loop : tie.InvT-loop
 Inv-loop tree names states steps tests edges operands n r m answers₀ i₀ answers i =
     Writing answers₀ r
-    (listed r m (numberAt (stateAt names states) (alternativesOf tree names steps tests edges operands))) answers i
+    (listed r m (answerOf (stateAt names states) (alternativesOf tree names steps tests edges operands))) answers i
 
 abbrev μ-loop : tie.MeasureT-loop
 μ-loop tree names states steps tests edges operands n r m answers₀ i₀ answers i = m - i

@@ -1,7 +1,7 @@
 -- `operators::operated` meets its contract: each byte's function is the definition's.
 use borrow.Author.Needs.{needs}
 use Rattle.alf.specs.Values.{operate}
-use Rattle.alf.specs.Bytes.{binaryAt}
+use Rattle.alf.specs.Decoder.{binaryAt}
 use Rattle.evaluator.proofs.Operating.{operated-by, past, only}
 use Rattle.evaluator.proofs.operators.operated.Statement.{statement}
 use Rattle.evaluator.proofs.operators.operated.Tie as tie

@@ -1,9 +1,11 @@
 -- `rows::row_answer` meets its contract.
+use Rattle.alf.specs.Answers.{numberOf}
 use Rattle.evaluator.proofs.RowAnswers.{row-first, row-later}
 use Rattle.evaluator.proofs.rows.row_answer.Statement.{statement}
 use Rattle.evaluator.proofs.rows.row_answer.Tie as tie
 
 pub row-answer-spec : {M : Type 1} → statement M
+unfolding numberOf
 row-answer-spec =
     tie.close
     (tie.spec

@@ -26,7 +26,8 @@ value-requires c κs =
 inside : (c : tie.After-value Inv-loop μ-loop) → c .before .before .loop .i < length (c .before .before .loop .out)
 inside c =
     let turn = c .before .before in
-    omega (arith, writing-length (turn .loop .inv), turn .before .before .before .before .pre .1 .room)
+    let start = turn .before .before .before .before in
+    omega (arith, writing-length (turn .loop .inv), start .pre .1 .room)
 
 loop-again : tie.Need-loop-again Inv-loop μ-loop
 loop-again c = ruling-next-front _ (c .before .before .loop .inv) (c .before .loop-test .taken) (c .value .ensures .is)
@@ -34,7 +35,8 @@ loop-again c = ruling-next-front _ (c .before .before .loop .inv) (c .before .lo
 returns : tie.Need-returns Inv-loop μ-loop
 returns c =
     let end = c .before in
-    ruling-front _ (end .loop .inv) (c .loop-test .left) (end .before .before .before .before .pre .1 .room)
+    let start = end .before .before .before .before in
+    ruling-front _ (end .loop .inv) (c .loop-test .left) (start .pre .1 .room)
 
 pub values-spec : {M : Type 1} → statement M
 values-spec =

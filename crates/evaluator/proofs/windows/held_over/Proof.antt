@@ -22,12 +22,15 @@ unfolding least
 loop-holds c = (omega arith, refl)
 
 state-requires : tie.Need-state-requires Inv-loop μ-loop
-state-requires c κs = let s = c .before .before .before .before .pre in (s .0, row-inside _ (omega arith) (s .1))
+state-requires c κs =
+    let start = c .before .before .before .before in
+    let s = start .pre in (s .0, row-inside _ (omega arith) (s .1))
 
 loop-again : tie.Need-loop-again Inv-loop μ-loop
 loop-again c =
+    let earlier = c .before .before .before .before in
     let asked = c .before .certainty-of .ensures ∙ ap certainty (c .before .before .state .ensures .is) in
-    (omega arith, least-step _ (c .before .before .before .before .loop .inv .1) asked (c .lesser .ensures))
+    (omega arith, least-step _ (earlier .loop .inv .1) asked (c .lesser .ensures))
 
 returns : tie.Need-returns Inv-loop μ-loop
 unfolding held

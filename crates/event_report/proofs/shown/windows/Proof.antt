@@ -19,6 +19,7 @@ windows-spec =
     (λ c κs. search needs)  -- names-of-requires
     (λ c. search needs)  -- loop-holds
     (λ c κs. search needs)  -- time-of-requires
+    (λ c. search needs)  -- cast-row-answer
     (λ c κs. search needs)  -- row-answer-requires
     (λ c κs. search needs)  -- say-told-requires
     (λ c. search needs)  -- add-i

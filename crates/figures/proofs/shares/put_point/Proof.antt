@@ -34,7 +34,8 @@ same-length c = search needs
 
 returns : tie.Need-returns
 returns c =
-    going-end (going-on (behind-point (c .before .before .before .before .before .before))
+    let earlier = c .before .before .before .before .before .before in
+    going-end (going-on (behind-point earlier)
     (c .before .before .put-digits .ensures))
 
 pub put-point-spec : {M : Type 1} → statement M

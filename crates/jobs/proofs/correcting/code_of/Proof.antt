@@ -4,7 +4,7 @@ use mathlib.Core.Path.{refl}
 use mathlib.Core.List.{List, [], _∷_}
 use Prim.Native.Nat.{ℕ}
 use Rattle.alf.specs.States.{among}
-use Rattle.figures.specs.Text.{bytes}
+use Rattle.basics.specs.Text.{bytes}
 use Rattle.basics.proofs.ByteMatches.{ranged, keyed}
 use Rattle.jobs.specs.Letters.{stateOf}
 use Rattle.jobs.proofs.correcting.code_of.Statement.{statement}

@@ -53,7 +53,8 @@ same-length c = put-length (c .before .loop .inv .1)
 
 returns : tie.Need-returns Inv-loop μ-loop
 returns c =
-    codes-all (c .before .before .before .before .args .letters .now) (c .loop-test .left) (c .before .loop .inv .1)
+    let start = c .before .before .before .before in
+    codes-all (start .args .letters .now) (c .loop-test .left) (c .before .loop .inv .1)
 
 pub put-codes-spec : {M : Type 1} → statement M
 put-codes-spec =

@@ -11,7 +11,8 @@ enum-known-counted c = search needs
 cast-write-line : tie.Need-cast-write-line
 cast-write-line c =
     let c1 = c .before in
-    omega (arith, c1 .before .before .before .before .pre .few _ (c1 .counted .given .1))
+    let start = c1 .before .before .before .before in
+    omega (arith, start .pre .few _ (c1 .counted .given .1))
 
 write-line-requires : tie.Need-write-line-requires
 write-line-requires c κs = search needs

@@ -32,6 +32,7 @@ pub match-row-spec : {M : Type 1} → statement M
 match-row-spec =
     tie.close
     (tie.spec
+    (λ c. search needs)  -- cast-at
     (λ c κs. search needs)  -- rows-fit-requires
     (λ c κs. search needs)  -- fits-requires
     (λ c κs. search needs)  -- judge-row-requires

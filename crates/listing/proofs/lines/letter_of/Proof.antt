@@ -1,7 +1,7 @@
 -- `letter_of` meets its contract.
 use borrow.Author.Needs.{needs}
 use mathlib.Core.Path.{refl}
-use Rattle.figures.specs.Text.{bytes}
+use Rattle.basics.specs.Text.{bytes}
 use Rattle.listing.specs.Listing.{letter}
 use Rattle.listing.proofs.lines.letter_of.Statement.{statement}
 use Rattle.listing.proofs.lines.letter_of.Tie as tie

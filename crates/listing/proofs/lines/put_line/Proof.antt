@@ -3,7 +3,7 @@ use borrow.Author.Needs.{needs}
 use Prim.Native.Nat.{ℕ}
 use mathlib.Core.List.{List, [], _∷_, _++_}
 use Rattle.basics.proofs.PartByPart.{Going, going-room, going-byte, going-on, going-two, going-end}
-use Rattle.figures.specs.Text.{bytes}
+use Rattle.basics.specs.Text.{bytes}
 use Rattle.figures.specs.Numbers.{decimal}
 use Rattle.listing.specs.Listing.{wordOf, line}
 use Rattle.listing.proofs.RowByRow.{line-start}
@@ -30,10 +30,12 @@ timed : (c : tie.After-put-decimal-then)
 unfolding bytes
 timed c = going-on (begun (entry c)) (c .put-decimal-then .ensures)
 
+abbrev told : tie.After-put-code → tie.After-put-decimal-then
+told c = c .before .before .before .before
+
 worded : (c : tie.After-put-code)
-    → Left (entry (c .before .before .before .before)) (bytes "\n" ∷ []) (c .put-code .last .1 .1 .0)
-    (c .put-code .result)
-worded c = going-on (timed (c .before .before .before .before)) (c .put-code .ensures)
+    → Left (entry (told c)) (bytes "\n" ∷ []) (c .put-code .last .1 .1 .0) (c .put-code .result)
+worded c = going-on (timed (told c)) (c .put-code .ensures)
 
 cast-put-decimal-then : tie.Need-cast-put-decimal-then
 cast-put-decimal-then c = search needs
@@ -61,7 +63,8 @@ returns : tie.Need-returns
 unfolding bytes
 returns c =
     let ended = c .before .before in
-    going-end (going-on (worded (ended .before .before .before .before)) (ended .push .ensures))
+    let earlier = ended .before .before .before .before in
+    going-end (going-on (worded earlier) (ended .push .ensures))
 
 pub put-line-spec : {M : Type 1} → statement M
 put-line-spec =

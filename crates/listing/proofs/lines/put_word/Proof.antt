@@ -1,6 +1,6 @@
 -- `put_word` meets its contract.
 use borrow.Author.Needs.{needs}
-use Rattle.figures.specs.Text.{bytes}
+use Rattle.basics.specs.Text.{bytes}
 use Rattle.listing.proofs.ColumnWords.{last-number}
 use Rattle.listing.proofs.ColumnWords.{word-0, word-1, word-2, word-3}
 use Rattle.listing.proofs.lines.put_word.Statement.{statement}

@@ -1,7 +1,7 @@
 -- `word_size` meets its contract.
 use native.Mathlib.Omega.{arith}
 use mathlib.Core.Path.{refl}
-use Rattle.figures.specs.Text.{bytes}
+use Rattle.basics.specs.Text.{bytes}
 use Rattle.listing.specs.Listing.{word}
 use Rattle.listing.proofs.ColumnWords.{last-number}
 use Rattle.listing.proofs.lines.word_size.Statement.{statement}

@@ -6,7 +6,7 @@ use mathlib.Core.Path.{_≡_}
 use mathlib.Core.List.{List, [], _∷_}
 use lib.ListN.{length}
 use Rattle.basics.proofs.PartByPart.{Going, going-room, going-on, going-end}
-use Rattle.figures.specs.Text.{bytes}
+use Rattle.basics.specs.Text.{bytes}
 use Rattle.figures.proofs.Delivering.{short, delivered}
 use Rattle.listing.specs.declared.lines.Column.the-variants.{Values}
 use Rattle.listing.specs.Listing.{highest, lines, valuesListing}

@@ -3,7 +3,7 @@ use borrow.Author.Needs.{needs}
 use Prim.Native.Nat.{ℕ}
 use mathlib.Core.List.{List, [], _∷_}
 use Rattle.basics.proofs.PartByPart.{Going, going-room, going-on, going-two, going-end}
-use Rattle.figures.specs.Text.{bytes}
+use Rattle.basics.specs.Text.{bytes}
 use Rattle.figures.specs.Numbers.{decimal}
 use Rattle.listing.specs.Listing.{lastLine}
 use Rattle.listing.proofs.LastLine.{last-start}
@@ -36,20 +36,28 @@ unfolding bytes
 at-yeses c = going-on (begun (entry c)) (c .put .ensures)
 
 abbrev entry-2 : tie.After-put-decimal-then → tie.Start
-entry-2 c = entry (c .before .before .before .before .before)
+entry-2 c =
+    let earlier = c .before .before .before .before .before in
+    entry earlier
 
 at-noes : (c : tie.After-put-decimal-then)
     → Left (entry-2 c) (noes (entry-2 c)) (c .put-decimal-then .last .1 .1 .0) (c .put-decimal-then .result)
 unfolding bytes
-at-noes c = going-on (going-two (at-yeses (c .before .before .before .before .before))) (c .put-decimal-then .ensures)
+at-noes c =
+    let earlier = c .before .before .before .before .before in
+    going-on (going-two (at-yeses earlier)) (c .put-decimal-then .ensures)
 
 abbrev entry-3 : tie.After-put-decimal-then2 → tie.Start
-entry-3 c = entry-2 (c .before .before .before .before .before)
+entry-3 c =
+    let earlier = c .before .before .before .before .before in
+    entry-2 earlier
 
 at-unknowns : (c : tie.After-put-decimal-then2)
     → Left (entry-3 c) (unknowns (entry-3 c)) (c .put-decimal-then2 .last .1 .1 .0) (c .put-decimal-then2 .result)
 unfolding bytes
-at-unknowns c = going-on (going-two (at-noes (c .before .before .before .before .before)))
+at-unknowns c =
+    let earlier = c .before .before .before .before .before in
+    going-on (going-two (at-noes earlier))
     (c .put-decimal-then2 .ensures)
 
 slice-aggregate-put : tie.Need-slice-aggregate-put
@@ -64,21 +72,27 @@ slice-aggregate-put-decimal-then c = search needs
 
 put-decimal-then-requires : tie.Need-put-decimal-then-requires
 unfolding bytes
-put-decimal-then-requires c κs = going-room (going-two (at-yeses (c .before .before .before .before)))
+put-decimal-then-requires c κs =
+    let earlier = c .before .before .before .before in
+    going-room (going-two (at-yeses earlier))
 
 slice-aggregate-put-decimal-then-2 : tie.Need-slice-aggregate-put-decimal-then-2
 slice-aggregate-put-decimal-then-2 c = search needs
 
 put-decimal-then-requires-2 : tie.Need-put-decimal-then-requires-2
 unfolding bytes
-put-decimal-then-requires-2 c κs = going-room (going-two (at-noes (c .before .before .before .before)))
+put-decimal-then-requires-2 c κs =
+    let earlier = c .before .before .before .before in
+    going-room (going-two (at-noes earlier))
 
 slice-aggregate-put-decimal-then-3 : tie.Need-slice-aggregate-put-decimal-then-3
 slice-aggregate-put-decimal-then-3 c = search needs
 
 put-decimal-then-requires-3 : tie.Need-put-decimal-then-requires-3
 unfolding bytes
-put-decimal-then-requires-3 c κs = going-room (going-two (at-unknowns (c .before .before .before .before)))
+put-decimal-then-requires-3 c κs =
+    let earlier = c .before .before .before .before in
+    going-room (going-two (at-unknowns earlier))
 
 same-length : tie.Need-same-length
 same-length c = search needs
@@ -87,7 +101,8 @@ returns : tie.Need-returns
 unfolding bytes
 returns c =
     let ended = c .before .before in
-    going-end (going-on (going-two (at-unknowns (ended .before .before .before .before .before)))
+    let earlier = ended .before .before .before .before .before in
+    going-end (going-on (going-two (at-unknowns earlier))
     (ended .put-decimal-then3 .ensures))
 
 pub put-last-spec : {M : Type 1} → statement M

@@ -74,8 +74,7 @@ returns-2 : tie.Need-returns-2 Inv-loop μ-loop
 returns-2 c =
     let c2 = c .before .before in
     let c9 = c2 .before .before .before .before .before .before .before in
-    rw (c .name-of .ensures)
-    (walking-end (c9 .pre .asked) (c2 .loop .inv) (c .before .loop-test .left) (c9 .pre .event))
+    walking-end (c9 .pre .asked) (c2 .loop .inv) (c .before .loop-test .left) (c9 .pre .event) (c .name-of .ensures)
 
 pub match-event-spec : {M : Type 1} → statement M
 match-event-spec =

@@ -35,8 +35,9 @@ test-at-requires c κs =
 loop-again : tie.Need-loop-again Inv-loop μ-loop
 loop-again c =
     let c5 = c .before .before .before .before .before in
+    let start = c5 .before .before .before .before .before in
     rw (c .lesser .ensures)
-    (asking-next (c5 .before .before .before .before .before .pre) (c5 .loop .inv) (omega arith) _
+    (asking-next (start .pre) (c5 .loop .inv) (omega arith) _
     (c .before .test-at .ensures))
 
 returns : tie.Need-returns Inv-loop μ-loop

@@ -1,12 +1,11 @@
 -- `matcher::tables::number_at` meets its contract.
-use mathlib.Core.Path.{ap, _∙_}
-use Rattle.alf.specs.Windows.{numberOf}
+use mathlib.Core.Path.{_∙_}
 use borrow.Author.Needs.{needs}
 use Rattle.matcher.proofs.tables.number_at.Statement.{statement}
 use Rattle.matcher.proofs.tables.number_at.Tie as tie
 
 returns : tie.Need-returns
-returns c = c .number-of .ensures ∙ ap numberOf (c .before .match-row .ensures .is)
+returns c = c .number-of .ensures ∙ c .before .match-row .ensures .is
 
 pub number-at-spec : {M : Type 1} → statement M
 number-at-spec =

@@ -1,6 +1,6 @@
 -- `matcher::tables::number_of` meets its contract.
 use mathlib.Core.Path.{ap, sym}
-use Rattle.alf.specs.Windows.{numberOf}
+use Rattle.alf.specs.Answers.{numberOf}
 use borrow.Author.Needs.{needs}
 use Rattle.matcher.proofs.tables.number_of.Statement.{statement}
 use Rattle.matcher.proofs.tables.number_of.Tie as tie

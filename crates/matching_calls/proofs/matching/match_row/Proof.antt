@@ -22,6 +22,7 @@ pub match-row-spec : {M : Type 1} → statement M
 match-row-spec =
     tie.close
     (tie.spec
+    (λ c. search needs)  -- cast-at
     (λ c κs. search needs)  -- check-row-requires
     (λ c. search needs)  -- enum-known-v
     enum-told

@@ -27,6 +27,8 @@ pub window-answer-spec : {M : Type 1} → statement M
 window-answer-spec =
     tie.close
     (tie.spec
+    (λ c. search needs)  -- cast-from
+    (λ c. search needs)  -- cast-to
     (λ c κs. search needs)  -- later-requires
     (λ c κs. search needs)  -- check-row-requires
     (λ c. search needs)  -- enum-known-v

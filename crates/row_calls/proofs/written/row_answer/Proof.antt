@@ -25,6 +25,7 @@ pub row-answer-spec : {M : Type 1} → statement M
 row-answer-spec =
     tie.close
     (tie.spec
+    (λ c. search needs)  -- cast-at
     (λ c κs. search needs)  -- check-row-requires
     (λ c. search needs)  -- enum-known-v
     enum-told

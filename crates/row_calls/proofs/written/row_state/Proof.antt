@@ -25,6 +25,7 @@ pub row-state-spec : {M : Type 1} → statement M
 row-state-spec =
     tie.close
     (tie.spec
+    (λ c. search needs)  -- cast-at
     (λ c κs. search needs)  -- check-row-requires
     (λ c. search needs)  -- enum-known-v
     enum-told

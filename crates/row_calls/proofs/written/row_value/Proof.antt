@@ -25,6 +25,7 @@ pub row-value-spec : {M : Type 1} → statement M
 row-value-spec =
     tie.close
     (tie.spec
+    (λ c. search needs)  -- cast-at
     (λ c κs. search needs)  -- check-row-requires
     (λ c. search needs)  -- enum-known-v
     enum-told

@@ -17,6 +17,7 @@ at-rows-spec =
     Inv-loop
     μ-loop
     (λ c. search needs)  -- loop-holds
+    (λ c κs. search needs)  -- narrow-requires
     (λ c κs. search needs)  -- at-row-requires
     (λ c. search needs)  -- add-i
     (λ c. search needs)  -- loop-less

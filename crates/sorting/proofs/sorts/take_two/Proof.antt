@@ -11,16 +11,18 @@ returns c = two-short _ (c .stop .ensures) (c .before .if1 .taken)
 returns-2 : tie.Need-returns-2
 returns-2 c =
     let b = c .before .before in
-    two-wrong _ (b .before .before .before .before .before .pre) (c .stop2 .ensures)
+    let start = b .before .before .before .before .before in
+    two-wrong _ (start .pre) (c .stop2 .ensures)
     (rw (← b .before .before .sort-at .ensures, ← b .before .sort-at2 .ensures)
     (sym (b .pair-byte .ensures) ∙ c .before .if2 .taken))
 
 returns-3 : tie.Need-returns-3
 returns-3 c =
     let b = c .before .before .before in
+    let start = b .before .before .before .before .before in
     let l = b .before .before .sort-at .ensures in
     let r = b .before .sort-at2 .ensures in
-    two-right _ (b .before .before .before .before .before .pre) (b .before .before .before .if1 .left)
+    two-right _ (start .pre) (b .before .before .before .if1 .left)
     (λ e. c .before .before .if2 .left (b .pair-byte .ensures ∙ rw (l, r) e))
     (rw (← l, ← r, ← b .pair-byte .ensures, ← c .before .either .ensures) (c .put .ensures))
 

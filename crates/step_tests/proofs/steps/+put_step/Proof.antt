@@ -21,7 +21,8 @@ pub +put-step-spec : {M : Type 1} → statement M
     (λ c κs. c .before .before .before .pre .1 .chosen)
     (λ c.
     let c2 = c .before .before in
-    beyond (c2 .before .before .before .before .pre .1) (c2 .shape-of .ensures) (c .if1 .taken))
+    let start = c2 .before .before .before .before in
+    beyond (start .pre .1) (c2 .shape-of .ensures) (c .if1 .taken))
     (λ c.
     let h = c .before .before .before .before .before .before .pre .1 in
     omega (arith, placing-pos h))

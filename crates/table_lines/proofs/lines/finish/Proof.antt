@@ -4,7 +4,7 @@ use Prim.Native.Nat.{ℕ, _+_, _≤_}
 use mathlib.Core.List.{List, [], _∷_, map}
 use lib.ListN.{length}
 use Rattle.basics.proofs.PartByPart.{Going, going-room, going-byte, going-on, going-end}
-use Rattle.figures.specs.Text.{bytes}
+use Rattle.basics.specs.Text.{bytes}
 use Rattle.figures.proofs.Delivering.{short, delivered}
 use Rattle.table_lines.specs.Table.{plain, ended}
 use Rattle.table_lines.proofs.LineEnds.{ended-size, ended-start}
@@ -27,10 +27,12 @@ at-pattern : (c : tie.After-put)
     → Left (entry c) (map plain (entry c .args .pattern .now) ∷ bytes "\n" ∷ []) (c .put .last .1 .0) (c .put .result)
 at-pattern c = going-on (begun (entry c) (c .before .before .if1 .left)) (c .put .ensures)
 
+abbrev columned : tie.After-put-plain → tie.After-put
+columned c = c .before .before .before .before
+
 at-end : (c : tie.After-put-plain)
-    → Left (entry (c .before .before .before .before)) (bytes "\n" ∷ []) (c .put-plain .last .1 .0)
-    (c .put-plain .result)
-at-end c = going-on (at-pattern (c .before .before .before .before)) (c .put-plain .ensures)
+    → Left (entry (columned c)) (bytes "\n" ∷ []) (c .put-plain .last .1 .0) (c .put-plain .result)
+at-end c = going-on (at-pattern (columned c)) (c .put-plain .ensures)
 
 add-size : tie.Need-add-size
 add-size c = search needs
@@ -50,7 +52,8 @@ returns c =
 put-requires : tie.Need-put-requires
 put-requires c κs =
     let test = c .before in
-    going-room (begun (test .before .before .before .before) (test .if1 .left))
+    let earlier = test .before .before .before .before in
+    going-room (begun earlier (test .if1 .left))
 
 put-plain-requires : tie.Need-put-plain-requires
 put-plain-requires c κs = going-room (at-pattern (c .before .before .before))

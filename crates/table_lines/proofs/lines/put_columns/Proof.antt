@@ -3,7 +3,7 @@ use borrow.Author.Needs.{needs}
 use Prim.Native.Nat.{ℕ}
 use mathlib.Core.List.{List, [], _∷_}
 use Rattle.basics.proofs.PartByPart.{Going, going-room, going-byte, going-on, going-two, going-end}
-use Rattle.figures.specs.Text.{bytes}
+use Rattle.basics.specs.Text.{bytes}
 use Rattle.figures.specs.Numbers.{decimal}
 use Rattle.figures.specs.Share.{share}
 use Rattle.table_lines.specs.Table.{columns}
@@ -39,28 +39,39 @@ unfolding bytes
 at-share c = going-on (going-two (begun (entry c))) (c .put-decimal-then .ensures)
 
 abbrev entry-2 : tie.After-put-share → tie.Start
-entry-2 c = entry (c .before .before .before .before)
+entry-2 c =
+    let earlier = c .before .before .before .before in
+    entry earlier
 
 at-tab : (c : tie.After-put-share)
     → Left (entry-2 c) (bytes "\t" ∷ unknowns (entry-2 c)) (c .put-share .last .1 .1 .0) (c .put-share .result)
-at-tab c = going-on (at-share (c .before .before .before .before)) (c .put-share .ensures)
+at-tab c =
+    let earlier = c .before .before .before .before in
+    going-on (at-share earlier) (c .put-share .ensures)
 
 abbrev entry-3 : tie.After-push → tie.Start
-entry-3 c = entry-2 (c .before .before .before .before)
+entry-3 c =
+    let earlier = c .before .before .before .before in
+    entry-2 earlier
 
 at-unknowns : (c : tie.After-push)
     → Left (entry-3 c) (unknowns (entry-3 c)) (c .push .last .0) (c .push .result)
 unfolding bytes
-at-unknowns c = going-on (at-tab (c .before .before .before .before)) (c .push .ensures)
+at-unknowns c =
+    let earlier = c .before .before .before .before in
+    going-on (at-tab earlier) (c .push .ensures)
 
 abbrev entry-4 : tie.After-put-decimal-then2 → tie.Start
-entry-4 c = entry-3 (c .before .before .before .before .before)
+entry-4 c =
+    let earlier = c .before .before .before .before .before in
+    entry-3 earlier
 
 at-noes : (c : tie.After-put-decimal-then2)
     → Left (entry-4 c) (noes (entry-4 c)) (c .put-decimal-then2 .last .1 .1 .0) (c .put-decimal-then2 .result)
 unfolding bytes
 at-noes c =
-    going-on (going-two (at-unknowns (c .before .before .before .before .before))) (c .put-decimal-then2 .ensures)
+    let earlier = c .before .before .before .before .before in
+    going-on (going-two (at-unknowns earlier)) (c .put-decimal-then2 .ensures)
 
 slice-aggregate-put-decimal-then : tie.Need-slice-aggregate-put-decimal-then
 slice-aggregate-put-decimal-then c = search needs
@@ -81,14 +92,18 @@ slice-aggregate-put-decimal-then-2 c = search needs
 
 put-decimal-then-requires-2 : tie.Need-put-decimal-then-requires-2
 unfolding bytes
-put-decimal-then-requires-2 c κs = going-room (going-two (at-unknowns (c .before .before .before .before)))
+put-decimal-then-requires-2 c κs =
+    let earlier = c .before .before .before .before in
+    going-room (going-two (at-unknowns earlier))
 
 slice-aggregate-put-decimal-then-3 : tie.Need-slice-aggregate-put-decimal-then-3
 slice-aggregate-put-decimal-then-3 c = search needs
 
 put-decimal-then-requires-3 : tie.Need-put-decimal-then-requires-3
 unfolding bytes
-put-decimal-then-requires-3 c κs = going-room (going-two (at-noes (c .before .before .before .before)))
+put-decimal-then-requires-3 c κs =
+    let earlier = c .before .before .before .before in
+    going-room (going-two (at-noes earlier))
 
 same-length : tie.Need-same-length
 same-length c = search needs
@@ -97,7 +112,8 @@ returns : tie.Need-returns
 unfolding bytes
 returns c =
     let ended = c .before .before in
-    going-end (going-on (going-two (at-noes (ended .before .before .before .before .before)))
+    let earlier = ended .before .before .before .before .before in
+    going-end (going-on (going-two (at-noes earlier))
     (ended .put-decimal-then3 .ensures))
 
 pub put-columns-spec : {M : Type 1} → statement M

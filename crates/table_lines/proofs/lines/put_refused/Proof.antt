@@ -3,7 +3,7 @@ use borrow.Author.Needs.{needs}
 use Prim.Native.Nat.{ℕ}
 use mathlib.Core.List.{List, [], _∷_}
 use Rattle.basics.proofs.PartByPart.{Going, going-room, going-on, going-two, going-end}
-use Rattle.figures.specs.Text.{bytes}
+use Rattle.basics.specs.Text.{bytes}
 use Rattle.figures.specs.Numbers.{decimal}
 use Rattle.table_lines.specs.Table.{refusedColumns}
 use Rattle.table_lines.proofs.ColumnParts.{refused-start}
@@ -32,12 +32,16 @@ unfolding bytes
 at-number c = going-on (begun (entry c)) (c .put .ensures)
 
 abbrev entry-2 : tie.After-put-decimal-then → tie.Start
-entry-2 c = entry (c .before .before .before .before .before)
+entry-2 c =
+    let earlier = c .before .before .before .before .before in
+    entry earlier
 
 at-place : (c : tie.After-put-decimal-then)
     → Left (entry-2 c) (places (entry-2 c)) (c .put-decimal-then .last .1 .1 .0) (c .put-decimal-then .result)
 unfolding bytes
-at-place c = going-on (going-two (at-number (c .before .before .before .before .before))) (c .put-decimal-then .ensures)
+at-place c =
+    let earlier = c .before .before .before .before .before in
+    going-on (going-two (at-number earlier)) (c .put-decimal-then .ensures)
 
 slice-aggregate-put : tie.Need-slice-aggregate-put
 slice-aggregate-put c = search needs
@@ -51,14 +55,18 @@ slice-aggregate-put-decimal-then c = search needs
 
 put-decimal-then-requires : tie.Need-put-decimal-then-requires
 unfolding bytes
-put-decimal-then-requires c κs = going-room (going-two (at-number (c .before .before .before .before)))
+put-decimal-then-requires c κs =
+    let earlier = c .before .before .before .before in
+    going-room (going-two (at-number earlier))
 
 slice-aggregate-put-decimal-then-2 : tie.Need-slice-aggregate-put-decimal-then-2
 slice-aggregate-put-decimal-then-2 c = search needs
 
 put-decimal-then-requires-2 : tie.Need-put-decimal-then-requires-2
 unfolding bytes
-put-decimal-then-requires-2 c κs = going-room (going-two (at-place (c .before .before .before .before)))
+put-decimal-then-requires-2 c κs =
+    let earlier = c .before .before .before .before in
+    going-room (going-two (at-place earlier))
 
 same-length : tie.Need-same-length
 same-length c = search needs
@@ -67,7 +75,8 @@ returns : tie.Need-returns
 unfolding bytes
 returns c =
     let ended = c .before .before in
-    going-end (going-on (going-two (at-place (ended .before .before .before .before .before)))
+    let earlier = ended .before .before .before .before .before in
+    going-end (going-on (going-two (at-place earlier))
     (ended .put-decimal-then2 .ensures))
 
 pub put-refused-spec : {M : Type 1} → statement M

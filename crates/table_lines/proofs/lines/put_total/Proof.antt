@@ -3,7 +3,7 @@ use borrow.Author.Needs.{needs}
 use Prim.Native.Nat.{ℕ}
 use mathlib.Core.List.{List, [], _∷_}
 use Rattle.basics.proofs.PartByPart.{Going, going-room, going-on, going-two, going-end}
-use Rattle.figures.specs.Text.{bytes}
+use Rattle.basics.specs.Text.{bytes}
 use Rattle.figures.specs.Numbers.{decimal}
 use Rattle.table_lines.specs.Table.{totalColumns}
 use Rattle.table_lines.proofs.ColumnParts.{total-start}
@@ -44,31 +44,40 @@ unfolding bytes
 at-unknowns c = going-on (going-two (begun (entry c))) (c .put-decimal-then .ensures)
 
 abbrev entry-2 : tie.After-put-decimal-then2 → tie.Start
-entry-2 c = entry (c .before .before .before .before .before)
+entry-2 c =
+    let earlier = c .before .before .before .before .before in
+    entry earlier
 
 at-noes : (c : tie.After-put-decimal-then2)
     → Left (entry-2 c) (noes (entry-2 c)) (c .put-decimal-then2 .last .1 .1 .0) (c .put-decimal-then2 .result)
 unfolding bytes
 at-noes c =
-    going-on (going-two (at-unknowns (c .before .before .before .before .before))) (c .put-decimal-then2 .ensures)
+    let earlier = c .before .before .before .before .before in
+    going-on (going-two (at-unknowns earlier)) (c .put-decimal-then2 .ensures)
 
 abbrev entry-3 : tie.After-put-decimal-then3 → tie.Start
-entry-3 c = entry-2 (c .before .before .before .before .before)
+entry-3 c =
+    let earlier = c .before .before .before .before .before in
+    entry-2 earlier
 
 at-patterns : (c : tie.After-put-decimal-then3)
     → Left (entry-3 c) (patterns (entry-3 c)) (c .put-decimal-then3 .last .1 .1 .0) (c .put-decimal-then3 .result)
 unfolding bytes
 at-patterns c =
-    going-on (going-two (at-noes (c .before .before .before .before .before))) (c .put-decimal-then3 .ensures)
+    let earlier = c .before .before .before .before .before in
+    going-on (going-two (at-noes earlier)) (c .put-decimal-then3 .ensures)
 
 abbrev entry-4 : tie.After-put-decimal-then4 → tie.Start
-entry-4 c = entry-3 (c .before .before .before .before .before)
+entry-4 c =
+    let earlier = c .before .before .before .before .before in
+    entry-3 earlier
 
 at-events : (c : tie.After-put-decimal-then4)
     → Left (entry-4 c) (events (entry-4 c)) (c .put-decimal-then4 .last .1 .1 .0) (c .put-decimal-then4 .result)
 unfolding bytes
 at-events c =
-    going-on (going-two (at-patterns (c .before .before .before .before .before))) (c .put-decimal-then4 .ensures)
+    let earlier = c .before .before .before .before .before in
+    going-on (going-two (at-patterns earlier)) (c .put-decimal-then4 .ensures)
 
 slice-aggregate-put-decimal-then : tie.Need-slice-aggregate-put-decimal-then
 slice-aggregate-put-decimal-then c = search needs
@@ -82,21 +91,27 @@ slice-aggregate-put-decimal-then-2 c = search needs
 
 put-decimal-then-requires-2 : tie.Need-put-decimal-then-requires-2
 unfolding bytes
-put-decimal-then-requires-2 c κs = going-room (going-two (at-unknowns (c .before .before .before .before)))
+put-decimal-then-requires-2 c κs =
+    let earlier = c .before .before .before .before in
+    going-room (going-two (at-unknowns earlier))
 
 slice-aggregate-put-decimal-then-3 : tie.Need-slice-aggregate-put-decimal-then-3
 slice-aggregate-put-decimal-then-3 c = search needs
 
 put-decimal-then-requires-3 : tie.Need-put-decimal-then-requires-3
 unfolding bytes
-put-decimal-then-requires-3 c κs = going-room (going-two (at-noes (c .before .before .before .before)))
+put-decimal-then-requires-3 c κs =
+    let earlier = c .before .before .before .before in
+    going-room (going-two (at-noes earlier))
 
 slice-aggregate-put-decimal-then-4 : tie.Need-slice-aggregate-put-decimal-then-4
 slice-aggregate-put-decimal-then-4 c = search needs
 
 put-decimal-then-requires-4 : tie.Need-put-decimal-then-requires-4
 unfolding bytes
-put-decimal-then-requires-4 c κs = going-room (going-two (at-patterns (c .before .before .before .before)))
+put-decimal-then-requires-4 c κs =
+    let earlier = c .before .before .before .before in
+    going-room (going-two (at-patterns earlier))
 
 put-decimal-requires : tie.Need-put-decimal-requires
 put-decimal-requires c κs = going-room (at-events (c .before .before .before))
@@ -107,7 +122,8 @@ same-length c = search needs
 returns : tie.Need-returns
 returns c =
     let ended = c .before .before in
-    going-end (going-on (at-events (ended .before .before .before .before)) (ended .put-decimal .ensures))
+    let earlier = ended .before .before .before .before in
+    going-end (going-on (at-events earlier) (ended .put-decimal .ensures))
 
 pub put-total-spec : {M : Type 1} → statement M
 put-total-spec =

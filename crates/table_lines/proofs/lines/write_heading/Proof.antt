@@ -1,6 +1,6 @@
 -- `write_heading` meets its contract.
 use borrow.Author.Needs.{needs}
-use Rattle.figures.specs.Text.{bytes}
+use Rattle.basics.specs.Text.{bytes}
 use Rattle.table_lines.specs.Table.{heading, headingLine}
 use Rattle.table_lines.proofs.lines.write_heading.Statement.{statement}
 use Rattle.table_lines.proofs.lines.write_heading.Tie as tie

@@ -35,7 +35,8 @@ class-of-spec =
     (λ c. of-keys Quote k₃ refl _ (c .match .keys3))
     (λ c.
     let outer = c .before .before .before in
-    of-range Digit 48 10 single refl _ (outer .before .before .before .before .match .rest) (omega arith) (omega arith))
+    let earlier = outer .before .before .before .before in
+    of-range Digit 48 10 single refl _ (earlier .match .rest) (omega arith) (omega arith))
     (λ c. of-range Other 0 9 single refl _ (c .before .before .match .rest) (omega arith) (omega arith))
     (λ c.
     let outer = c .before .before .before in
@@ -45,7 +46,8 @@ class-of-spec =
     of-range Other 42 6 single refl _ (outer .before .before .before .match .rest) (omega arith) (omega arith))
     (λ c.
     let outer = c .before .before .before in
-    of-range Other 58 2 single refl _ (outer .before .before .before .before .match .rest) (omega arith) (omega arith))
+    let earlier = outer .before .before .before .before in
+    of-range Other 58 2 single refl _ (earlier .match .rest) (omega arith) (omega arith))
     (λ c. of-range Other 64 1 single refl _ (c .before .before .before .match .rest) (omega arith) (omega arith))
     (λ c.
     let outer = c .before .before .before in

@@ -10,7 +10,7 @@ put-requires c κs =
     let timed = c .before .before .before in
     let marked = timed .before .before .before .before in
     let start = marked .before .before .before .before in
-    omega (arith, timed .put-word .ensures .next, marked .put-mark .ensures .next, word-length (start .args .time))
+    omega (arith, timed .put-word .ensures .next, marked .put-mark .ensures .next, word-length (start .args .time .0))
 
 returns : tie.Need-returns
 returns c =

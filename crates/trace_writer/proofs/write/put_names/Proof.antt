@@ -54,7 +54,8 @@ same-length c = put-length (c .before .loop .inv .1)
 
 returns : tie.Need-returns Inv-loop μ-loop
 returns c =
-    let e : c .before .loop .i ≡ c .before .before .before .before .args .k = omega arith in
+    let start = c .before .before .before .before in
+    let e : c .before .loop .i ≡ start .args .k = omega arith in
     rw e at (c .before .loop .inv .1)
 
 pub put-names-spec : {M : Type 1} → statement M

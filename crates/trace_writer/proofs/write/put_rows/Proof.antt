@@ -66,7 +66,8 @@ same-length c = put-length (c .before .loop .inv .2)
 
 returns : tie.Need-returns Inv-loop μ-loop
 returns c =
-    let e : c .before .loop .r ≡ c .before .before .before .before .before .args .n = omega arith in
+    let start = c .before .before .before .before .before in
+    let e : c .before .loop .r ≡ start .args .n = omega arith in
     rw e at (c .before .loop .inv .2)
 
 pub put-rows-spec : {M : Type 1} → statement M

@@ -35,7 +35,8 @@ if-two-requires-4 c κs = search needs
 returns-4 : tie.Need-returns-4
 unfolding pairKind
 returns-4 c =
-    rw (le-ltb _ _ (c .before .before .before .before .if1 .left), le-ltb _ _ (c .before .before .before .if2 .left))
+    let earlier = c .before .before .before .before in
+    rw (le-ltb _ _ (earlier .if1 .left), le-ltb _ _ (c .before .before .before .if2 .left))
     (rw (ne-eqb _ _ (c .before .before .if3 .left), eq-eqb _ _ (c .before .if4 .taken)) (c .if-two4 .ensures))
 
 returns-5 : tie.Need-returns-5

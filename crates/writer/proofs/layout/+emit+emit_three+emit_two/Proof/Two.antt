@@ -107,7 +107,8 @@ emit-two-closed t = emit-two-lts.spec (calls-emit-two t) (emit-two-at t) emit-tw
     let h = of-located t (of-left t (c .before .before .before) .before .before) .pre .1 in
     (h .low, h .high))
     (λ c κs.
-    let k = going-room (left t (c .before .before .before .before) .going) in
+    let earlier = c .before .before .before .before in
+    let k = going-room (left t earlier .going) in
     omega arith)
     (λ c.
     let l = of-left t (of-joined t (c .before .before)) .before .before in

@@ -1,0 +1,65 @@
+-- The queue of `dachsmond_empty_queue`: there is one; it keeps nothing; and a push may be handed it, so that the push
+-- of a good row by an accepted tree, or by accepted alternatives in lists, is done.
+--   empty-queue-unique                        there is one
+--   empty-queue-holds, empty-queue-keeps      no states; it may be handed to any push
+--   empty-queue-pushed, empty-queue-listed    the first push is done
+use Prim.Native.Nat.{ℕ, _*_}
+use native.Mathlib.Nat.{zero-mul}
+use mathlib.Core.Path.{_≡_, sym, ap, subst, _∙_}
+use mathlib.Core.List.{List, []}
+use lib.ListN.{length, take}
+use Rattle.alf.specs.declared.Sort.the-variants.{Vector}
+use Rattle.alf.proofs.Outcomes.{refused-passed}
+use Rattle.acceptance.specs.Accepted.{Accepted}
+use Rattle.states.specs.FirstBadCode.{Codes}
+use Rattle.queue.specs.Queues.{heldOf}
+use Rattle.update_calls.specs.Pushing.{RowFits, Keeps, Handed, pushOrder, Takes}
+use Rattle.call_laws.proofs.Routes.{holding-first, codes-passed}
+use Rattle.listed_calls.specs.Lists.{AcceptedAlternatives}
+use Rattle.listed_calls.specs.Listed as listed
+use Rattle.telling.specs.declared.Queue.{Queue}
+use Rattle.telling.specs.declared.Pushed.{Pushed}
+use Rattle.telling.specs.Handing.{Hands}
+use Rattle.telling.specs.Matching.{queueOf, Pushes, toldPush}
+use Rattle.telling.specs.Listed.{ListedPushes}
+use Rattle.dachsmond_laws.specs.Reliable.{EmptyQueue}
+use Rattle.dachsmond_laws.proofs.ReliableCalls.{push-reliable, listed-push-reliable}
+
+pub empty-queue-unique : (p q : Queue) → EmptyQueue p → EmptyQueue q → p ≡ q
+empty-queue-unique p q a b =
+    λ i. record { kept = (a .0 ∙ sym (b .0)) i; states = (a .1 ∙ sym (b .1)) i }
+
+module _ (q : Queue) (e : EmptyQueue q) where
+  pub empty-queue-holds : (names : ℕ) → heldOf names (queueOf q) ≡ []
+  unfolding queueOf
+  empty-queue-holds names =
+      ap (λ (j : ℕ). take (j * names) (q .states)) (e .0) ∙ ap (λ (j : ℕ). take j (q .states)) (zero-mul names)
+
+  pub empty-queue-keeps : (names k : ℕ) → Keeps names k (queueOf q)
+  unfolding queueOf
+  empty-queue-keeps names k =
+      let h = holding-first names k (queueOf q) (e .0) in record { few = h .few; codes = h .codes }
+
+  pub empty-queue-pushed : (names : ℕ) (tree row : List ℕ) (r : Pushed) → Accepted names Vector tree
+      → RowFits names (length row) → Codes row → Hands (Pushes names tree (queueOf q) row) toldPush r
+      → r .number ≡ 0
+  unfolding Takes
+  empty-queue-pushed names tree row r a f s h =
+      let handed : Handed names tree (queueOf q) = record { accepted = a; kept = empty-queue-keeps names _ } in
+      push-reliable names tree q row .done-zero h
+      (λ g d.
+      refused-passed (pushOrder names tree (queueOf q) row) _ _ (codes-passed row f handed s)
+      (subst (Pushes names tree (queueOf q) row) d (h .is-allowed) .comes .0))
+
+  pub empty-queue-listed : (names : ℕ) (tree steps tests edges operands row : List ℕ) (r : Pushed)
+      → AcceptedAlternatives names tree steps tests edges operands → RowFits names (length row) → Codes row
+      → Hands (ListedPushes names tree steps tests edges operands (queueOf q) row) toldPush r → r .number ≡ 0
+  unfolding listed.Takes
+  empty-queue-listed names tree steps tests edges operands row r a f s h =
+      let handed : listed.Handed names tree steps tests edges operands (queueOf q) =
+      record { accepted = a; kept = empty-queue-keeps names _ } in
+      listed-push-reliable names tree steps tests edges operands q row .done-zero h
+      (λ g d.
+      refused-passed (listed.pushOrder names tree steps tests edges operands (queueOf q) row) _ _
+      (codes-passed row f handed s)
+      (subst (ListedPushes names tree steps tests edges operands (queueOf q) row) d (h .is-allowed) .comes .0))

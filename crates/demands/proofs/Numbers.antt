@@ -1,0 +1,238 @@
+-- The numbers of the public calls (specs/Numbers): their orders have document 01's numbers, and no contract allows a
+-- refusal with another; each is a number of the table, from 1 to 19.
+--   one-passes         the law over a list: what each number of it passes, one among them passes
+--   numbers            the orders, by computation; that of trace writing by the number of rows
+--   by-order           a contract that tells a refusal by its order refuses with the order's numbers
+--   refused-numbers    the public calls
+use Prim.Native.Nat.{ℕ, zero, suc, _≤_, max}
+use mathlib.Core.Path.{_≡_, refl, sym, ap, subst, _∙_}
+use mathlib.Core.Bool.{Bool, true, false, _||_}
+use mathlib.Core.Logic.{_⊎_, inl, inr}
+use mathlib.Core.List.{List, [], _∷_, _++_}
+use lib.Dec.{eqb, leb}
+use lib.ListN.{length}
+use borrow.Author.Tests.{eqb-true, leb-true}
+use Rattle.basics.specs.declared.Refusal.{Refusal}
+use Rattle.basics.specs.Words.{all}
+use Rattle.basics.proofs.Bools.{never, and-left, and-right}
+use Rattle.alf.specs.declared.Sort.{Sort}
+use Rattle.alf.specs.States.{among}
+use Rattle.alf.specs.Refusals.{Row, Order, check, numbersOf, RefusedBy, Comes}
+use Rattle.alf.proofs.Outcomes.{refused-among}
+use Rattle.tokens.specs.Texts as tokens
+use Rattle.reader.specs.declared.Read.{Read}
+use Rattle.reader.specs.Reads.{made, refusedBy}
+use Rattle.reader.specs.Reading as texts
+use Rattle.writer.specs.Writing as writing
+use Rattle.trace_format.specs.declared.Mark.{Mark}
+use Rattle.trace_format.specs.declared.Mark.the-variants as mark
+use Rattle.trace_format.specs.Records.{contents, markedOrder, markHere}
+use Rattle.trace_reader.specs.Reading.{FileRefused, RoomRefused, roomOrder, Reads}
+use Rattle.trace_writer.specs.Writing as files
+use Rattle.changes.specs.Call as changes
+use Rattle.rewriting.specs.Calls as rewriting
+use Rattle.contradictions.specs.Calls as flagging
+use Rattle.row_calls.specs.Written.{Tells}
+use Rattle.matching_calls.specs.Matching.{Finds, Counts}
+use Rattle.update_calls.specs.Pushing as pushing
+use Rattle.listed_calls.specs.Listed as listed
+use Rattle.matching_calls.specs.Matching.{expression}
+use Rattle.tree_listings.specs.TreeTexts.{patternListing, totalsLine}
+use Rattle.demands.specs.Numbers.{traceNumbers, recordNumbers, roomNumbers, fileNumbers, rowByRow, inTable}
+use Rattle.demands.specs.Numbers.{Numbers, Refuses, RefusedNumbers}
+
+-- Lists of numbers.
+pub one-passes : (p : ℕ → Bool) (ns : List ℕ) (n : ℕ) → all p ns ≡ true → among n ns ≡ true → p n ≡ true
+unfolding all among
+one-passes p [] n a m = never m
+one-passes p (k ∷ ns) n a m =
+    go (eqb n k) refl (one-passes p ns n (and-right (p k) (all p ns) a)) m
+  where
+    go : (q : Bool) → eqb n k ≡ q → (among n ns ≡ true → p n ≡ true) → (q || among n ns) ≡ true → p n ≡ true
+    go true e f h = rw (eqb-true n k e) (and-left (p k) (all p ns) a)
+    go false e f h = f h
+
+numbers-both : (o o′ : Order) → numbersOf (o ++ o′) ≡ numbersOf o ++ numbersOf o′
+unfolding numbersOf
+numbers-both [] o′ = refl
+numbers-both (c ∷ o) o′ = ap (λ ns. c .number ∷ ns) (numbers-both o o′)
+
+-- Trace writing: row by row.
+one-more-row : (n : ℕ) → rowByRow n ++ (13 ∷ 15 ∷ []) ≡ rowByRow (suc n)
+unfolding rowByRow
+one-more-row zero = refl
+one-more-row (suc n) = ap (λ ns. 13 ∷ 15 ∷ ns) (one-more-row n)
+
+rows-numbers : (k : ℕ) (times states : List ℕ) (n : ℕ) → numbersOf (files.rowsOrder k times states n) ≡ rowByRow n
+unfolding numbersOf files.rowsOrder rowByRow
+rows-numbers k times states zero = refl
+rows-numbers k times states (suc n) =
+    numbers-both (files.rowsOrder k times states n) _
+    ∙ ap (λ ns. ns ++ (13 ∷ 15 ∷ [])) (rows-numbers k times states n)
+    ∙ one-more-row n
+
+rows-in-table : (n : ℕ) → all inTable (rowByRow n ++ (9 ∷ [])) ≡ true
+unfolding all inTable rowByRow
+rows-in-table zero = refl
+rows-in-table (suc n) = rows-in-table n
+
+-- A file's record, by its mark.
+record-numbers : (file : List ℕ) (k r : ℕ) (m : Mark) → numbersOf (markedOrder file k r m) ≡ recordNumbers m
+unfolding numbersOf contents recordNumbers
+record-numbers file k r mark.Name = refl
+record-numbers file k r mark.Row = refl
+record-numbers file k r mark.End = refl
+record-numbers file k r mark.Other = refl
+
+of-a-file : (m : Mark) → all (λ n. among n fileNumbers) (recordNumbers m) ≡ true
+unfolding all among recordNumbers
+of-a-file mark.Name = refl
+of-a-file mark.Row = refl
+of-a-file mark.End = refl
+of-a-file mark.Other = refl
+
+of-its-room : all (λ n. among n fileNumbers) roomNumbers ≡ true
+unfolding all among
+of-its-room = refl
+
+-- what is asked of a trace in lists, then 9
+trace-numbers : (names times states : List ℕ) (n : ℕ) (row : Row)
+    → numbersOf (files.listsOrder names times states n ++ (check 9 row ∷ [])) ≡ traceNumbers n
+unfolding numbersOf
+trace-numbers names times states n row =
+    ap (λ ns. 18 ∷ 12 ∷ ns)
+    (numbers-both (files.rowsOrder _ times states n) _
+    ∙ ap (λ ns. ns ++ (9 ∷ [])) (rows-numbers _ times states n))
+
+-- The orders of the public calls.
+pub numbers : Numbers
+unfolding numbersOf tokens.order texts.treeOrder writing.order rewriting.treeOrder rewriting.roomOrder
+    flagging.flagOrder
+numbers =
+    record {
+      check-names = λ names. refl;
+      read-expression = λ names text sort. refl;
+      write-expression = λ names tree sort room. refl;
+      read-record = λ file k r. record-numbers file k r (markHere file k r);
+      read-room = λ names times states k n. refl;
+      write-trace = λ names times states n room. trace-numbers names times states n _;
+      activity = λ names times states n room. trace-numbers names times states n _;
+      changes-at = λ names n states row. refl;
+      rewrite = λ names tree xs steps tests edges operands. refl;
+      contradictions = λ names tree xs flags. refl;
+      row-state = λ names n tree states row. refl;
+      values = λ names n tree states out. refl;
+      match-row = λ names n tree states row. refl;
+      match-all = λ names n tree states answers tried. refl;
+      totals = λ names n tree states. refl;
+      correct = λ names n tree states answers row new. refl;
+      push = λ names tree queue row. refl;
+      listed-match-row = λ names n tree steps tests edges operands states row. refl;
+      listed-match-all = λ names n tree steps tests edges operands states answers tried. refl;
+      listed-totals = λ names n tree steps tests edges operands states. refl;
+      listed-push = λ names tree steps tests edges operands queue row. refl;
+      listed-fits = λ names tree steps tests edges operands. refl;
+      list = λ names n tree times states text room. refl;
+      table-line = λ names n tree states text room. refl;
+      line = λ text room. refl;
+    }
+
+-- What a contract refuses.
+one-in-table : (ns : List ℕ) (n : ℕ) → all inTable ns ≡ true → among n ns ≡ true → (1 ≤ n) × (n ≤ 19)
+unfolding inTable
+one-in-table ns n a m =
+    let t = one-passes inTable ns n a m in
+    (leb-true 1 n (and-left (leb 1 n) _ t), leb-true n 19 (and-right (leb 1 n) _ t))
+
+module _ {R : Type 0} {refused : Refusal → R} {allows : R → Type 0} where
+  refuses : (ns : List ℕ) → all inTable ns ≡ true
+      → ((r : Refusal) → allows (refused r) → among (r .number) ns ≡ true) → Refuses refused allows ns
+  refuses ns a m = record { one-of = m; in-table = λ r x. one-in-table ns (r .number) a (m r x) }
+
+  pub by-order : (o : Order) {ns : List ℕ} → numbersOf o ≡ ns → all inTable ns ≡ true
+      → ((r : Refusal) → allows (refused r) → RefusedBy o r) → Refuses refused allows ns
+  by-order o {ns} e a reason =
+      refuses ns a (λ r x. ap (among (r .number)) (sym e) ∙ refused-among o (r .number) (r .place) (reason r x))
+
+-- the two calls that read tell their refusals in their own words
+text-refused : (names text : List ℕ) (sort : Sort) {x : Read} (r : Refusal) → texts.ReadsText names text sort x
+    → x ≡ refusedBy r → RefusedBy (texts.readOrder names text sort) r
+unfolding made refusedBy
+text-refused names text sort r (texts.refused n p h) e =
+    subst (RefusedBy (texts.readOrder names text sort)) (ap (λ (x : Read). x .refusal) e) h
+text-refused names text sort r (texts.read a g) e = never (ap (λ (x : Read). x .refused) e)
+
+file-refused : {file names times states : List ℕ} (n p : ℕ)
+    → FileRefused file n p ⊎ RoomRefused file names times states n p → among n fileNumbers ≡ true
+file-refused {file} n p (inl h) =
+    let m = markHere file (h .names) (h .rows) in
+    let order = markedOrder file (h .names) (h .rows) m in
+    one-passes (λ k. among k fileNumbers) (recordNumbers m) n (of-a-file m)
+    (ap (among n) (sym (numbers .read-record file (h .names) (h .rows))) ∙ refused-among order n p (h .refused))
+file-refused {file} {names} {times} {states} n p (inr h) =
+    let order = roomOrder names times states (h .k) (h .n) in
+    one-passes (λ k. among k fileNumbers) roomNumbers n of-its-room
+    (ap (among n) (sym (numbers .read-room names times states (h .k) (h .n))) ∙ refused-among order n p (h .refused))
+
+pub refused-numbers : RefusedNumbers
+unfolding all inTable Comes Reads changes.RowChanged Tells Finds Counts pushing.Takes listed.Takes
+refused-numbers =
+    record {
+      check-names = λ names. by-order _ (numbers .check-names names) refl (λ r x. x);
+      read-expression = λ names text sort.
+          by-order _ (numbers .read-expression names text sort) refl (λ r x. text-refused names text sort r x refl);
+      write-expression = λ names tree sort out out′.
+          by-order _ (numbers .write-expression names tree sort _) refl (λ r x. x .outcome);
+      read-trace = λ file names times states names′ times′ states′.
+          refuses fileNumbers refl (λ r x. file-refused (r .number) (r .place) (x .0));
+      write-trace = λ names times states n out out′.
+          by-order _ (numbers .write-trace names times states n _) (rows-in-table n) (λ r x. x .outcome);
+      activity = λ names times states n out out′.
+          by-order _ (numbers .activity names times states n _) (rows-in-table n) (λ r x. x .outcome);
+      changes-at = λ names n states row. by-order _ (numbers .changes-at names n states row) refl (λ r x. x);
+      rewrite = λ names tree steps tests edges operands steps′ tests′ edges′ operands′.
+          by-order _ (numbers .rewrite names tree _ steps tests edges operands) refl (λ r x. x .outcome);
+      contradictions = λ names tree flags flags′.
+          by-order _ (numbers .contradictions names tree _ flags) refl (λ r x. x .outcome);
+      row-state = λ names n tree states row.
+          by-order _ (numbers .row-state names n tree states row) refl (λ r x. x .comes);
+      row-value = λ names n tree states row.
+          by-order _ (numbers .row-state names n tree states row) refl (λ r x. x .comes);
+      values = λ names n tree states out out′.
+          by-order _ (numbers .values names n tree states out) refl (λ r x. x .comes);
+      row-answer = λ names n tree states row.
+          by-order _ (numbers .match-row names n tree states row) refl (λ r x. x .comes);
+      window-answer = λ names n tree states from to.
+          by-order _ (numbers .match-row names n tree states (max from to)) refl (λ r x. x .comes);
+      match-row = λ names n tree states row.
+          by-order _ (numbers .match-row names n tree states row) refl (λ r x. x .comes);
+      match-all = λ names n tree states answers tried answers′ tried′.
+          by-order _ (numbers .match-all names n tree states answers tried) refl (λ r x. x .comes);
+      totals = λ names n tree states. by-order _ (numbers .totals names n tree states) refl (λ r x. x .comes);
+      correct = λ names n tree states answers row new states′ answers′.
+          by-order _ (numbers .correct names n tree states answers row new) refl (λ r x. x .comes);
+      push = λ names tree queue row queue′.
+          by-order _ (numbers .push names tree queue row) refl (λ r x. x .comes .0);
+      listed-match-row = λ names n tree steps tests edges operands states row.
+          by-order _ (numbers .listed-match-row names n tree steps tests edges operands states row) refl
+          (λ r x. x .comes);
+      listed-match-all = λ names n tree steps tests edges operands states answers tried answers′ tried′.
+          by-order _ (numbers .listed-match-all names n tree steps tests edges operands states answers tried) refl
+          (λ r x. x .comes);
+      listed-totals = λ names n tree steps tests edges operands states.
+          by-order _ (numbers .listed-totals names n tree steps tests edges operands states) refl (λ r x. x .comes);
+      listed-push = λ names tree steps tests edges operands queue row queue′.
+          by-order _ (numbers .listed-push names tree steps tests edges operands queue row) refl
+          (λ r x. x .comes .0);
+      listed-fits = λ names tree steps tests edges operands.
+          by-order _ (numbers .listed-fits names tree steps tests edges operands) refl (λ r x. x .comes);
+      list = λ names n tree times states out out′.
+          by-order _
+          (numbers .list names n tree times states (patternListing names times states (expression tree names))
+          (length out)) refl (λ r x. x .comes);
+      table-line = λ names n tree states pattern out out′.
+          by-order _
+          (numbers .table-line names n tree states (totalsLine names n states pattern (expression tree names))
+          (length out)) refl (λ r x. x .comes);
+      line = λ text out out′. by-order _ (numbers .line text _) refl (λ r x. x .outcome);
+    }

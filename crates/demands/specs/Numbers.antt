@@ -1,0 +1,240 @@
+-- Document 01, "Numbers for refused work", the sentences behind the table: the numbers of each public call, in their
+-- order, and that whatever its contract refuses has one of them. The rows that belong to the numbers stand in the
+-- orders named here, which the contracts are made of.
+--   namesNumbers, .., lineNumbers   the numbers of a call's order
+--   rowByRow, recordNumbers         13 and 15 row by row; the numbers of a record of a file, by its mark
+--   inTable                         a number of the table: 1 to 19
+--   Numbers                         the orders of the public calls have these numbers
+--   Refuses                         a contract refuses with these numbers alone, all from 1 to 19
+--   RefusedNumbers                  so do the public calls
+use Prim.Native.Nat.{ℕ, zero, suc, _≤_}
+use mathlib.Core.Path.{_≡_}
+use mathlib.Core.Bool.{Bool, true, _&&_}
+use mathlib.Core.List.{List, [], _∷_, _++_}
+use lib.Dec.{leb}
+use lib.ListN.{length}
+use Rattle.basics.specs.declared.Refusal.{Refusal}
+use Rattle.basics.specs.declared.Outcome.the-variants.{Refused}
+use Rattle.alf.specs.declared.Sort.{Sort}
+use Rattle.alf.specs.declared.Sort.the-variants.{Boolean, Vector}
+use Rattle.alf.specs.States.{among}
+use Rattle.alf.specs.Alternatives.{Alternative}
+use Rattle.alf.specs.Refusals.{numbersOf}
+use Rattle.names.specs.Check.{namesOrder, ChecksNames}
+use Rattle.reader.specs.Reads.{refusedBy}
+use Rattle.reader.specs.Reading.{readOrder, ReadsText}
+use Rattle.writer.specs.Writing as writing
+use Rattle.trace_format.specs.declared.Mark.{Mark}
+use Rattle.trace_format.specs.declared.Mark.the-variants as mark
+use Rattle.trace_format.specs.Records.{recordOrder, markHere}
+use Rattle.trace_reader.specs.declared.Reading.the-variants as reading
+use Rattle.trace_reader.specs.Reading as traces
+use Rattle.trace_writer.specs.Writing as files
+use Rattle.changes.specs.declared.RowChanges.the-variants as row-changes
+use Rattle.changes.specs.Call as changes
+use Rattle.rewriting.specs.Calls as rewriting
+use Rattle.contradictions.specs.Calls as flagging
+use Rattle.queue.specs.declared.queues.Queue.{Queue}
+use Rattle.judging.specs.Orders as judging
+use Rattle.row_calls.specs.declared.written.Told.the-variants as told
+use Rattle.row_calls.specs.Written.{RowState, RowValue, AllValues, RowAnswer}
+use Rattle.row_calls.specs.Windows.{WindowAnswer}
+use Rattle.matching_calls.specs.declared.matching.Matching.the-variants as matching
+use Rattle.matching_calls.specs.declared.matching.Counting.the-variants as counting
+use Rattle.matching_calls.specs.Matching.{RowMatch, AllMatched, RowTotals}
+use Rattle.update_calls.specs.Correcting.{correctionOrder, Correction}
+use Rattle.update_calls.specs.Pushing.{pushOrder, Push}
+use Rattle.listed_calls.specs.Listed as listed
+use Rattle.listed_calls.specs.Fitting.{fitsOrder, ListedFits}
+use Rattle.tree_listings.specs.TreeTexts.{textOrder, ListsTree, LinesTree}
+use Rattle.activity.specs.Activity.{activityOrder, ListsActivity}
+use Rattle.figures.specs.Delivering.{lineOrder, Delivers}
+
+-- "Text: 18 and 12 for the name list, then 1 to 8. Writing: 18, 12, 10, 1, 9."
+abbrev pub namesNumbers : List ℕ
+namesNumbers = 18 ∷ 12 ∷ []
+
+abbrev pub textNumbers : List ℕ
+textNumbers = 18 ∷ 12 ∷ 1 ∷ 2 ∷ 3 ∷ 4 ∷ 5 ∷ 6 ∷ 7 ∷ 8 ∷ []
+
+abbrev pub writingNumbers : List ℕ
+writingNumbers = 18 ∷ 12 ∷ 10 ∷ 1 ∷ 9 ∷ []
+
+-- "Trace read: record by record; mark (cut short it is 14), then 14, then contents in file order; 9 last, for the first
+-- short one of names, times, states."
+unfoldable pub recordNumbers : Mark → List ℕ
+recordNumbers mark.Name = 14 ∷ 11 ∷ 14 ∷ 12 ∷ []
+recordNumbers mark.Row = 14 ∷ 11 ∷ 14 ∷ 13 ∷ 15 ∷ []
+recordNumbers mark.End = 14 ∷ 11 ∷ 14 ∷ 16 ∷ 17 ∷ []
+recordNumbers mark.Other = 14 ∷ 11 ∷ 14 ∷ []
+
+abbrev pub roomNumbers : List ℕ
+roomNumbers = 9 ∷ 9 ∷ 9 ∷ []
+
+abbrev pub fileNumbers : List ℕ
+fileNumbers = 11 ∷ 12 ∷ 13 ∷ 14 ∷ 15 ∷ 16 ∷ 17 ∷ 9 ∷ []
+
+-- "Trace writing: 18, 12, then 13 and 15 row by row, 9."
+unfoldable pub rowByRow : ℕ → List ℕ
+rowByRow zero = []
+rowByRow (suc n) = 13 ∷ 15 ∷ rowByRow n
+
+abbrev pub traceNumbers : ℕ → List ℕ
+traceNumbers n = 18 ∷ 12 ∷ (rowByRow n ++ (9 ∷ []))
+
+-- "Totals, matching, rewriting, queue, correction, changes of a row: 18, 10, 15 (trace, then new row), 19; for
+-- rewriting 9 last, first short output."
+abbrev pub rowsNumbers : List ℕ
+rowsNumbers = 18 ∷ 10 ∷ 15 ∷ []
+
+abbrev pub rowNumbers : List ℕ
+rowNumbers = 18 ∷ 10 ∷ 15 ∷ 19 ∷ []
+
+abbrev pub correctionNumbers : List ℕ
+correctionNumbers = 18 ∷ 10 ∷ 15 ∷ 15 ∷ 19 ∷ []
+
+abbrev pub changesNumbers : List ℕ
+changesNumbers = 18 ∷ 15 ∷ 19 ∷ []
+
+abbrev pub rewritingNumbers : List ℕ
+rewritingNumbers = 18 ∷ 10 ∷ 9 ∷ 9 ∷ 9 ∷ 9 ∷ []
+
+abbrev pub flagNumbers : List ℕ
+flagNumbers = 18 ∷ 10 ∷ 9 ∷ []
+
+-- the listing and a pattern's line of the table, by a tree; whether lists are accepted; any other line of the table
+abbrev pub textNumbersOfTree : List ℕ
+textNumbersOfTree = 18 ∷ 10 ∷ 15 ∷ 9 ∷ []
+
+abbrev pub fitsNumbers : List ℕ
+fitsNumbers = 18 ∷ 10 ∷ []
+
+abbrev pub lineNumbers : List ℕ
+lineNumbers = 9 ∷ []
+
+-- The orders of the calls have these numbers. `row-state` is also the order of `row-value`; `match-row` that of
+-- `row-answer` and, at the later of its two rows, of `window-answer`.
+pub record Numbers : Type 0 where
+  pub check-names : (names : List ℕ) → numbersOf (namesOrder names) ≡ namesNumbers
+  pub read-expression : (names text : List ℕ) (sort : Sort) → numbersOf (readOrder names text sort) ≡ textNumbers
+  pub write-expression : (names tree : List ℕ) (sort : Sort) (room : ℕ)
+      → numbersOf (writing.order names tree sort room) ≡ writingNumbers
+  pub read-record : (file : List ℕ) (k r : ℕ)
+      → numbersOf (recordOrder file k r) ≡ recordNumbers (markHere file k r)
+  pub read-room : (names times states : List ℕ) (k n : ℕ)
+      → numbersOf (traces.roomOrder names times states k n) ≡ roomNumbers
+  pub write-trace : (names times states : List ℕ) (n room : ℕ)
+      → numbersOf (files.writeOrder names times states n room) ≡ traceNumbers n
+  pub activity : (names times states : List ℕ) (n room : ℕ)
+      → numbersOf (activityOrder names times states n room) ≡ traceNumbers n
+  pub changes-at : (names n : ℕ) (states : List ℕ) (row : ℕ)
+      → numbersOf (changes.order names n states row) ≡ changesNumbers
+  pub rewrite : (names : ℕ) (tree : List ℕ) (xs : List Alternative) (steps tests edges operands : List ℕ)
+      → numbersOf (rewriting.treeOrder names tree (rewriting.roomOrder xs steps tests edges operands))
+      ≡ rewritingNumbers
+  pub contradictions : (names : ℕ) (tree : List ℕ) (xs : List Alternative) (flags : List ℕ)
+      → numbersOf (rewriting.treeOrder names tree (flagging.flagOrder names xs flags)) ≡ flagNumbers
+  pub row-state : (names n : ℕ) (tree states : List ℕ) (row : ℕ)
+      → numbersOf (judging.rowOrder names n tree Boolean states row) ≡ rowNumbers
+  pub values : (names n : ℕ) (tree states out : List ℕ)
+      → numbersOf (judging.rowsOrder names n (length out ≡ n) tree Boolean states) ≡ rowsNumbers
+  pub match-row : (names n : ℕ) (tree states : List ℕ) (row : ℕ)
+      → numbersOf (judging.rowOrder names n tree Vector states row) ≡ rowNumbers
+  pub match-all : (names n : ℕ) (tree states answers tried : List ℕ)
+      → numbersOf (judging.rowsOrder names n ((length answers ≡ n) × (length tried ≡ n)) tree Vector states)
+      ≡ rowsNumbers
+  pub totals : (names n : ℕ) (tree states : List ℕ)
+      → numbersOf (judging.traceOrder names n tree Vector states) ≡ rowsNumbers
+  pub correct : (names n : ℕ) (tree states answers : List ℕ) (row : ℕ) (new : List ℕ)
+      → numbersOf (correctionOrder names n tree states answers row new) ≡ correctionNumbers
+  pub push : (names : ℕ) (tree : List ℕ) (queue : Queue) (row : List ℕ)
+      → numbersOf (pushOrder names tree queue row) ≡ rowsNumbers
+  pub listed-match-row : (names n : ℕ) (tree steps tests edges operands states : List ℕ) (row : ℕ)
+      → numbersOf (listed.rowOrder names n tree steps tests edges operands states row) ≡ rowNumbers
+  pub listed-match-all : (names n : ℕ) (tree steps tests edges operands states answers tried : List ℕ)
+      → numbersOf (listed.rowsOrder names n tree steps tests edges operands states
+      (((length answers ≡ n) × (length tried ≡ n)) × judging.Rows names n (length states))) ≡ rowsNumbers
+  pub listed-totals : (names n : ℕ) (tree steps tests edges operands states : List ℕ)
+      → numbersOf (listed.rowsOrder names n tree steps tests edges operands states
+      (judging.Rows names n (length states))) ≡ rowsNumbers
+  pub listed-push : (names : ℕ) (tree steps tests edges operands : List ℕ) (queue : Queue) (row : List ℕ)
+      → numbersOf (listed.pushOrder names tree steps tests edges operands queue row) ≡ rowsNumbers
+  pub listed-fits : (names : ℕ) (tree steps tests edges operands : List ℕ)
+      → numbersOf (fitsOrder names tree steps tests edges operands) ≡ fitsNumbers
+  pub list : (names n : ℕ) (tree times states text : List ℕ) (room : ℕ)
+      → numbersOf
+      (textOrder ((length times ≡ n) × judging.Rows names n (length states)) names tree states text room)
+      ≡ textNumbersOfTree
+  pub table-line : (names n : ℕ) (tree states text : List ℕ) (room : ℕ)
+      → numbersOf (textOrder (judging.Rows names n (length states)) names tree states text room)
+      ≡ textNumbersOfTree
+  pub line : (text : List ℕ) (room : ℕ) → numbersOf (lineOrder text room) ≡ lineNumbers
+
+-- a number of the table
+unfoldable pub inTable : ℕ → Bool
+inTable n = leb 1 n && leb n 19
+
+-- whatever is refused is refused with one of these numbers, and they are numbers of the table
+pub record Refuses {R : Type 0} (refused : Refusal → R) (allows : R → Type 0) (numbers : List ℕ) : Type 0 where
+  pub one-of : (r : Refusal) → allows (refused r) → among (r .number) numbers ≡ true
+  pub in-table : (r : Refusal) → allows (refused r) → (1 ≤ r .number) × (r .number ≤ 19)
+
+-- The public calls refuse with these numbers alone. A list with a prime is memory at exit.
+pub record RefusedNumbers : Type 0 where
+  pub check-names : (names : List ℕ) → Refuses Refused (ChecksNames names) namesNumbers
+  pub read-expression : (names text : List ℕ) (sort : Sort) → Refuses refusedBy (ReadsText names text sort) textNumbers
+  pub write-expression : (names tree : List ℕ) (sort : Sort) (out out′ : List ℕ)
+      → Refuses Refused (writing.Writes names tree sort out out′) writingNumbers
+  pub read-trace : (file names times states names′ times′ states′ : List ℕ)
+      → Refuses reading.Refused (traces.Reads file names times states names′ times′ states′) fileNumbers
+  pub write-trace : (names times states : List ℕ) (n : ℕ) (out out′ : List ℕ)
+      → Refuses Refused (files.Writes names times states n out out′) (traceNumbers n)
+  pub activity : (names times states : List ℕ) (n : ℕ) (out out′ : List ℕ)
+      → Refuses Refused (ListsActivity names times states n out out′) (traceNumbers n)
+  pub changes-at : (names n : ℕ) (states : List ℕ) (row : ℕ)
+      → Refuses row-changes.Refused (changes.RowChanged names n states row) changesNumbers
+  pub rewrite : (names : ℕ) (tree steps tests edges operands steps′ tests′ edges′ operands′ : List ℕ)
+      → Refuses Refused (rewriting.Rewrites names tree steps tests edges operands steps′ tests′ edges′ operands′)
+      rewritingNumbers
+  pub contradictions : (names : ℕ) (tree flags flags′ : List ℕ)
+      → Refuses Refused (flagging.Contradicts names tree flags flags′) flagNumbers
+  pub row-state : (names n : ℕ) (tree states : List ℕ) (row : ℕ)
+      → Refuses Refused (RowState names n tree states row) rowNumbers
+  pub row-value : (names n : ℕ) (tree states : List ℕ) (row : ℕ)
+      → Refuses Refused (RowValue names n tree states row) rowNumbers
+  pub values : (names n : ℕ) (tree states out out′ : List ℕ)
+      → Refuses Refused (AllValues names n tree states out out′) rowsNumbers
+  pub row-answer : (names n : ℕ) (tree states : List ℕ) (row : ℕ)
+      → Refuses told.Refused (RowAnswer names n tree states row) rowNumbers
+  pub window-answer : (names n : ℕ) (tree states : List ℕ) (from to : ℕ)
+      → Refuses told.Refused (WindowAnswer names n tree states from to) rowNumbers
+  pub match-row : (names n : ℕ) (tree states : List ℕ) (row : ℕ)
+      → Refuses matching.Refused (RowMatch names n tree states row) rowNumbers
+  pub match-all : (names n : ℕ) (tree states answers tried answers′ tried′ : List ℕ)
+      → Refuses Refused (AllMatched names n tree states answers tried answers′ tried′) rowsNumbers
+  pub totals : (names n : ℕ) (tree states : List ℕ)
+      → Refuses counting.Refused (RowTotals names n tree states) rowsNumbers
+  pub correct : (names n : ℕ) (tree states answers : List ℕ) (row : ℕ) (new states′ answers′ : List ℕ)
+      → Refuses Refused (Correction names n tree states answers row new states′ answers′) correctionNumbers
+  pub push : (names : ℕ) (tree : List ℕ) (queue : Queue) (row : List ℕ) (queue′ : Queue)
+      → Refuses matching.Refused (λ r. Push names tree queue row r queue′) rowsNumbers
+  pub listed-match-row : (names n : ℕ) (tree steps tests edges operands states : List ℕ) (row : ℕ)
+      → Refuses matching.Refused (listed.ListedMatch names n tree steps tests edges operands states row) rowNumbers
+  pub listed-match-all :
+      (names n : ℕ) (tree steps tests edges operands states answers tried answers′ tried′ : List ℕ) →
+      Refuses Refused
+      (listed.ListedAll names n tree steps tests edges operands states answers tried answers′ tried′)
+      rowsNumbers
+  pub listed-totals : (names n : ℕ) (tree steps tests edges operands states : List ℕ)
+      → Refuses counting.Refused (listed.ListedTotals names n tree steps tests edges operands states) rowsNumbers
+  pub listed-push : (names : ℕ) (tree steps tests edges operands : List ℕ) (queue : Queue) (row : List ℕ)
+      (queue′ : Queue)
+      → Refuses matching.Refused (λ r. listed.ListedPush names tree steps tests edges operands queue row r queue′)
+      rowsNumbers
+  pub listed-fits : (names : ℕ) (tree steps tests edges operands : List ℕ)
+      → Refuses Refused (ListedFits names tree steps tests edges operands) fitsNumbers
+  pub list : (names n : ℕ) (tree times states out out′ : List ℕ)
+      → Refuses Refused (ListsTree names n tree times states out out′) textNumbersOfTree
+  pub table-line : (names n : ℕ) (tree states pattern out out′ : List ℕ)
+      → Refuses Refused (LinesTree names n tree states pattern out out′) textNumbersOfTree
+  pub line : (text out out′ : List ℕ) → Refuses Refused (Delivers text out out′) lineNumbers

@@ -1,0 +1,141 @@
+-- A call by lists that are accepted, and that stand for the alternatives of an accepted tree, comes to what the call
+-- by the tree comes to: the same refusals, the same answers, the same memory.
+--   passed-same, refused-same                      the orders of the calls, where 10 is asked in another way
+--   match-same, all-same, totals-same, push-same
+use Prim.Native.Nat.{ℕ}
+use mathlib.Core.Path.{_≡_, ap, _∙_}
+use mathlib.Core.Logic.{inl, inr}
+use mathlib.Core.List.{List}
+use Rattle.basics.specs.declared.Refusal.{Refusal}
+use Rattle.basics.specs.declared.Outcome.{Outcome}
+use Rattle.basics.specs.declared.Outcome.the-variants as outcome
+use Rattle.basics.specs.Memory.{after}
+use Rattle.basics.specs.Words.{listed}
+use Rattle.alf.specs.declared.Answer.{Answer}
+use Rattle.alf.specs.declared.Sort.the-variants.{Vector}
+use Rattle.alf.specs.Values.{stateAt}
+use Rattle.alf.specs.Alternatives.{Alternative, alternatives, tries, stepsOf, answerOf}
+use Rattle.alf.specs.Refusals.{Order, RefusedWith, RefusedBy, Passed, Comes}
+use Rattle.acceptance.specs.Accepted.{Accepted}
+use Rattle.alternatives.specs.InMemory.{alternativesOf, longestOf}
+use Rattle.matcher.specs.Answers.{Matches}
+use Rattle.matcher.proofs.Agreement.{matches-windows, totals-windows}
+use Rattle.queue.specs.declared.queues.Queue.{Queue}
+use Rattle.queue.specs.Queues.{Pushes}
+use Rattle.judging.specs.Orders.{order}
+use Rattle.matching_calls.specs.declared.matching.Matching.{Matching}
+use Rattle.matching_calls.specs.declared.matching.Matching.the-variants.{Found, Refused}
+use Rattle.matching_calls.specs.declared.matching.Counting.{Counting}
+use Rattle.matching_calls.specs.declared.matching.Counting.the-variants as counting
+use Rattle.matching_calls.specs.Matching.{expression, MatchesTree, Finds, RowMatch, AllMatched, Counts, RowTotals}
+use Rattle.matching_calls.proofs.ByAlternatives.{answers-on}
+use Rattle.update_calls.specs.Pushing.{PushesTree, Push}
+use Rattle.update_calls.specs.Pushing as pushing
+use Rattle.listed_calls.specs.Lists.{AcceptedAlternatives}
+use Rattle.listed_calls.specs.Listed.{ListedMatch, ListedAll, ListedTotals, Handed, Takes, ListedPush}
+
+-- the orders of the calls: 10 for one thing, or for another that is as good
+module _ (L : Type 0) {P Q : Type 0} (rest : Order) (to : P → Q) (back : Q → P) where
+  passed-same : Passed (order L P rest) → Passed (order L Q rest)
+  unfolding Passed
+  passed-same (l, (t, r)) =
+      (l, ((λ p a. t p (record { given = λ x. a .given (to x); there = a .there })), r))
+
+  refused-same : (r : Refusal) → RefusedBy (order L P rest) r → RefusedBy (order L Q rest) r
+  unfolding RefusedWith
+  refused-same r (inl x) = inl x
+  refused-same r (inr (n, inl (e, a))) =
+      inr (n, inl (e, record { given = λ q. a .given (back q); there = a .there }))
+  refused-same r (inr (n, inr (t, x))) =
+      inr (n, inr ((λ p a. t p (record { given = λ y. a .given (to y); there = a .there })), x))
+
+module _ {names : ℕ} {tree steps tests edges operands : List ℕ} (accepted : Accepted names Vector tree)
+    (lists : AcceptedAlternatives names tree steps tests edges operands)
+    (stand : alternativesOf tree names steps tests edges operands ≡ alternatives (expression tree names)) where
+  abbrev xs : List Alternative
+  xs = alternativesOf tree names steps tests edges operands
+
+  to-tree : AcceptedAlternatives names tree steps tests edges operands → Accepted names Vector tree
+  to-tree x = accepted
+
+  to-lists : Accepted names Vector tree → AcceptedAlternatives names tree steps tests edges operands
+  to-lists x = lists
+
+  matches-tree : {states : List ℕ} {row t : ℕ} {answer : Answer} → Matches (stateAt names states) xs row answer t
+      → MatchesTree names tree states row answer t
+  matches-tree {states} {row} m =
+      record {
+        is = matches-windows (stateAt names states) (expression tree names) stand m;
+        count = m .count ∙ ap (λ (ys : List Alternative). tries (stateAt names states) ys row) stand;
+      }
+
+  module _ {n : ℕ} {states : List ℕ} where
+    pub match-same : {row : ℕ} (r : Matching) → ListedMatch names n tree steps tests edges operands states row r
+        → RowMatch names n tree states row r
+    unfolding Finds
+    match-same (Found m) w =
+        record { comes = (passed-same _ _ to-tree to-lists (w .comes .0), matches-tree (w .comes .1)) }
+    match-same (Refused r) w = record { comes = refused-same _ _ to-tree to-lists r (w .comes) }
+
+    pub totals-same : (r : Counting) → ListedTotals names n tree steps tests edges operands states r
+        → RowTotals names n tree states r
+    unfolding Counts
+    totals-same (counting.Counted t) w =
+        record {
+          comes = (
+            passed-same _ _ to-tree to-lists (w .comes .0),
+            totals-windows (stateAt names states) (expression tree names) stand (w .comes .1),
+          );
+        }
+    totals-same (counting.Refused r) w = record { comes = refused-same _ _ to-tree to-lists r (w .comes) }
+
+    pub all-same : {answers tried answers′ tried′ : List ℕ} (r : Outcome)
+        → ListedAll names n tree steps tests edges operands states answers tried answers′ tried′ r
+        → AllMatched names n tree states answers tried answers′ tried′ r
+    unfolding Comes after
+    all-same (outcome.Done k) w =
+        record {
+          comes = (passed-same _ _ to-tree to-lists (w .comes .0), w .comes .1);
+          answers-memory =
+              w .answers-memory
+              ∙ ap (λ (ys : List Alternative). listed 0 n (answerOf (stateAt names states) ys)) stand
+              ∙ ap (λ (g : ℕ → ℕ). listed 0 n g) (answers-on names tree states);
+          tried-memory =
+              w .tried-memory
+              ∙ ap (λ (ys : List Alternative). listed 0 n (tries (stateAt names states) ys)) stand;
+        }
+    all-same (outcome.Refused r) w =
+        record {
+          comes = refused-same _ _ to-tree to-lists r (w .comes);
+          answers-memory = w .answers-memory;
+          tried-memory = w .tried-memory;
+        }
+
+  -- a push
+  longest-same : longestOf xs ≡ stepsOf (expression tree names)
+  unfolding stepsOf
+  longest-same = ap longestOf stand
+
+  module _ {q : Queue} where
+    handed-tree : Handed names tree steps tests edges operands q → pushing.Handed names tree q
+    handed-tree h = record { accepted = accepted; kept = rw longest-same at (h .kept) }
+
+    handed-lists : pushing.Handed names tree q → Handed names tree steps tests edges operands q
+    handed-lists h = record { accepted = lists; kept = rw longest-same (h .kept) }
+
+    pushes-tree : {q′ : Queue} {row : List ℕ} {t : ℕ} {answer : Answer} → Pushes names xs q row answer t q′
+        → PushesTree names tree q row answer t q′
+    pushes-tree p =
+        record {
+          matched = matches-tree (p .matched);
+          kept = rw longest-same at (p .kept);
+          states = rw longest-same at (p .states);
+        }
+
+    pub push-same : {row : List ℕ} {q′ : Queue} (z : Matching)
+        → ListedPush names tree steps tests edges operands q row z q′ → Push names tree q row z q′
+    unfolding Takes pushing.Takes
+    push-same (Found m) w =
+        record { comes = (passed-same _ _ handed-tree handed-lists (w .comes .0), pushes-tree (w .comes .1)) }
+    push-same (Refused r) w =
+        record { comes = (refused-same _ _ handed-tree handed-lists r (w .comes .0), w .comes .1) }

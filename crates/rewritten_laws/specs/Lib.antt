@@ -1,0 +1,2 @@
+-- The lists that `rewrite` writes, as its caller has them.
+pub mod WrittenOut

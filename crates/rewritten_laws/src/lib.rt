@@ -1,0 +1,1 @@
+// What `rewrite` writes, handed to the calls that take alternatives as lists: nothing but proofs.

@@ -1,0 +1,65 @@
+-- What the texts of a tree come to.
+--   list-unique, line-unique    result and buffer afterwards follow from the input
+--   pattern-totals              the last line's numbers are the pattern's totals: how many of the rows answer yes, no
+--                               and unknown
+use Prim.Native.Nat.{ℕ}
+use mathlib.Core.Path.{_≡_, refl, sym, _∙_}
+use mathlib.Core.List.{List, [], _∷_}
+use lib.ListN.{length}
+use Rattle.basics.specs.declared.Outcome.{Outcome}
+use Rattle.basics.specs.Words.{listed}
+use Rattle.basics.specs.Text.{bytes, joined}
+use Rattle.basics.proofs.Memory.{after-unique}
+use Rattle.alf.specs.Expressions.{Vector}
+use Rattle.alf.specs.Values.{stateAt}
+use Rattle.alf.specs.Windows.{rowAnswer}
+use Rattle.alf.specs.Traces.{total}
+use Rattle.alf.specs.Refusals.{Comes}
+use Rattle.alf.proofs.Outcomes.{AllFixed, at-fixed, first-fixed, comes-unique}
+use Rattle.matching_calls.specs.Matching.{expression}
+use Rattle.listing.specs.declared.lines.Column.the-variants.{Answers}
+use Rattle.listing.specs.Listing.{lines, lastLine, listing}
+use Rattle.listing.proofs.Theorems.{listed-totals}
+use Rattle.tree_listings.specs.TreeTexts.{patternListing, totalsLine, textOrder, ListsTree, LinesTree}
+
+-- an outcome by such an order is one
+text-unique : (lists : Type 0) (names : ℕ) (tree states text : List ℕ) (room : ℕ) (r s : Outcome)
+    → Comes (textOrder lists names tree states text room) (λ m. m ≡ length text) r
+    → Comes (textOrder lists names tree states text room) (λ m. m ≡ length text) s
+    → r ≡ s
+text-unique lists names tree states text room r s a b =
+    let f : AllFixed (textOrder lists names tree states text room) =
+    (at-fixed _ _, (at-fixed _ _, (first-fixed _, (at-fixed _ _, tt)))) in
+    comes-unique (textOrder lists names tree states text room) _ f (λ j k p q. p ∙ sym q) r s a b
+
+module _ {names n : ℕ} {tree states out x y : List ℕ} {r s : Outcome} where
+  pub list-unique : {times : List ℕ} → ListsTree names n tree times states out x r
+      → ListsTree names n tree times states out y s
+      → (r ≡ s) × (x ≡ y)
+  list-unique {times} a b =
+      let shown = patternListing names times states (expression tree names) in
+      let e = text-unique _ names tree states shown (length out) r s (a .comes) (b .comes) in
+      (e, after-unique _ out e (a .memory) (b .memory))
+
+  pub line-unique : {shown : List ℕ} → LinesTree names n tree states shown out x r
+      → LinesTree names n tree states shown out y s
+      → (r ≡ s) × (x ≡ y)
+  line-unique {shown} a b =
+      let line = totalsLine names n states shown (expression tree names) in
+      let e = text-unique _ names tree states line (length out) r s (a .comes) (b .comes) in
+      (e, after-unique _ out e (a .memory) (b .memory))
+
+-- the listing of a pattern, its last line by the totals
+pub pattern-totals : (k : ℕ) (times states : List ℕ) (p : Vector)
+    → patternListing k times states p
+    ≡ joined
+    (bytes "time answer\n"
+    ∷ lines Answers times (listed 0 (length times) (rowAnswer (stateAt k states) p))
+    ∷ lastLine (total (stateAt k states) p (length times) 1) (total (stateAt k states) p (length times) 0)
+    (total (stateAt k states) p (length times) 2)
+    ∷ [])
+unfolding patternListing listing
+pattern-totals k times states p =
+    let st = stateAt k states in
+    let n = length times in
+    rw (listed-totals st p n 1, listed-totals st p n 0, listed-totals st p n 2) refl
