@@ -12,11 +12,11 @@ use Rattle.basics.specs.Words.{if_then_else_, listed}
 use Rattle.basics.proofs.Bools.{never, below?}
 use Rattle.basics.proofs.Counts.{count-small}
 use Rattle.basics.proofs.PartByPart.{flat}
-use Rattle.alf.specs.Names.{isName, nameAt}
+use Rattle.alf.specs.Names.{namesIn, isName, nameAt}
 use Rattle.alf.specs.Values.{rowOf}
 use Rattle.alf.specs.Traces.{changed, changeCount}
 use Rattle.names.proofs.Names.{name-long}
-use Rattle.trace_format.specs.Format.{count, Trace}
+use Rattle.trace_format.specs.Format.{Trace}
 use Rattle.basics.specs.Text.{bytes, joined}
 use Rattle.figures.specs.Numbers.{decimal}
 use Rattle.figures.proofs.Digits.{width-most, decimal-length}
@@ -49,26 +49,26 @@ member-few names set i h = go (set i)
     go false = omega arith
 
 module _ {names times states : List ℕ} {n : ℕ} (t : Trace names times states n) where
-  members-few : (set : ℕ → Bool) → length (members names (count names) set) ≤ count names * 33
+  members-few : (set : ℕ → Bool) → length (members names (namesIn names) set) ≤ namesIn names * 33
   unfolding members
   members-few set =
-      parts-few (member names set) 33 0 (count names)
+      parts-few (member names set) 33 0 (namesIn names)
       (λ i h. member-few names set i (name-few (nameAt names i) (t .good i (omega arith) .named)))
 
-  head-few : length (headLine names (count names)) ≤ 1069
+  head-few : length (headLine names (namesIn names)) ≤ 1069
   unfolding headLine joined bytes
   head-few =
       omega (
         arith,
         members-few (λ i. true),
         t .slots .few,
-        length-append (members names (count names) (λ i. true)) (bytes " changed\n"),
+        length-append (members names (namesIn names) (λ i. true)) (bytes " changed\n"),
       )
 
-  row-few : (r : ℕ) → length (rowLine names (count names) states (getD times r 0) r) ≤ 1134
+  row-few : (r : ℕ) → length (rowLine names (namesIn names) states (getD times r 0) r) ≤ 1134
   unfolding rowLine joined changeCount
   row-few r =
-      let k = count names in
+      let k = namesIn names in
       omega (
         arith,
         line-length (decimal (getD times r 0)) (letters k (rowOf k states r)) (decimal (changeCount k states r))
@@ -87,8 +87,8 @@ module _ {names times states : List ℕ} {n : ℕ} (t : Trace names times states
   activity-fits =
       omega (
         arith,
-        length-append (headLine names (count names)) (rowLines names (count names) times states n),
+        length-append (headLine names (namesIn names)) (rowLines names (namesIn names) times states n),
         head-few,
-        parts-few (λ r. rowLine names (count names) states (getD times r 0) r) 1134 0 n (λ r h. row-few r),
+        parts-few (λ r. rowLine names (namesIn names) states (getD times r 0) r) 1134 0 n (λ r h. row-few r),
         t .lists .few,
       )

@@ -19,11 +19,10 @@ use lib.ListN.{length, getD}
 use Rattle.basics.specs.declared.Outcome.{Outcome}
 use Rattle.basics.specs.Words.{if_then_else_, listed}
 use Rattle.basics.specs.Memory.{after, front}
-use Rattle.alf.specs.Names.{nameAt}
+use Rattle.alf.specs.Names.{namesIn, nameAt}
 use Rattle.alf.specs.Refusals.{Order, Comes}
 use Rattle.alf.specs.Traces.{changed, changeCount}
 use Rattle.alf.specs.Values.{rowOf}
-use Rattle.trace_format.specs.Format.{count}
 use Rattle.trace_writer.specs.Writing.{listsOrder}
 use Rattle.basics.specs.Text.{bytes, joined}
 use Rattle.figures.specs.Numbers.{decimal}
@@ -58,7 +57,7 @@ rowLines names k times states n = joined (listed 0 n (λ r. rowLine names k stat
 
 unfoldable pub activityText : List ℕ → List ℕ → List ℕ → ℕ → List ℕ
 activityText names times states n =
-    headLine names (count names) ++ rowLines names (count names) times states n
+    headLine names (namesIn names) ++ rowLines names (namesIn names) times states n
 
 -- as for writing a trace: 18, 12, then 13 and 15 row by row, 9
 abbrev pub activityOrder : List ℕ → List ℕ → List ℕ → ℕ → ℕ → Order

@@ -1,8 +1,9 @@
 -- Document 01, "Text": what is a name, and a list of names as slots of 32 bytes, zero-filled behind the name.
 --   between, isLetter, isDecimal, startsName, goesOnName, isName     bytes of names, and names
+--   namesIn                              how many names a list has
 --   slot, untilZero, nameAt, slotOf      a slot of a list, the name in it, a name as a slot
 --   GoodSlot                             a slot that passes refusal 12
-use Prim.Native.Nat.{ℕ, _+_, _*_, _<_}
+use Prim.Native.Nat.{ℕ, _+_, _*_, _/_, _<_}
 use mathlib.Core.Bool.{Bool, true, false, _&&_, _||_}
 use mathlib.Core.Path.{_≡_}
 use mathlib.Core.List.{List, [], _∷_, _++_}
@@ -30,6 +31,10 @@ goesOnName b = startsName b || isDecimal b
 unfoldable pub isName : List ℕ → Bool
 isName [] = false
 isName (b ∷ bs) = startsName b && (all goesOnName bs && ltb (length bs) 32)
+
+-- how many names a list has
+abbrev pub namesIn : List ℕ → ℕ
+namesIn names = length names / 32
 
 -- slot k of a list of names, and the name in a slot: the bytes before its first zero
 unfoldable pub slot : List ℕ → ℕ → List ℕ

@@ -12,12 +12,12 @@ use lib.Seq.{drop-cons}
 use mir.Val.{Fits}
 use mir.Syntax.{w64}
 use borrow.Author.Tests.{ne-eqb}
+use Rattle.alf.specs.Names.{namesIn}
 use Rattle.alf.specs.Alternatives.{Test, Alternative}
 use Rattle.alternatives.specs.InMemory.{cut, sum, alternativeIn, alternativesIn, alternativesOf}
 use Rattle.alternatives.proofs.Cuts.{cut-none, sum-next, sum-part-drop, tests-length}
 use Rattle.matcher.proofs.Walking.{alternatives-next}
 use Rattle.basics.specs.Memory.{Put}
-use Rattle.writer.specs.Writing.{countOf}
 use Rattle.basics.specs.Memory.{Holds}
 use Rattle.basics.proofs.PartByPart.{put-as}
 use Rattle.basics.specs.Text.{bytes, joined}
@@ -112,7 +112,7 @@ module _ {names tree steps tests edges operands flags : List ℕ} {at : ℕ}
   all = allTests names tree edges operands
 
   many : length all ≡ length edges
-  many = tests-length tree (countOf names) edges operands (h .shape .known .enough)
+  many = tests-length tree (namesIn names) edges operands (h .shape .known .enough)
 
   module _ {out₀ : List ℕ} where
     pub lines-first : LinesSoFar names steps tests flags all out₀ at 0 0 0 out₀ at
@@ -177,7 +177,7 @@ module _ {names tree steps tests edges operands flags : List ℕ} {at : ℕ}
 
       pub lines-last : length steps ≤ k
           → Puts out₀ at
-          (linesWith names 1 flags (alternativesOf tree (countOf names) steps tests edges operands)) 17058465984 out p
+          (linesWith names 1 flags (alternativesOf tree (namesIn names) steps tests edges operands)) 17058465984 out p
       unfolding alternativesOf
       lines-last l =
           let z = rw (drop-of-length-le steps l, cut-none) at (g .laying) in

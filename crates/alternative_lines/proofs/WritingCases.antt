@@ -10,6 +10,7 @@ use mathlib.Core.Bool.{Bool, true, false}
 use mathlib.Core.Logic.{inl, inr}
 use mathlib.Core.List.{List, [], _∷_, _++_}
 use lib.ListN.{length, take, drop, replicate, length-append, length-map}
+use Rattle.alf.specs.Names.{namesIn}
 use Rattle.basics.specs.Refusing.{refusal}
 use Rattle.basics.specs.declared.Outcome.{Outcome}
 use Rattle.basics.specs.declared.Outcome.the-variants.{Done, Refused}
@@ -27,9 +28,9 @@ use Rattle.rewriting.specs.Lists.{joined, alternativesAt, stepList, testList, e
 use Rattle.contradictions.specs.Possible.{flagOf, flagList, Flagged, Reported}
 use Rattle.rewriting.proofs.Joining.{lengths-sum}
 use Rattle.rewriting.proofs.Holding.{front-taken, step-entries, test-entries, edge-entries}
-use Rattle.writer.specs.Writing.{countOf, Named}
+use Rattle.writer.specs.Writing.{Named}
 use Rattle.basics.specs.Memory.{after}
-use Rattle.writer.proofs.Calls.{names-few}
+use Rattle.names.proofs.Few.{names-few}
 use Rattle.figures.specs.Delivering.{lineOrder}
 use Rattle.figures.proofs.Delivering.{short, delivered}
 use Rattle.alternative_lines.specs.declared.Lines.{Lines}
@@ -57,21 +58,21 @@ lines-done h l p e = record { delivers = delivered h l (p .put); untold-are = e 
 -- the notes
 module _ {names tree steps tests edges operands : List ℕ} (h : Listed names tree steps tests edges operands) where
   abbrev xs : List Alternative
-  xs = alternativesOf tree (countOf names) steps tests edges operands
+  xs = alternativesOf tree (namesIn names) steps tests edges operands
 
   pub reportable : (flags : List ℕ) → length flags ≡ 64
-      → Reported tree (countOf names) steps tests edges operands flags
+      → Reported tree (namesIn names) steps tests edges operands flags
   reportable flags e =
-      record { shape = h .shape; few = names-few (h .named); room = omega (arith, h .shape .few) }
+      record { shape = h .shape; few = names-few _ (h .named .passed); room = omega (arith, h .shape .few) }
 
-  number : length (flagList (countOf names) xs) ≡ length steps
+  number : length (flagList (namesIn names) xs) ≡ length steps
   unfolding flagList alternativesOf
   number = length-map xs _ ∙ cut-length steps _
 
-  pub noted-all : {flags flags′ : List ℕ} → Flagged (countOf names) xs flags flags′
+  pub noted-all : {flags flags′ : List ℕ} → Flagged (namesIn names) xs flags flags′
       → AllLines names tree steps tests edges operands flags′ 0
   noted-all {flags} f =
-      let w = flagList (countOf names) xs in
+      let w = flagList (namesIn names) xs in
       record {
         named = h .named;
         short = h .short;
@@ -87,24 +88,24 @@ flag-back true = refl
 flag-back false = refl
 
 lines-flagged : (names : List ℕ) (i : ℕ) (xs : List Alternative) (more : List ℕ)
-    → linesWith names i (flagList (countOf names) xs ++ more) xs ≡ linesFrom names i xs
+    → linesWith names i (flagList (namesIn names) xs ++ more) xs ≡ linesFrom names i xs
 unfolding linesWith linesFrom line flagList
 lines-flagged names i [] [] = refl
 lines-flagged names i [] (f ∷ fs) = refl
 lines-flagged names i (x ∷ xs) more =
-    rw (flag-back (contradictory (countOf names) x), lines-flagged names (i + 1) xs more) refl
+    rw (flag-back (contradictory (namesIn names) x), lines-flagged names (i + 1) xs more) refl
 
 pub own-notes : (names : List ℕ) {xs : List Alternative} {flags flags′ : List ℕ} {n : ℕ} {out out′ : List ℕ}
-    {r : Lines} → Flagged (countOf names) xs flags flags′
+    {r : Lines} → Flagged (namesIn names) xs flags flags′
     → DeliversLines (headedLines names flags′ xs) n out out′ r → DeliversLines (listing names xs) n out out′ r
 unfolding headedLines listing
 own-notes names {xs} f d =
-    rw (f .flags-are, lines-flagged names 1 xs (drop (length (flagList (countOf names) xs)) _)) at d
+    rw (f .flags-are, lines-flagged names 1 xs (drop (length (flagList (namesIn names) xs)) _)) at d
 
 -- the lists of an accepted tree
-module _ (names : List ℕ) {tree : List ℕ} {a : Alternatives} (h : Holds tree (countOf names) a) where
+module _ (names : List ℕ) {tree : List ℕ} {a : Alternatives} (h : Holds tree (namesIn names) a) where
   abbrev ys : List Alternative
-  ys = alternativesAt tree (countOf names)
+  ys = alternativesAt tree (namesIn names)
 
   steps-front : take (a .count) (a .steps) ≡ stepList ys
   steps-front =
@@ -131,7 +132,7 @@ module _ (names : List ℕ) {tree : List ℕ} {a : Alternatives} (h : Holds tree
   all = allTests names tree (take (a .«test_count») (a .edges)) (take (a .«test_count») (a .operands))
 
   many : length all ≡ length (take (a .«test_count») (a .edges))
-  many = tests-length tree (countOf names) _ _ (h .shape .known .enough)
+  many = tests-length tree (namesIn names) _ _ (h .shape .known .enough)
 
   counted : untold names (ownAt names tree) ≡ sumOf (untoldTest names) all
   unfolding alternativesOf
@@ -141,7 +142,7 @@ module _ (names : List ℕ) {tree : List ℕ} {a : Alternatives} (h : Holds tree
       (omega (arith, steps-sum)) (omega (arith, tests-sum, many))
 
   pub own-lists : {out out′ : List ℕ} {r : Lines}
-      → DeliversLines (listing names (alternativesOf tree (countOf names) (take (a .count) (a .steps))
+      → DeliversLines (listing names (alternativesOf tree (namesIn names) (take (a .count) (a .steps))
       (take (a .«step_count») (a .tests)) (take (a .«test_count») (a .edges))
       (take (a .«test_count») (a .operands))))
       (sumOf (untoldTest names) all) out out′ r
@@ -149,7 +150,7 @@ module _ (names : List ℕ) {tree : List ℕ} {a : Alternatives} (h : Holds tree
   unfolding listingAt
   own-lists d = rw (h .stands, ← counted) at d
 
-pub lists-fit : {names tree : List ℕ} {a : Alternatives} → Whole names tree → Holds tree (countOf names) a
+pub lists-fit : {names tree : List ℕ} {a : Alternatives} → Whole names tree → Holds tree (namesIn names) a
     → Listed names tree (take (a .count) (a .steps)) (take (a .«step_count») (a .tests))
     (take (a .«test_count») (a .edges)) (take (a .«test_count») (a .operands))
 lists-fit w h = record { named = w .named; short = w .accepted .tokens; shape = h .shape }
@@ -166,12 +167,12 @@ module _ (names tree : List ℕ) (room : ℕ) where
   comes-names made r (inr (m, inl x)) = inr (m, inl x)
   comes-names made r (inr (m, inr (l, x))) = absurd x
 
-  comes-ten : Named names → (Accepted (countOf names) Vector tree → ⊥)
+  comes-ten : Named names → (Accepted (namesIn names) Vector tree → ⊥)
       → Comes (order names tree room) done (Refused (refusal 10 0))
   unfolding Comes RefusedWith Passed order
   comes-ten h f = inr (h .passed .0, inr (h .passed .1 .0, inl (refl, record { given = f; there = refl })))
 
-  comes-end : Named names → Accepted (countOf names) Vector tree → (o : Outcome)
+  comes-end : Named names → Accepted (namesIn names) Vector tree → (o : Outcome)
       → Comes (lineOrder (listingAt names tree) room) done o → Comes (order names tree room) done o
   unfolding Comes RefusedWith Passed order
   comes-end h a (Done k) x = ((h .passed .0, (h .passed .1 .0, ((λ p y. y .given a), x .0))), x .1)
@@ -185,13 +186,13 @@ refused-names {names} {tree} {out} made {r} x e =
     record { outcome = comes-names names tree (length out) made r (rw e at x); memory = refl; untold-are = refl }
 
 pub refused-tree : {names tree out : List ℕ} {o : Outcome} → Named names
-    → (Accepted (countOf names) Vector tree → ⊥) → o ≡ Refused (refusal 10 0)
+    → (Accepted (namesIn names) Vector tree → ⊥) → o ≡ Refused (refusal 10 0)
     → WritesAlternatives names tree out out (record { written = o; untold = 0 })
 unfolding after tally
 refused-tree {names} {tree} {out} h f e =
     rw e (record { outcome = comes-ten names tree (length out) h f; memory = refl; untold-are = refl })
 
-pub listed : {names tree out out′ : List ℕ} {r : Lines} → Named names → Accepted (countOf names) Vector tree
+pub listed : {names tree out out′ : List ℕ} {r : Lines} → Named names → Accepted (namesIn names) Vector tree
     → DeliversLines (listingAt names tree) (untold names (ownAt names tree)) out out′ r
     → WritesAlternatives names tree out out′ r
 listed {names} {tree} {out} {r = r} h a d =

@@ -11,6 +11,7 @@ use Prim.Native.Nat.{ℕ}
 use mathlib.Core.Path.{_≡_}
 use mathlib.Core.List.{List, [], _∷_}
 use lib.ListN.{length}
+use Rattle.alf.specs.Names.{namesIn}
 use Rattle.basics.specs.declared.Outcome.{Outcome}
 use Rattle.basics.specs.declared.Outcome.the-variants.{Done, Refused}
 use Rattle.alf.specs.declared.Sort.the-variants.{Vector}
@@ -19,7 +20,6 @@ use Rattle.alf.specs.Refusals.{Order, check, bad-lists, bad-slot, cannot-be, no
 use Rattle.names.specs.Check.{Slots}
 use Rattle.trees.specs.Parts.{vectorAt}
 use Rattle.acceptance.specs.Accepted.{Accepted}
-use Rattle.writer.specs.Writing.{countOf}
 use Rattle.basics.specs.Memory.{after, front}
 use Rattle.figures.specs.Delivering.{Delivers}
 use Rattle.alternative_lines.specs.declared.Lines.{Lines}
@@ -28,7 +28,7 @@ use Rattle.alternative_texts.specs.Texts.{untold}
 
 -- the alternatives of the expression that a tree is, and their text
 abbrev pub ownAt : List ℕ → List ℕ → List Alternative
-ownAt names tree = alternatives (vectorAt tree (countOf names) (length tree))
+ownAt names tree = alternatives (vectorAt tree (namesIn names) (length tree))
 
 unfoldable pub listingAt : List ℕ → List ℕ → List ℕ
 listingAt names tree = listing names (ownAt names tree)
@@ -38,7 +38,7 @@ unfoldable pub order : List ℕ → List ℕ → ℕ → Order
 order names tree room =
     check 18 (bad-lists (Slots names)) ∷
     check 12 (bad-slot names) ∷
-    check 10 (cannot-be (Accepted (countOf names) Vector tree → ⊥)) ∷
+    check 10 (cannot-be (Accepted (namesIn names) Vector tree → ⊥)) ∷
     check 9 (no-room (length (listingAt names tree)) room) ∷
     []
 

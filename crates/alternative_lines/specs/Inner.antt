@@ -8,11 +8,12 @@ use mathlib.Core.Bool.{Bool, not}
 use mathlib.Core.List.{List, [], _∷_, _++_}
 use lib.Dec.{eqb}
 use lib.ListN.{length}
+use Rattle.alf.specs.Names.{namesIn}
 use Rattle.alf.specs.Alternatives.{Alternative}
 use Rattle.alf.specs.declared.Sort.the-variants.{Vector}
 use Rattle.acceptance.specs.Accepted.{Accepted}
 use Rattle.alternatives.specs.InMemory.{Shape}
-use Rattle.writer.specs.Writing.{countOf, Named}
+use Rattle.writer.specs.Writing.{Named}
 use Rattle.basics.specs.Text.{bytes, joined}
 use Rattle.figures.specs.Numbers.{decimal}
 use Rattle.alternative_lines.specs.Listing.{note, lineOf}
@@ -34,7 +35,7 @@ linesWith names i (f ∷ fs) (x ∷ xs) = lineOf names i (flagged f) x ++ linesW
 pub record AllLines (names tree steps tests edges operands flags : List ℕ) (at : ℕ) : Type 0 where
   pub named : Named names
   pub short : length tree ≤ 256
-  pub shape : Shape tree (countOf names) steps tests edges operands
+  pub shape : Shape tree (namesIn names) steps tests edges operands
   pub flags-there : length steps ≤ length flags
   pub low : at ≤ 1000
 
@@ -53,10 +54,10 @@ pub record Low (at : ℕ) : Type 0 where
 -- an accepted tree, and checked names
 pub record Whole (names tree : List ℕ) : Type 0 where
   pub named : Named names
-  pub accepted : Accepted (countOf names) Vector tree
+  pub accepted : Accepted (namesIn names) Vector tree
 
 -- the lists of an accepted tree
 pub record Listed (names tree steps tests edges operands : List ℕ) : Type 0 where
   pub named : Named names
   pub short : length tree ≤ 256
-  pub shape : Shape tree (countOf names) steps tests edges operands
+  pub shape : Shape tree (namesIn names) steps tests edges operands

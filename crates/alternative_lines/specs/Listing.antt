@@ -6,8 +6,8 @@
 use Prim.Native.Nat.{ℕ, _+_}
 use mathlib.Core.Bool.{Bool, true, false}
 use mathlib.Core.List.{List, [], _∷_, _++_}
+use Rattle.alf.specs.Names.{namesIn}
 use Rattle.alf.specs.Alternatives.{Alternative, contradictory}
-use Rattle.writer.specs.Writing.{countOf}
 use Rattle.basics.specs.Text.{bytes, joined}
 use Rattle.figures.specs.Numbers.{decimal}
 use Rattle.alternative_texts.specs.Texts.{alternativeText}
@@ -23,7 +23,7 @@ lineOf names i b x =
     joined (decimal i ∷ bytes "\t" ∷ note b ∷ bytes "\t" ∷ alternativeText names x ∷ bytes "\n" ∷ [])
 
 unfoldable pub line : List ℕ → ℕ → Alternative → List ℕ
-line names i x = lineOf names i (contradictory (countOf names) x) x
+line names i x = lineOf names i (contradictory (namesIn names) x) x
 
 -- a line for each alternative, the first of which has number i
 unfoldable pub linesFrom : List ℕ → ℕ → List Alternative → List ℕ

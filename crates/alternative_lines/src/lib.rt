@@ -3,10 +3,11 @@ pub mod numbered;
 
 ghost use mathlib.Core.Path.{_≡_};
 ghost use lib.ListN.{length};
+ghost use Rattle.alf.specs.Names.{namesIn};
 ghost use Rattle.basics.specs.Words.{sumOf};
 ghost use Rattle.alternatives.specs.InMemory.{alternativesOf};
 ghost use Rattle.contradictions.specs.Possible.{Flagged, Reported};
-ghost use Rattle.writer.specs.Writing.{Named, countOf};
+ghost use Rattle.writer.specs.Writing.{Named};
 ghost use Rattle.alternative_lines.specs.Listing.{listing};
 ghost use Rattle.alternative_texts.specs.Texts.{untold, untoldTest};
 ghost use Rattle.alternative_lines.specs.Calls.{listingAt, ownAt, WritesAlternatives, DeliversLines};
@@ -42,7 +43,7 @@ fn measure(
     requires { ⌜ AllLines (now names) (now tree) (now steps) (now tests) (now edges) (now operands)
         (now flags) 0 ⌝ }
     ensures { λ r. ⌜ r ≡ length (headedLines (now (names .entry)) (now (flags .entry))
-        (alternativesOf (now (tree .entry)) (countOf (now (names .entry))) (now (steps .entry)) (now (tests .entry))
+        (alternativesOf (now (tree .entry)) (namesIn (now (names .entry))) (now (steps .entry)) (now (tests .entry))
         (now (edges .entry)) (now (operands .entry)))) ⌝ }
 {
     put_all(
@@ -71,7 +72,7 @@ fn deliver(
     requires { ⌜ AllLines (now names) (now tree) (now steps) (now tests) (now edges) (now operands)
         (now flags) 0 ⌝ }
     ensures { λ r. ⌜ DeliversLines (headedLines (now (names .entry)) (now (flags .entry))
-        (alternativesOf (now (tree .entry)) (countOf (now (names .entry))) (now (steps .entry)) (now (tests .entry))
+        (alternativesOf (now (tree .entry)) (namesIn (now (names .entry))) (now (steps .entry)) (now (tests .entry))
         (now (edges .entry)) (now (operands .entry)))) (sumOf (untoldTest (now (names .entry)))
         (allTests (now (names .entry)) (now (tree .entry)) (now (edges .entry)) (now (operands .entry))))
         (now (out .entry)) (now (out .exit)) r ⌝ }
@@ -122,7 +123,7 @@ fn list_all(
 ) -> Lines
     requires { ⌜ Listed (now names) (now tree) (now steps) (now tests) (now edges) (now operands) ⌝ }
     ensures { λ r. ⌜ DeliversLines (listing (now (names .entry))
-        (alternativesOf (now (tree .entry)) (countOf (now (names .entry))) (now (steps .entry)) (now (tests .entry))
+        (alternativesOf (now (tree .entry)) (namesIn (now (names .entry))) (now (steps .entry)) (now (tests .entry))
         (now (edges .entry)) (now (operands .entry)))) (sumOf (untoldTest (now (names .entry)))
         (allTests (now (names .entry)) (now (tree .entry)) (now (edges .entry)) (now (operands .entry))))
         (now (out .entry)) (now (out .exit)) r ⌝ }

@@ -1,6 +1,6 @@
 // The lines of a listing of alternatives.
 ghost use Prim.Native.Nat.{_+_};
-ghost use Rattle.writer.specs.Writing.{countOf};
+ghost use Rattle.alf.specs.Names.{namesIn};
 ghost use Rattle.basics.specs.Memory.{Holds};
 ghost use Rattle.alternatives.specs.InMemory.{alternativeIn, alternativesOf};
 ghost use Rattle.figures.specs.Numbers.{decimal};
@@ -90,7 +90,7 @@ fn put_lines(
     requires { ⌜ AllLines (now names) (now tree) (now steps) (now tests) (now edges) (now operands)
         (now flags) at ⌝ }
     ensures { λ r. ⌜ Puts (now (out .entry)) at (linesWith (now (names .entry)) 1 (now (flags .entry))
-        (alternativesOf (now (tree .entry)) (countOf (now (names .entry))) (now (steps .entry)) (now (tests .entry))
+        (alternativesOf (now (tree .entry)) (namesIn (now (names .entry))) (now (steps .entry)) (now (tests .entry))
         (now (edges .entry)) (now (operands .entry)))) 17058465984 (now (out .exit)) r ⌝ }
 {
     let mut p = at;
@@ -134,7 +134,7 @@ pub fn put_all(
     requires { ⌜ AllLines (now names) (now tree) (now steps) (now tests) (now edges) (now operands)
         (now flags) 0 ⌝ }
     ensures { λ r. ⌜ Puts (now (out .entry)) 0 (headedLines (now (names .entry)) (now (flags .entry))
-        (alternativesOf (now (tree .entry)) (countOf (now (names .entry))) (now (steps .entry)) (now (tests .entry))
+        (alternativesOf (now (tree .entry)) (namesIn (now (names .entry))) (now (steps .entry)) (now (tests .entry))
         (now (edges .entry)) (now (operands .entry)))) 17058466008 (now (out .exit)) r ⌝ }
 {
     let p = put(b"number\tnote\talternative\n", out, 0);

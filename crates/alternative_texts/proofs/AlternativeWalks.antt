@@ -6,10 +6,10 @@ use native.Mathlib.Nat.{add-zero, sub-zero}
 use mathlib.Core.Path.{_≡_, refl}
 use mathlib.Core.List.{List, [], _∷_, _++_, map}
 use lib.ListN.{length, getD, take, drop}
+use Rattle.alf.specs.Names.{namesIn}
 use Rattle.alf.specs.Alternatives.{Test}
 use Rattle.alternatives.specs.InMemory.{cut, sum, stepIn, alternativeIn}
 use Rattle.alternatives.proofs.Cuts.{cut-at, sum-next, tests-length}
-use Rattle.writer.specs.Writing.{countOf}
 use Rattle.basics.specs.Text.{bytes}
 use Rattle.alternative_texts.specs.Texts.{stepText, alternativeText}
 use Rattle.alternative_texts.specs.Inner.{Puts, lead, OneStep}
@@ -32,7 +32,7 @@ module _ {names tree tests edges operands : List ℕ} {s n t at : ℕ}
   whole = allTests names tree edges operands
 
   as-many : length whole ≡ length edges
-  as-many = tests-length tree (countOf names) edges operands (h .tested .known .enough)
+  as-many = tests-length tree (namesIn names) edges operands (h .tested .known .enough)
 
   module _ {out₀ : List ℕ} where
     pub alternative-first : AlternativeSoFar names tests whole s n t out₀ at t 0 out₀ at

@@ -9,6 +9,7 @@ use mathlib.Core.Bool.{Bool, true, false}
 use mathlib.Core.List.{List, [], _∷_, _++_}
 use lib.ListN.{length, getD, take, drop, drop-of-length-le}
 use lib.Seq.{drop-cons, take-add, take-all}
+use Rattle.alf.specs.Names.{namesIn}
 use Rattle.basics.specs.Words.{if_then_else_, sumOf}
 use Rattle.alf.specs.Expressions.{Expression, stays, literal, vector, edge}
 use Rattle.alf.specs.Decoder.{edgeAt}
@@ -16,7 +17,6 @@ use Rattle.alf.specs.Alternatives.{Test, test}
 use Rattle.trees.specs.Parts.{booleanAt}
 use Rattle.alternatives.specs.InMemory.{cut, testOf, sum}
 use Rattle.alternatives.proofs.Cuts.{cut-length, sum-nil, sum-cons, test-at, tests-length}
-use Rattle.writer.specs.Writing.{countOf}
 use Rattle.alternative_texts.specs.Texts.{readable, missing, expressionOf, untoldTest, untold}
 use Rattle.alternative_texts.specs.Inner.{ShowsTest, Testable, Tested, Untold, allTests}
 
@@ -47,7 +47,7 @@ module _ {names tree edges operands : List ℕ} (h : Tested names tree edges ope
   all = allTests names tree edges operands
 
   many : length all ≡ length edges
-  many = tests-length tree (countOf names) edges operands (h .known .enough)
+  many = tests-length tree (namesIn names) edges operands (h .known .enough)
 
   pub count-first : CountSoFar names all 0 0
   count-first = record { within = omega arith; is = omega arith; few = omega arith }
@@ -58,7 +58,7 @@ module _ {names tree edges operands : List ℕ} (h : Tested names tree edges ope
       count-asked = record { named = h .named; few = h .few; ends = h .known .boolean k l }
 
       apart : sumOf (untoldTest names) (drop k all)
-          ≡ untoldTest names (testOf tree (countOf names) (getD edges k 0) (getD operands k 0))
+          ≡ untoldTest names (testOf tree (namesIn names) (getD edges k 0) (getD operands k 0))
           + sumOf (untoldTest names) (drop (k + 1) all)
       unfolding sumOf
       apart =
@@ -66,12 +66,12 @@ module _ {names tree edges operands : List ℕ} (h : Tested names tree edges ope
           rw (
             drop-cons all k no-test b,
             add-one k,
-            test-at tree (countOf names) edges operands k no-test l (h .known .enough),
+            test-at tree (namesIn names) edges operands k no-test l (h .known .enough),
           ) refl
 
       pub count-next : {r : ℕ}
           → Untold names
-          (vector (edge (edgeAt (getD edges k 0)) (booleanAt tree (countOf names) (getD operands k 0)))) r
+          (vector (edge (edgeAt (getD edges k 0)) (booleanAt tree (namesIn names) (getD operands k 0)))) r
           → CountSoFar names all (n + r) (k + 1)
       unfolding untoldTest expressionOf
       count-next u =

@@ -7,6 +7,7 @@ use native.Mathlib.Omega.{arith}
 use mathlib.Core.Path.{_≡_, refl, sym, ap, _∙_}
 use mathlib.Core.List.{List, [], _∷_, _++_, map}
 use lib.ListN.{length, getD, take, drop, length-append, length-take, length-drop}
+use Rattle.alf.specs.Names.{namesIn}
 use Rattle.alf.specs.Expressions.{vector, edge}
 use Rattle.alf.specs.Decoder.{edgeAt}
 use Rattle.alf.specs.Alternatives.{Test, Step}
@@ -14,7 +15,6 @@ use Rattle.trees.specs.Parts.{booleanAt}
 use Rattle.alternatives.specs.InMemory.{testOf, stepIn}
 use Rattle.alternatives.proofs.Cuts.{part, part-first, part-next, part-last, test-at, tests-length}
 use Rattle.basics.specs.Memory.{Put}
-use Rattle.writer.specs.Writing.{countOf}
 use Rattle.basics.proofs.PartByPart.{put-as}
 use Rattle.basics.specs.Text.{bytes}
 use Rattle.basics.proofs.PartByPart.{put-then}
@@ -33,7 +33,7 @@ module _ {names tree edges operands : List ℕ} {k at : ℕ} (h : OneTest names 
 
   module _ {text : List ℕ} {size u : ℕ}
       (w : ShowsTest names
-      (vector (edge (edgeAt (getD edges k 0)) (booleanAt tree (countOf names) (getD operands k 0)))) text size u)
+      (vector (edge (edgeAt (getD edges k 0)) (booleanAt tree (namesIn names) (getD operands k 0)))) text size u)
       (gap : List ℕ) (three : length gap ≡ 3) (i : ℕ) {out out′ : List ℕ} {p : ℕ}
       (g : Put out at (lead gap i) out′ p) where
     pub test-countable : Countable p (take size text)
@@ -71,7 +71,7 @@ module _ {names tree edges operands : List ℕ} {t n at : ℕ} (h : OneStep name
   all = allTests names tree edges operands
 
   many : length all ≡ length edges
-  many = tests-length tree (countOf names) edges operands (h .tested .known .enough)
+  many = tests-length tree (namesIn names) edges operands (h .tested .known .enough)
 
   module _ {out₀ : List ℕ} where
     pub step-first : StepSoFar names all t n out₀ at 0 out₀ at
@@ -91,12 +91,12 @@ module _ {names tree edges operands : List ℕ} {t n at : ℕ} (h : OneStep name
             low = omega (arith, h .low, h .few, g .low);
           }
 
-      apart : i < n → part all t n i ≡ testOf tree (countOf names) (getD edges (t + i) 0) (getD operands (t + i) 0)
+      apart : i < n → part all t n i ≡ testOf tree (namesIn names) (getD edges (t + i) 0) (getD operands (t + i) 0)
           ∷ part all t n (i + 1)
       apart l =
           part-next all t n i no-test l (omega (arith, many, h .there))
           ∙ ap (λ (x : Test). x ∷ part all t n (i + 1))
-          (test-at tree (countOf names) edges operands (t + i) no-test (omega (arith, h .there))
+          (test-at tree (namesIn names) edges operands (t + i) no-test (omega (arith, h .there))
           (h .tested .known .enough))
 
       pub step-next : {out′ : List ℕ} {q : ℕ} → i < n
@@ -176,7 +176,7 @@ module _ {names tree edges operands : List ℕ} {t n at : ℕ} (h : OneStep name
         arith,
         length-take n (drop t every),
         length-drop t every,
-        tests-length tree (countOf names) edges operands (h .tested .known .enough),
+        tests-length tree (namesIn names) edges operands (h .tested .known .enough),
         h .there,
       )
 

@@ -11,6 +11,7 @@ use lib.Dec.{leb}
 use lib.ListN.{length, take}
 use lib.Seq.{take-at}
 use borrow.Author.Tests.{leb-true, leb-false}
+use Rattle.alf.specs.Names.{namesIn}
 use Rattle.basics.specs.declared.Outcome.{Outcome}
 use Rattle.basics.specs.declared.Outcome.the-variants.{Done, Refused}
 use Rattle.basics.specs.declared.Refusal.{Refusal}
@@ -30,10 +31,10 @@ use Rattle.trees.specs.Brackets.{depthOf}
 use Rattle.acceptance.specs.Accepted.{Accepted, sortOf, overSize}
 use Rattle.acceptance.proofs.Acceptance.{decoded, accepted-decodes}
 use Rattle.writer.specs.Trees.{text}
-use Rattle.writer.specs.Writing.{countOf, textAt, order, Writes}
+use Rattle.writer.specs.Writing.{textAt, order, Writes}
 use Rattle.basics.specs.Memory.{Holds}
 use Rattle.basics.specs.Memory.{after}
-use Rattle.writer.proofs.Calls.{names-few}
+use Rattle.names.proofs.Few.{names-few}
 use Rattle.basics.specs.Text.{bytes}
 use Rattle.alternative_texts.specs.Texts.{readable, shown, missing}
 use Rattle.alternative_texts.specs.Inner.{ShowsTest, Tellable, Testable}
@@ -49,29 +50,29 @@ module _ {names tree list : List ℕ} (h : Tellable names tree list) where
   x = vector (edge (h .of-edge) (h .operand))
 
   abbrev it : Expression
-  it = expressionAt tree (countOf names) (length tree)
+  it = expressionAt tree (namesIn names) (length tree)
 
   is : it ≡ x
-  is = decoded (countOf names) tree x (h .decodes)
+  is = decoded (namesIn names) tree x (h .decodes)
 
   size : length (bytesOf x) ≡ length tree
-  size = ap length (bytes-decode (countOf names) tree x (h .decodes))
+  size = ap length (bytes-decode (namesIn names) tree x (h .decodes))
 
-  accepted : length tree ≤ 256 → depthOf x ≤ 32 → Accepted (countOf names) Vector tree
+  accepted : length tree ≤ 256 → depthOf x ≤ 32 → Accepted (namesIn names) Vector tree
   unfolding sortOf
   accepted l d =
       record {
         expression = x;
-        encodes = decodes-encoded (countOf names) tree x (h .decodes);
+        encodes = decodes-encoded (namesIn names) tree x (h .decodes);
         sorted = refl;
         tokens = l;
         brackets = d;
         sized = edge-sized (h .of-edge) (h .operand);
       }
 
-  shallow : Accepted (countOf names) Vector tree → depthOf x ≤ 32
+  shallow : Accepted (namesIn names) Vector tree → depthOf x ≤ 32
   shallow a =
-      rw (decode-unique (countOf names) tree x (a .expression) (h .decodes) (accepted-decodes a)) (a .brackets)
+      rw (decode-unique (namesIn names) tree x (a .expression) (h .decodes) (accepted-decodes a)) (a .brackets)
 
   text-is : textAt names tree ≡ text names x
   unfolding textAt
@@ -113,7 +114,7 @@ module _ {names tree list : List ℕ} (h : Tellable names tree list) where
   passed-readable : Passed (order names tree Vector (length list)) → readable names x ≡ true
   unfolding readable Passed order
   passed-readable p =
-      let no : (Accepted (countOf names) Vector tree → ⊥) → ⊥ =
+      let no : (Accepted (namesIn names) Vector tree → ⊥) → ⊥ =
       λ f. p .1 .1 .0 0 (record { given = f; there = refl }) in
       all-three _ _ _
       (λ e. let k = leb-false (length (bytesOf x)) 256 e in no (λ a. omega (arith, k, size, a .tokens)))
@@ -176,27 +177,27 @@ module _ {names tree list : List ℕ} (h : Tellable names tree list) where
 
 -- of other bytes of the same expression
 tells-as : {names : List ℕ} (tree : List ℕ) {list : List ℕ} {e : Expression} {n m : ℕ}
-    → Decodes (countOf names) tree e
-    → ShowsTest names (expressionAt tree (countOf names) (length tree)) list n m → ShowsTest names e list n m
-tells-as {names} tree {e = e} d t = rw (decoded (countOf names) tree e d) at t
+    → Decodes (namesIn names) tree e
+    → ShowsTest names (expressionAt tree (namesIn names) (length tree)) list n m → ShowsTest names e list n m
+tells-as {names} tree {e = e} d t = rw (decoded (namesIn names) tree e d) at t
 
 -- a test, by the bytes that are laid
 module _ {names tree list : List ℕ} {end n : ℕ} (k : ℕ) (h : Testable names tree end)
-    (l : Holds list n (vectorBytes (edge (edgeAt k) (booleanAt tree (countOf names) end)))) where
-  decodes : Decodes (countOf names) (take n list) (vector (edge (edgeAt k) (booleanAt tree (countOf names) end)))
-  decodes = rw (l .front) (laid-decodes k (h .ends) (names-few (h .named)))
+    (l : Holds list n (vectorBytes (edge (edgeAt k) (booleanAt tree (namesIn names) end)))) where
+  decodes : Decodes (namesIn names) (take n list) (vector (edge (edgeAt k) (booleanAt tree (namesIn names) end)))
+  decodes = rw (l .front) (laid-decodes k (h .ends) (names-few names (h .named .passed)))
 
   pub tellable : (text : List ℕ) → length text ≡ 4096 → Tellable names (take n list) text
   tellable text e =
       record {
         named = h .named;
         of-edge = edgeAt k;
-        operand = booleanAt tree (countOf names) end;
+        operand = booleanAt tree (namesIn names) end;
         decodes = decodes;
         room = e;
       }
 
   pub test-told : {text : List ℕ} {m u : ℕ}
-      → ShowsTest names (expressionAt (take n list) (countOf names) (length (take n list))) text m u
-      → ShowsTest names (vector (edge (edgeAt k) (booleanAt tree (countOf names) end))) text m u
+      → ShowsTest names (expressionAt (take n list) (namesIn names) (length (take n list))) text m u
+      → ShowsTest names (vector (edge (edgeAt k) (booleanAt tree (namesIn names) end))) text m u
   test-told t = tells-as (take n list) decodes t

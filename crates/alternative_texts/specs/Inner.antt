@@ -8,13 +8,14 @@ use Prim.Native.Nat.{ℕ, zero, suc, _+_, _^_, _<_, _≤_}
 use mathlib.Core.Path.{_≡_}
 use mathlib.Core.List.{List, []}
 use lib.ListN.{length, getD, drop}
+use Rattle.alf.specs.Names.{namesIn}
 use Rattle.alf.specs.Alternatives.{Test}
 use Rattle.alf.specs.Expressions.{Boolean, Edge, Expression, vector, edge}
 use Rattle.alf.specs.Decoder.{Decodes}
 use Rattle.trees.specs.Parts.{EndsBoolean}
 use Rattle.alternatives.specs.InMemory.{sum, testOf, testsOf, Tests}
 use Rattle.basics.specs.Memory.{Put}
-use Rattle.writer.specs.Writing.{countOf, Named}
+use Rattle.writer.specs.Writing.{Named}
 use Rattle.basics.specs.Memory.{Holds}
 use Rattle.alternative_texts.specs.Texts.{shown, missing, testText}
 
@@ -49,20 +50,20 @@ pub record Tellable (names tree list : List ℕ) : Type 0 where
   pub named : Named names
   pub of-edge : Edge
   pub operand : Boolean
-  pub decodes : Decodes (countOf names) tree (vector (edge of-edge operand))
+  pub decodes : Decodes (namesIn names) tree (vector (edge of-edge operand))
   pub room : length list ≡ 4096
 
 -- a test: the names are checked, and its operand ends at `end` of a tree that is no longer than an accepted one
 pub record Testable (names tree : List ℕ) (end : ℕ) : Type 0 where
   pub named : Named names
   pub few : length tree ≤ 256
-  pub ends : EndsBoolean tree (countOf names) end
+  pub ends : EndsBoolean tree (namesIn names) end
 
 -- the tests of the lists: the names are checked, and each test has its operand
 pub record Tested (names tree edges operands : List ℕ) : Type 0 where
   pub named : Named names
   pub few : length tree ≤ 256
-  pub known : Tests tree (countOf names) edges operands
+  pub known : Tests tree (namesIn names) edges operands
 
 -- test k, whose text is to stand far below the last place of 64 bits
 pub record OneTest (names tree edges operands : List ℕ) (k at : ℕ) : Type 0 where
@@ -87,11 +88,11 @@ pub record OneAlternative (names tree tests edges operands : List ℕ) (s n t at
 
 -- a text over some lists: of test k, of a step, of an alternative
 abbrev pub allTests : List ℕ → List ℕ → List ℕ → List ℕ → List Test
-allTests names tree edges operands = testsOf tree (countOf names) edges operands
+allTests names tree edges operands = testsOf tree (namesIn names) edges operands
 
 abbrev pub textOfTest : List ℕ → List ℕ → List ℕ → List ℕ → ℕ → List ℕ
 textOfTest names tree edges operands k =
-    testText names (testOf tree (countOf names) (getD edges k 0) (getD operands k 0))
+    testText names (testOf tree (namesIn names) (getD edges k 0) (getD operands k 0))
 
 -- 1 where an expression is shown as `...`, else 0
 pub record Untold (names : List ℕ) (e : Expression) (r : ℕ) : Type 0 where

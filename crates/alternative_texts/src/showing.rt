@@ -2,11 +2,11 @@
 ghost use mathlib.Core.Path.{_≡_};
 ghost use Prim.Native.Nat.{_+_, _≤_};
 ghost use lib.ListN.{length};
+ghost use Rattle.alf.specs.Names.{namesIn};
 ghost use Rattle.alf.specs.Bytes.{edgeNumber, vectorBytes};
 ghost use Rattle.alf.specs.Decoder.{edgeAt};
 ghost use Rattle.alf.specs.Expressions.{edge, vector};
 ghost use Rattle.trees.specs.Parts.{booleanAt, expressionAt};
-ghost use Rattle.writer.specs.Writing.{countOf};
 ghost use Rattle.basics.specs.Memory.{Holds};
 ghost use Rattle.basics.specs.Text.{bytes};
 ghost use Rattle.alternative_texts.specs.Inner.{Joinable, ShowsTest, Tellable, Testable};
@@ -59,7 +59,7 @@ fn lay_dots(text: &mut [u8]) -> usize
 fn tell(names: &[u8], tree: &[u8], text: &mut [u8]) -> Shown
     requires { ⌜ Tellable (now names) (now tree) (now text) ⌝ }
     ensures { λ r. ⌜ ShowsTest (now (names .entry))
-        (expressionAt (now (tree .entry)) (countOf (now (names .entry))) (length (now (tree .entry))))
+        (expressionAt (now (tree .entry)) (namesIn (now (names .entry))) (length (now (tree .entry))))
         (now (text .exit)) (r .size) (r .untold) ⌝ }
 {
     let o = write_expression(names, tree, Sort::Vector, text);
@@ -85,7 +85,7 @@ fn lay_array(names: usize, tree: &[u8], number: u8, end: usize, list: &mut [u8; 
 pub fn show_test(names: &[u8], tree: &[u8], number: u8, end: usize, text: &mut [u8; 4096]) -> Shown
     requires { ⌜ Testable (now names) (now tree) end ⌝ }
     ensures { λ r. ⌜ ShowsTest (now (names .entry))
-        (vector (edge (edgeAt number) (booleanAt (now (tree .entry)) (countOf (now (names .entry))) end)))
+        (vector (edge (edgeAt number) (booleanAt (now (tree .entry)) (namesIn (now (names .entry))) end)))
         (now (text .exit)) (r .size) (r .untold) ⌝ }
 {
     let mut list = [0u8; 257];
@@ -97,7 +97,7 @@ pub fn show_test(names: &[u8], tree: &[u8], number: u8, end: usize, text: &mut [
 fn is_untold(names: &[u8], tree: &[u8], number: u8, end: usize) -> usize
     requires { ⌜ Testable (now names) (now tree) end ⌝ }
     ensures { λ r. ⌜ Untold (now (names .entry))
-        (vector (edge (edgeAt number) (booleanAt (now (tree .entry)) (countOf (now (names .entry))) end))) r ⌝ }
+        (vector (edge (edgeAt number) (booleanAt (now (tree .entry)) (namesIn (now (names .entry))) end))) r ⌝ }
 {
     let mut text = [0u8; 4096];
     let shown = show_test(names, tree, number, end, &mut text);

@@ -1,6 +1,7 @@
 -- A list from a rule, and loops that store one. `listed a n f` is f a, f (a + 1), .., n of them.
 --   all-passed                              a loop has gone through all its turns
 --   listed-length, listed-more, listed-at   its length, one entry more, each entry
+--   listed-whole                            at the front of a list of as many entries it is all of it
 --   ruling-next, ruling-next-front          one entry more of a list from a rule is written
 --   ruling-end, ruling-placed, ruling-front all of them are written
 --   ruled-inside, ruled-before, ruled-behind   one entry of a list in which it stands
@@ -14,7 +15,7 @@ use lib.ListN.{length, getD, set}
 use lib.Seq.{sets}
 use Rattle.basics.specs.Words.{listed}
 use Rattle.basics.specs.Memory.{front, placed}
-use Rattle.basics.proofs.Stores.{Writing, writing-next, writing-next-front}
+use Rattle.basics.proofs.Stores.{Writing, front-whole, writing-next, writing-next-front}
 use Rattle.basics.proofs.Stores.{writing-end, writing-placed, writing-front}
 use Rattle.basics.proofs.Stores.{placed-before, placed-behind, placed-inside}
 
@@ -44,6 +45,10 @@ module _ {A : Type 0} where
   listed-at a (suc n) (suc i) f d h =
       let e : a + suc i ≡ a + 1 + i = omega arith in
       rw e (listed-at (a + 1) n i f d (omega arith))
+
+-- a list from a rule that is as long as the list it is written to is all of it
+pub listed-whole : (n : ℕ) (f : ℕ → ℕ) (l : List ℕ) → length l ≡ n → front (listed 0 n f) l ≡ listed 0 n f
+listed-whole n f l e = front-whole l (listed 0 n f) (listed-length 0 n f ∙ sym e)
 
 module _ {d : List ℕ} {at : ℕ} (a : ℕ) {m : ℕ} (f : ℕ → ℕ) {l : List ℕ} {i : ℕ}
     (g : Writing d at (listed a m f) l i) where

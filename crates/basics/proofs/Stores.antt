@@ -9,6 +9,7 @@
 --   writing-end, writing-placed, writing-front
 --   front-take, front-at, front-holds, front-length, front-next     a list at the front of another
 --   put-placed                              a list that is put from a place on stands there
+--   placed-whole                            a list put over the whole of another
 --   placed-before, placed-behind, placed-inside   one entry of a list in which another stands
 use mathlib.Core.Path.{_≡_, refl, sym, ap, _∙_}
 use mathlib.Core.List.{List, [], _∷_, _++_, append-assoc, append-nil}
@@ -131,6 +132,13 @@ front-next d w v h =
 pub put-placed : {out : List ℕ} {at : ℕ} {w out′ : List ℕ} {r : ℕ} → Put out at w out′ r → Room out at w
     → out′ ≡ placed out at w
 put-placed {out} {at} {w} p h = p .bytes ∙ sets-placed out at w h
+
+-- a list that is put over the whole of another is it
+pub placed-whole : (d w : List ℕ) → length w ≡ length d → placed d 0 w ≡ w
+unfolding placed
+placed-whole d w e =
+    let z : _≡_ {A = ℕ} (0 + length w) (length w) = omega arith in
+    rw z (front-whole d w e)
 
 -- one entry of a list in which another stands
 module _ (d : List ℕ) (at : ℕ) (w : List ℕ) (r : Room d at w) (i : ℕ) where

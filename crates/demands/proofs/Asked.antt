@@ -8,13 +8,14 @@ use native.Mathlib.Omega.{arith}
 use mathlib.Core.Path.{_≡_, refl, ap}
 use mathlib.Core.List.{List}
 use lib.ListN.{length}
+use Rattle.alf.specs.Names.{namesIn}
 use Rattle.alf.specs.declared.Sort.{Sort}
 use Rattle.alf.specs.declared.Sort.the-variants as sort
 use Rattle.alf.specs.Expressions.{Expression, vector}
 use Rattle.alf.specs.Decoder.{Decodes, topBoolean, topVector}
 use Rattle.alf.specs.Refusals.{Passed}
 use Rattle.names.specs.Check.{namesOrder}
-use Rattle.trace_format.specs.Format.{Trace, fileOf, count}
+use Rattle.trace_format.specs.Format.{Trace, fileOf}
 use Rattle.trees.specs.Parts.{top, expressionAt, booleanAt}
 use Rattle.acceptance.proofs.Acceptance.{accepted-decodes}
 use Rattle.acceptance.specs.Accepted.{Accepted}
@@ -73,7 +74,7 @@ module _ {file given-text : List ℕ} where
 
 -- a trace and an accepted tree are asked by the trace's file and the tree's text
 module _ {names times states : List ℕ} {rows : ℕ} (t : Trace names times states rows) {tree : List ℕ}
-    (a : Accepted (count names) sort.Vector tree) where
+    (a : Accepted (namesIn names) sort.Vector tree) where
   slots-named : Named names
   unfolding Passed
   slots-named =
@@ -85,7 +86,7 @@ module _ {names times states : List ℕ} {rows : ℕ} (t : Trace names times sta
   unfolding Decodes top
   question-of =
       let v = sorted-vector (a .expression) (a .sorted) in
-      let d : Decodes (count names) tree (vector (v .p)) = rw (v .is-vector) at (accepted-decodes a) in
+      let d : Decodes (namesIn names) tree (vector (v .p)) = rw (v .is-vector) at (accepted-decodes a) in
       record {
         names = names;
         times = times;

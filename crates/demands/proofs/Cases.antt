@@ -14,7 +14,8 @@ use Rattle.basics.proofs.AllEntries.{All, none, more}
 use Rattle.basics.proofs.Bools.{and-left, and-right}
 use Rattle.basics.proofs.Entries.{same-sound}
 use Rattle.alf.specs.declared.Sort.the-variants as sort
-use Rattle.alf.specs.Names.{isLetter, isDecimal, startsName, goesOnName, isName, slot, untilZero, nameAt, slotOf}
+use Rattle.alf.specs.Names.{namesIn, isLetter, isDecimal, startsName, goesOnName, isName}
+use Rattle.alf.specs.Names.{slot, untilZero, nameAt, slotOf}
 use Rattle.alf.specs.Names.{GoodSlot}
 use Rattle.alf.specs.States.{H, Z}
 use Rattle.alf.specs.Expressions.{literal, binary, choice, and, or, equals, changes, edge, join, while, on-right}
@@ -36,13 +37,13 @@ use Rattle.grammar.specs.Written.{fitted, written}
 use Rattle.spelling.specs.Spelled.{halfByte, literalSpelled, pairSpelled, operators, marks, prefixes, signSpelled}
 use Rattle.spelling.specs.Spelled.{spelled, following, textOf}
 use Rattle.writer.specs.Trees.{joinCode, booleanTree, vectorTree, treeOf, text}
-use Rattle.writer.specs.Writing.{countOf, Named}
+use Rattle.writer.specs.Writing.{Named}
 use Rattle.reader.specs.Reading.{Gives}
 use Rattle.text_laws.proofs.WrittenGives.{text-gives}
 use Rattle.demands.specs.Cases.{Stands, AllStand}
 
 -- The names A, B, C.
-slots-count : countOf slots ≡ names
+slots-count : namesIn slots ≡ names
 unfolding slots slotOf bytes
 slots-count = refl
 

@@ -13,6 +13,7 @@
 use Prim.Native.Nat.{ℕ}
 use mathlib.Core.Path.{_≡_}
 use mathlib.Core.List.{List}
+use Rattle.alf.specs.Names.{namesIn}
 use Rattle.alf.specs.declared.Sort.{Sort}
 use Rattle.alf.specs.declared.Sort.the-variants as sort
 use Rattle.alf.specs.Expressions.{Boolean, Vector, Expression, boolean, vector}
@@ -20,7 +21,7 @@ use Rattle.alf.specs.Bytes.{bytesOf}
 use Rattle.alf.specs.Values.{stateAt, valueAt}
 use Rattle.alf.specs.Windows.{rowAnswer}
 use Rattle.alf.specs.Alternatives.{alternatives, tries, stepsOf}
-use Rattle.trace_format.specs.Format.{Trace, fileOf, count}
+use Rattle.trace_format.specs.Format.{Trace, fileOf}
 use Rattle.reader.specs.Reading.{Gives}
 
 pub record Asked {A : Type 0} (into : A → Expression) (sort : Sort) (file text : List ℕ) : Type 0 where
@@ -42,7 +43,7 @@ Formula = Asked boolean sort.Boolean
 module _ {A : Type 0} {into : A → Expression} {sort : Sort} {file text : List ℕ} where
   -- how many names; the bytes of the expression, as the calls take it
   abbrev pub namesOf : Asked into sort file text → ℕ
-  namesOf q = count (q .names)
+  namesOf q = namesIn (q .names)
 
   abbrev pub treeOf : Asked into sort file text → List ℕ
   treeOf q = bytesOf (into (q .pattern))

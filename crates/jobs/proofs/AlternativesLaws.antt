@@ -8,6 +8,7 @@ use mathlib.Core.Bool.{true}
 use mathlib.Core.Logic.{inl, inr}
 use mathlib.Core.List.{List}
 use lib.ListN.{length, take}
+use Rattle.alf.specs.Names.{namesIn}
 use Rattle.basics.specs.declared.Refusal.{Refusal}
 use Rattle.basics.proofs.Refusals.{refusal-same}
 use Rattle.basics.specs.Refusing.{refusal}
@@ -25,7 +26,6 @@ use Rattle.acceptance.specs.Accepted.{Accepted}
 use Rattle.reader.specs.declared.Read.{Read}
 use Rattle.reader.specs.Reading.{ReadsText}
 use Rattle.reader.proofs.Unique.{gives-unique}
-use Rattle.writer.specs.Writing.{countOf}
 use Rattle.text_laws.proofs.ReadTrees.{Found, read-refused, read-sole, found-accepted, found-vector}
 use Rattle.text_laws.proofs.ReadTrees.{vector-given, vector-decodes}
 use Rattle.figures.specs.Delivering.{lineOrder}
@@ -42,7 +42,7 @@ refused-text h e = refused _ _ (read-refused h e)
 
 -- the names and the tree of a text are good, so 9 is left
 module _ (names tree : List ℕ) (room : ℕ) (good : Passed (namesOrder names))
-    (a : Accepted (countOf names) sort.Vector tree) where
+    (a : Accepted (namesIn names) sort.Vector tree) where
   abbrev done : ℕ → Type 0
   done k = k ≡ length (listingAt names tree)
 

@@ -10,13 +10,13 @@ use mathlib.Core.Bool.{Bool, true, false}
 use mathlib.Core.List.{List, [], _∷_}
 use lib.ListN.{length}
 use borrow.Author.Tests.{lt-ltb}
+use Rattle.alf.specs.Names.{namesIn}
 use Rattle.basics.specs.declared.Refusal.{Refusal}
 use Rattle.basics.specs.Words.{if_then_else_, sumOf}
 use Rattle.alf.specs.Values.{stateAt}
 use Rattle.basics.proofs.AllEntries.{All, none, more, all-weaken}
 use Rattle.alf.proofs.Totals.{totals-sum}
 use Rattle.matcher.specs.declared.tables.Total.{Total}
-use Rattle.sorting.specs.Lookup.{countOf}
 use Rattle.matching_calls.specs.declared.matching.Counting.{Counting}
 use Rattle.matching_calls.specs.declared.matching.Counting.the-variants.{Counted, Refused}
 use Rattle.matching_calls.specs.Matching.{Counts}
@@ -145,7 +145,7 @@ unfolding Counts yesOf unknownOf noOf
 counted-modest {names} {n} {states} (Counted t) h =
     let (some, few) = counted-rows h in
     let k = h .comes .1 in
-    let e = totals-sum (stateAt (countOf names) states) (k .pattern) n some in
+    let e = totals-sum (stateAt (namesIn names) states) (k .pattern) n some in
     let y = k .totals .yeses in
     let u = k .totals .unknowns in
     let o = k .totals .noes in

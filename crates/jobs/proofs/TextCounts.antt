@@ -8,6 +8,7 @@ use mathlib.Core.Path.{_≡_, refl, ap, sym, _∙_}
 use mathlib.Core.Bool.{true}
 use mathlib.Core.List.{List}
 use lib.ListN.{take}
+use Rattle.alf.specs.Names.{namesIn}
 use Rattle.basics.proofs.Refusals.{refusal-same}
 use Rattle.basics.specs.Refusing.{refusal}
 use Rattle.alf.specs.declared.Sort.the-variants as sort
@@ -19,7 +20,6 @@ use Rattle.alf.proofs.Orders.{refused-first, refused-then, passed-both, passed-
 use Rattle.alf.proofs.Orders.{Sole, sole-both, sole-fixed}
 use Rattle.matcher.specs.declared.tables.Total.{Total}
 use Rattle.reader.specs.declared.Read.{Read}
-use Rattle.sorting.specs.Lookup.{countOf}
 use Rattle.reader.specs.Reading.{readOrder, ReadsText}
 use Rattle.reader.proofs.Unique.{gives-unique}
 use Rattle.matching_calls.specs.declared.matching.Counting.{Counting}
@@ -31,7 +31,7 @@ use Rattle.jobs.specs.Counting.{traceChecks, countOrder, TotalsText, Cou
 use Rattle.jobs.proofs.TextOrders.{passed-without-ten, refused-without-ten}
 
 tree-is : {names text : List ℕ} {r : Read} (f : Found names text sort.Vector r)
-    → expression (take (r .len) (r .tree)) (countOf names) ≡ found-vector f .p
+    → expression (take (r .len) (r .tree)) (namesIn names) ≡ found-vector f .p
 unfolding Decodes topVector
 tree-is f = ap topVector (vector-decodes f)
 
@@ -42,7 +42,7 @@ module _ {names : List ℕ} {n : ℕ} {states text : List ℕ} {r : Read} where
   text-refused h e = record { comes = refused-first (readOrder names text sort.Vector) _ _ _ (read-refused h e) }
 
   module _ (f : Found names text sort.Vector r) where
-    counted : (c : Counting) → RowTotals (countOf names) n (take (r .len) (r .tree)) states c
+    counted : (c : Counting) → RowTotals (namesIn names) n (take (r .len) (r .tree)) states c
         → CountsText names n states text c
     unfolding Counts
     counted (Counted t) h =
@@ -61,7 +61,7 @@ module _ {names : List ℕ} {n : ℕ} {states text : List ℕ} {r : Read} where
               (refused-without-ten _ _ _ (found-accepted f) _ _ (h .comes));
         }
 
-    pub tree-counted : {c : Counting} → RowTotals (countOf names) n (take (r .len) (r .tree)) states c
+    pub tree-counted : {c : Counting} → RowTotals (namesIn names) n (take (r .len) (r .tree)) states c
         → CountsText names n states text c
     tree-counted {c} h = counted c h
 
@@ -70,7 +70,7 @@ pub counted-rows : {names : List ℕ} {n : ℕ} {states text : List ℕ} {t : To
     → CountsText names n states text (Counted t) → RowCount n
 unfolding Counts Passed
 counted-rows {names} {n} {states} {text} h =
-    let p : Passed (traceChecks (countOf names) n states) =
+    let p : Passed (traceChecks (namesIn names) n states) =
     passed-right (readOrder names text sort.Vector) _ (h .comes .0) in (
       le-stable 1 n (λ k. p .0 0 (record { given = λ r. k (r .row-count .0); there = refl })),
       le-stable n 65535 (λ k. p .0 0 (record { given = λ r. k (r .row-count .1); there = refl })),
@@ -90,9 +90,9 @@ totals-unique h k =
 module _ (names : List ℕ) (n : ℕ) (states text : List ℕ) where
   count-sole : Sole (countOrder names n states text)
   count-sole =
-      sole-both (readOrder names text sort.Vector) (traceChecks (countOf names) n states)
+      sole-both (readOrder names text sort.Vector) (traceChecks (namesIn names) n states)
       (read-sole names text sort.Vector)
-      (sole-fixed (traceChecks (countOf names) n states) (at-fixed _ _, (first-fixed _, tt)))
+      (sole-fixed (traceChecks (namesIn names) n states) (at-fixed _ _, (first-fixed _, tt)))
 
   counts-one : (a b : Counting) → Counts (countOrder names n states text) (TotalsText names n states text) a
       → Counts (countOrder names n states text) (TotalsText names n states text) b

@@ -8,12 +8,12 @@
 use Prim.Native.Nat.{ℕ}
 use mathlib.Core.List.{List, [], _∷_, _++_}
 use lib.ListN.{length}
+use Rattle.alf.specs.Names.{namesIn}
 use Rattle.alf.specs.declared.Sort.the-variants as sort
 use Rattle.alf.specs.Expressions.{Vector, vector}
 use Rattle.alf.specs.Values.{stateAt}
 use Rattle.alf.specs.Traces.{Totals}
 use Rattle.alf.specs.Refusals.{Order, check, bad-lists, bad-code}
-use Rattle.sorting.specs.Lookup.{countOf}
 use Rattle.reader.specs.Reading.{readOrder, Gives}
 use Rattle.matching_calls.specs.declared.matching.Counting.{Counting}
 use Rattle.judging.specs.Orders.{Rows}
@@ -24,13 +24,13 @@ abbrev pub traceChecks : ℕ → ℕ → List ℕ → Order
 traceChecks k n states = check 18 (bad-lists (Rows k n (length states))) ∷ check 15 (bad-code states) ∷ []
 
 abbrev pub countOrder : List ℕ → ℕ → List ℕ → List ℕ → Order
-countOrder names n states text = readOrder names text sort.Vector ++ traceChecks (countOf names) n states
+countOrder names n states text = readOrder names text sort.Vector ++ traceChecks (namesIn names) n states
 
 -- the totals of the pattern that the text gives
 pub record TotalsText (names : List ℕ) (n : ℕ) (states text : List ℕ) (yes no unknown : ℕ) : Type 0 where
   pub pattern : Vector
   pub given : Gives names text sort.Vector (vector pattern)
-  pub totals : Totals (stateAt (countOf names) states) pattern n yes no unknown
+  pub totals : Totals (stateAt (namesIn names) states) pattern n yes no unknown
 
 -- counted, where no row of the order holds; else refused
 pub record CountsText (names : List ℕ) (n : ℕ) (states text : List ℕ) (r : Counting) : Type 0 where

@@ -34,8 +34,7 @@ use Rattle.matching_calls.specs.Matching.{Finds, Counts}
 use Rattle.update_calls.specs.Pushing.{RowFits, Keeps}
 use Rattle.basics.proofs.Deciding.{told, tells, same-decided}
 use Rattle.judging.proofs.Verdicts.{judged-as, judged-good, judged-not, lists-as}
-use Rattle.basics.proofs.Stores.{front-whole}
-use Rattle.basics.proofs.Listed.{listed-length}
+use Rattle.basics.proofs.Listed.{listed-whole}
 use Rattle.matching_calls.proofs.Matches.{rows-asked}
 use Rattle.listed_calls.specs.Lists.{AcceptedAlternatives}
 use Rattle.listed_calls.specs.Listed as listed
@@ -134,8 +133,8 @@ module _ {names n : ℕ} {tree steps tests edges operands states : List ℕ} {go
         let (p, (((x, y), l), a, s)) = judged-good as-lists e in
         record {
           comes = (p, refl);
-          answers-memory = w .answered ∙ front-whole answers _ (listed-length 0 n _ ∙ sym x);
-          tried-memory = w .counted ∙ front-whole tried _ (listed-length 0 n _ ∙ sym y);
+          answers-memory = w .answered ∙ listed-whole n _ answers x;
+          tried-memory = w .counted ∙ listed-whole n _ tried y;
         }
 
 -- the queue

@@ -17,18 +17,13 @@ use Rattle.alf.proofs.RowsAreAlternatives.{same-answer}
 use Rattle.alternatives.specs.InMemory.{alternativesOf}
 use Rattle.matcher.specs.Answers.{Matches}
 use Rattle.matcher.specs.Tables.{Filled, TotalsOf}
-use Rattle.basics.specs.Memory.{front}
-use Rattle.basics.proofs.Stores.{front-whole}
-use Rattle.basics.proofs.Listed.{listed-length}
+use Rattle.basics.proofs.Listed.{listed-whole}
 use Rattle.matcher.proofs.Agreement.{matches-windows, totals-windows}
 use Rattle.alternatives.specs.InMemory.{longestOf}
 use Rattle.alternatives.proofs.Longest.{longest-is}
 use Rattle.rewriting.specs.declared.lists.Alternatives.{Alternatives}
 use Rattle.rewriting.specs.Lists.{Holds}
 use Rattle.matching_calls.specs.Matching.{expression, answersOn, MatchesTree, FillsTree, TotalsTree}
-
-all-written : (n : ℕ) (f : ℕ → ℕ) (l : List ℕ) → length l ≡ n → front (listed 0 n f) l ≡ listed 0 n f
-all-written n f l e = front-whole l (listed 0 n f) (listed-length 0 n f ∙ sym e)
 
 pub answers-on : (names : ℕ) (tree states : List ℕ)
     → answerOf (stateAt names states) (alternatives (expression tree names)) ≡ answersOn names tree states
@@ -61,10 +56,10 @@ module _ {names : ℕ} {tree : List ℕ} {a : Alternatives} (h : Holds tree name
   tree-fills {states} {answers} {tried} {n = n} e d f =
       record {
         answers =
-            f .answered ∙ all-written n _ answers e
+            f .answered ∙ listed-whole n _ answers e
             ∙ ap (λ (g : ℕ → ℕ). listed 0 n g) (numbers-on states);
         counts =
-            f .counted ∙ all-written n _ tried d
+            f .counted ∙ listed-whole n _ tried d
             ∙ ap (λ (ys : List Alternative). listed 0 n (tries (stateAt names states) ys)) (h .stands);
       }
 

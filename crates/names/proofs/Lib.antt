@@ -2,4 +2,5 @@
 pub mod Names
 pub mod Slots
 pub mod Outcomes
+pub mod Few
 pub mod Unique

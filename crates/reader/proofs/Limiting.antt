@@ -6,6 +6,7 @@ use mathlib.Core.List.{List}
 use Prim.Native.Nat.{ℕ, _≤_}
 use native.Mathlib.Omega.{arith}
 use lib.ListN.{length}
+use Rattle.alf.specs.Names.{namesIn}
 use Rattle.basics.specs.Words.{if_then_else_}
 use Rattle.alf.specs.declared.Sort.{Sort}
 use Rattle.alf.specs.declared.Sort.the-variants as the-sort
@@ -21,14 +22,14 @@ use Rattle.acceptance.specs.declared.sizes.Measured.the-variants as size
 use Rattle.acceptance.specs.declared.sizes.Size.{Size}
 use Rattle.acceptance.specs.Sizes.{measured}
 use Rattle.reader.specs.declared.Read.{Read}
-use Rattle.sorting.specs.Lookup.{countOf, numberAt}
+use Rattle.sorting.specs.Lookup.{numberAt}
 use Rattle.sorting.specs.Sorts.{Sorted, is, faulty, given, asked, sorted, sortedFor}
 use Rattle.sorting.specs.Passes.{isVector}
 use Rattle.reader.specs.Reads.{made, refusedBy, refusedWith, hasSort}
 use Rattle.reader.specs.Reading.{tooLarge, ReadsText, Clear, Unlimited, refused, unlimited}
 use Rattle.reader.proofs.Texts.{nodes-inside}
 use Rattle.reader.proofs.Unknowns.{names-numbered}
-use Rattle.reader.proofs.TokenedTexts.{names-few}
+use Rattle.names.proofs.Few.{names-few}
 use Rattle.reader.proofs.Readings.{eight, read-clear}
 use Rattle.reader.proofs.Limits.{call-over, vector-ends, vector-is}
 
@@ -94,9 +95,9 @@ module _ {names text : List ℕ} {sort : Sort} {x : Expression} (k : Clear names
   unfolding sortedFor
   sort-is = given-sort sort (length text) (sorted (numberAt names text) (k .tree)) x (k .sorts)
 
-  over-names : ExpressionOver (countOf names) x
+  over-names : ExpressionOver (namesIn names) x
   over-names =
-      call-over (countOf names) (numberAt names text) sort (length text) (expression-formed (k .whole))
+      call-over (namesIn names) (numberAt names text) sort (length text) (expression-formed (k .whole))
       (nodes-inside (k .whole) (names-numbered names text (k .tokens) (k .known))) (k .sorts)
 
   small-read : ((p : ℕ) → tooLarge (is x) p → ⊥) → ReadsText names text sort (made x)
@@ -106,17 +107,17 @@ module _ {names text : List ℕ} {sort : Sort} {x : Expression} (k : Clear names
   large p h = eight names text sort (k .good) (k .clear) (k .read) (k .whole) (k .known) (k .sorts) p h
 
   module _ (v : VectorOf x) where
-    few : countOf names ≤ 32
+    few : namesIn names ≤ 32
     few = names-few names (k .good)
 
-    over-vector : ExpressionOver (countOf names) (vector (v .it))
+    over-vector : ExpressionOver (namesIn names) (vector (v .it))
     over-vector = rw (v .is-it) at over-names
 
-    ends : EndsVector (padded (bytesOf x)) (countOf names) (length (bytesOf x))
-    ends = rw (v .is-it) (vector-ends (countOf names) (v .it) few over-vector)
+    ends : EndsVector (padded (bytesOf x)) (namesIn names) (length (bytesOf x))
+    ends = rw (v .is-it) (vector-ends (namesIn names) (v .it) few over-vector)
 
-    it-is : vectorAt (padded (bytesOf x)) (countOf names) (length (bytesOf x)) ≡ v .it
-    it-is = rw (v .is-it) (vector-is (countOf names) (v .it) few over-vector)
+    it-is : vectorAt (padded (bytesOf x)) (namesIn names) (length (bytesOf x)) ≡ v .it
+    it-is = rw (v .is-it) (vector-is (namesIn names) (v .it) few over-vector)
 
     too-large : true ≡ overLimit (alternatives (v .it)) → tooLarge (is x) 0
     unfolding tooLarge
@@ -156,18 +157,18 @@ module _ {names text : List ℕ} {sort : Sort} {r : Read} (l : Left names text s
     it-vector : VectorOf (l .it)
     it-vector = vector-of sort (l .it) e (sort-is (l .clear))
 
-    pub limit-asks : EndsVector (r .tree) (countOf names) (r .len)
+    pub limit-asks : EndsVector (r .tree) (namesIn names) (r .len)
     unfolding made
     limit-asks =
-        subst (λ (y : Read). EndsVector (y .tree) (countOf names) (y .len)) (sym (l .is-made))
+        subst (λ (y : Read). EndsVector (y .tree) (namesIn names) (y .len)) (sym (l .is-made))
         (ends (l .clear) it-vector)
 
-    measured-is : vectorAt (r .tree) (countOf names) (r .len) ≡ it-vector .it
+    measured-is : vectorAt (r .tree) (namesIn names) (r .len) ≡ it-vector .it
     unfolding made
     measured-is =
-        ap (λ (y : Read). vectorAt (y .tree) (countOf names) (y .len)) (l .is-made) ∙ it-is (l .clear) it-vector
+        ap (λ (y : Read). vectorAt (y .tree) (namesIn names) (y .len)) (l .is-made) ∙ it-is (l .clear) it-vector
 
-    module _ {b : Bool} (f : b ≡ overLimit (alternatives (vectorAt (r .tree) (countOf names) (r .len)))) where
+    module _ {b : Bool} (f : b ≡ overLimit (alternatives (vectorAt (r .tree) (namesIn names) (r .len)))) where
       by-limit : b ≡ overLimit (alternatives (it-vector .it))
       by-limit = f ∙ ap (λ (v : Vector). overLimit (alternatives v)) measured-is
 

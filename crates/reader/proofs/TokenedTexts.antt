@@ -9,10 +9,12 @@ use mathlib.Core.Logic.{_⊎_, inl, inr}
 use Prim.Native.Nat.{ℕ, _-_, _≤_, _<_}
 use native.Mathlib.Omega.{arith}
 use lib.ListN.{length, getD}
+use Rattle.alf.specs.Names.{namesIn}
 use Rattle.alf.specs.declared.Sort.{Sort}
 use Rattle.alf.specs.Expressions.{Expression}
 use Rattle.alf.specs.Refusals.{Passed}
 use Rattle.basics.proofs.Bools.{below?}
+use Rattle.names.proofs.Few.{names-few}
 use Rattle.names.specs.Check.{namesOrder}
 use Rattle.tokens.specs.declared.Tokens.{Tokens}
 use Rattle.tokens.specs.Texts as text
@@ -33,7 +35,7 @@ use Rattle.grammar.proofs.RowFive.{row-sound}
 use Rattle.grammar.proofs.Fewest.{counted-nodes}
 use Rattle.grammar.proofs.Written.{expression-formed}
 use Rattle.reader.specs.declared.Read.{Read}
-use Rattle.sorting.specs.Lookup.{countOf, isUnknown, unknownAt}
+use Rattle.sorting.specs.Lookup.{isUnknown, unknownAt}
 use Rattle.sorting.specs.Sorts.{Sorted, is, faulty}
 use Rattle.reader.specs.Texts.{tokensOf}
 use Rattle.sorting.specs.Passes.{Listed}
@@ -46,14 +48,6 @@ use Rattle.reader.proofs.Texts.{reads-inside, reads-rises, few-counted,
 use Rattle.reader.proofs.Unknowns.{unknown-here, unknown-never}
 use Rattle.reader.proofs.Readings.{five, six, seven}
 use Rattle.tokens.proofs.Handing.{reads-short}
-
-pub names-few : (names : List ℕ) → Passed (namesOrder names) → countOf names ≤ 32
-unfolding Passed
-names-few names h = go (below? 32 (countOf names))
-  where
-    go : (32 < countOf names) ⊎ (countOf names ≤ 32) → countOf names ≤ 32
-    go (inl l) = absurd (h .0 0 (record { given = λ s. omega (arith, s .few); there = refl }))
-    go (inr l) = l
 
 pub text-short : (bytes : List ℕ) → Passed (order bytes) → length bytes ≤ 4096
 unfolding Passed order

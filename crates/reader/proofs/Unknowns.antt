@@ -11,7 +11,7 @@ use native.Mathlib.Omega.{arith}
 use lib.Dec.{eqb}
 use lib.ListN.{length, getD}
 use borrow.Author.Tests.{eqb-true, eqb-false}
-use Rattle.alf.specs.Names.{nameAt}
+use Rattle.alf.specs.Names.{namesIn, nameAt}
 use Rattle.basics.proofs.Bools.{and-left, and-right, below?}
 use Rattle.basics.proofs.AllEntries.{All, none, more}
 use Rattle.grammar.specs.declared.Token as node
@@ -19,7 +19,7 @@ use Rattle.grammar.specs.Tokens.{tokens}
 use Rattle.tokens.specs.Texts.{Token, tokenAt}
 use Rattle.tokens.specs.Tokenizing.{codesOf, placesOf}
 use Rattle.tokens.proofs.Places.{Rising, rising-at}
-use Rattle.sorting.specs.Lookup.{word, countOf, numberAt, isUnknown, unknownAt}
+use Rattle.sorting.specs.Lookup.{word, numberAt, isUnknown, unknownAt}
 use Rattle.reader.specs.Texts.{tokensOf}
 use Rattle.reader.specs.Reading.{Stands, here, there, Unknown, unknown}
 use Rattle.sorting.proofs.SlotNumbers.{number-found, first-passes, first-before}
@@ -65,21 +65,21 @@ module _ (names text : List ℕ) where
   -- what the test says
   test-missing :
       (c p : ℕ) → isUnknown names text c p ≡ true
-      → (c ≡ 0) × ((k : ℕ) → k < countOf names → nameAt names k ≡ word text p → ⊥)
+      → (c ≡ 0) × ((k : ℕ) → k < namesIn names → nameAt names k ≡ word text p → ⊥)
   unfolding isUnknown
   test-missing c p e =
-      let n : numberAt names text p ≡ countOf names = eqb-true _ _ (and-right (eqb c 0) _ e) in (
+      let n : numberAt names text p ≡ namesIn names = eqb-true _ _ (and-right (eqb c 0) _ e) in (
         eqb-true c 0 (and-left (eqb c 0) _ e),
         λ k l f. number-found names (word text p) .before k (omega (arith, n)) f,
       )
 
   test-there : (p : ℕ) → isUnknown names text 0 p ≡ false
-      → ((k : ℕ) → k < countOf names → nameAt names k ≡ word text p → ⊥) → ⊥
+      → ((k : ℕ) → k < namesIn names → nameAt names k ≡ word text p → ⊥) → ⊥
   unfolding isUnknown
   test-there p e m =
       let f = number-found names (word text p) in
-      let n = eqb-false (numberAt names text p) (countOf names) e in
-      let l : numberAt names text p < countOf names = omega (arith, f .within) in
+      let n = eqb-false (numberAt names text p) (namesIn names) e in
+      let l : numberAt names text p < namesIn names = omega (arith, f .within) in
       m (numberAt names text p) l (f .there l)
 
   module _ (ts : List Token) (rise : Rising 0 ts) where
@@ -119,18 +119,18 @@ module _ (names text : List ℕ) where
 pub names-numbered :
     (names bytes : List ℕ) (ts : List Token) →
     ((p : ℕ) → Unknown names bytes ts p → ⊥) →
-    All (λ (t : node.Token). t .code ≡ 0 → numberAt names bytes (t .place) < countOf names) (tokensOf ts)
+    All (λ (t : node.Token). t .code ≡ 0 → numberAt names bytes (t .place) < namesIn names) (tokensOf ts)
 unfolding tokens
 names-numbered names bytes [] known = none
 names-numbered names bytes (t ∷ ts) known =
     more {x = record { code = t .code; place = t .place }}
-    (λ e. numbered e (below? (numberAt names bytes (t .place)) (countOf names)))
+    (λ e. numbered e (below? (numberAt names bytes (t .place)) (namesIn names)))
     (names-numbered names bytes ts (λ p u. known p (record { stands = there (u .stands); missing = u .missing })))
   where
     numbered :
         t .code ≡ 0 →
-        (numberAt names bytes (t .place) < countOf names) ⊎ (countOf names ≤ numberAt names bytes (t .place)) →
-        numberAt names bytes (t .place) < countOf names
+        (numberAt names bytes (t .place) < namesIn names) ⊎ (namesIn names ≤ numberAt names bytes (t .place)) →
+        numberAt names bytes (t .place) < namesIn names
     numbered e (inl l) = l
     numbered e (inr l) =
         absurd

@@ -13,7 +13,7 @@ use mathlib.Core.Path.{_≡_}
 use mathlib.Core.List.{List, [], _∷_, _++_}
 use lib.ListN.{length, getD}
 use Rattle.alf.specs.declared.Sort.{Sort}
-use Rattle.alf.specs.Names.{nameAt}
+use Rattle.alf.specs.Names.{namesIn, nameAt}
 use Rattle.alf.specs.Expressions.{Expression, boolean, vector}
 use Rattle.alf.specs.Alternatives.{alternatives}
 use Rattle.alf.specs.Refusals.{Row, Order, check, RefusedWith, no-grammar, unknown-name, wrong-sort, over-limits}
@@ -25,7 +25,7 @@ use Rattle.grammar.specs.Grammar.{Tree, leaf, one, two, three}
 use Rattle.grammar.specs.Answers.{Stuck}
 use Rattle.grammar.specs.declared.Token as node
 use Rattle.reader.specs.declared.Read.{Read}
-use Rattle.sorting.specs.Lookup.{word, countOf, numberAt}
+use Rattle.sorting.specs.Lookup.{word, numberAt}
 use Rattle.sorting.specs.Sorts.{Sorted, is, faulty, ofOne, ofTwo, ofThree, asked, sorted, sortedFor}
 use Rattle.reader.specs.Texts.{tokensOf}
 use Rattle.reader.specs.Reads.{made, refusedWith}
@@ -38,7 +38,7 @@ pub data Stands (p : ℕ) : List Token → Type 0 where
 -- and no slot holds it
 pub record Unknown (names text : List ℕ) (ts : List Token) (p : ℕ) : Type 0 where
   pub stands : Stands p ts
-  pub missing : (k : ℕ) → k < countOf names → nameAt names k ≡ word text p → ⊥
+  pub missing : (k : ℕ) → k < namesIn names → nameAt names k ≡ word text p → ⊥
 
 -- 7: the places of the faulty operators, operands before operator, left before right; an operator is faulty that does
 -- not take its operands' sorts, and has none itself where an operand has none

@@ -7,6 +7,7 @@ use mathlib.Core.Path.{_≡_}
 use mathlib.Core.Bool.{Bool, true, false, not}
 use mathlib.Core.List.{List, []}
 use lib.ListN.{length}
+use Rattle.alf.specs.Names.{namesIn}
 use Rattle.basics.specs.declared.Refusal.{Refusal}
 use Rattle.basics.specs.Refusing.{refusal}
 use Rattle.alf.specs.declared.Sort.{Sort}
@@ -20,7 +21,7 @@ use Rattle.grammar.specs.Grammar.{Tree, nodes}
 use Rattle.grammar.specs.Answers.{padded, accepted}
 use Rattle.grammar.specs.Written.{Formed}
 use Rattle.reader.specs.declared.Read.{Read}
-use Rattle.sorting.specs.Lookup.{countOf, numberAt}
+use Rattle.sorting.specs.Lookup.{numberAt}
 use Rattle.sorting.specs.Sorts.{Sorted, is, faulty, sortedFor}
 
 unfoldable pub made : Expression → Read
@@ -51,7 +52,7 @@ hasSort the-sort.Vector v = v
 
 -- a parser's answer with the nodes of a tree of the text
 pub record Grown (names text : List ℕ) (p : Parsed) : Type 0 where
-  pub few : countOf names ≤ 32
+  pub few : namesIn names ≤ 32
   pub tree : Tree
   pub formed : Formed tree
   pub short : length (nodes tree) ≤ 256

@@ -18,8 +18,7 @@ use Rattle.trees.specs.Parts.{EndsBoolean, EndsVector, vectorAt}
 use Rattle.acceptance.specs.Accepted.{Accepted}
 use Rattle.acceptance.proofs.Acceptance.{accepted-boolean, accepted-vector}
 use Rattle.evaluator.specs.Rows.{Within, IsState, Filling, stateOf, valueOf}
-use Rattle.basics.proofs.Stores.{front-whole}
-use Rattle.basics.proofs.Listed.{listed-length}
+use Rattle.basics.proofs.Listed.{listed-whole}
 use Rattle.evaluator.proofs.Traces.{trace-row, trace-filling}
 use Rattle.judging.specs.declared.checks.Verdict.{Verdict}
 use Rattle.judging.specs.declared.checks.Verdict.the-variants.{Good, Refused}
@@ -105,4 +104,4 @@ module _ {names n : ℕ} {tree states : List ℕ} (out : List ℕ) {v : Verdict}
     unfolding Comes after
     values-told h =
         let (p, ((k, l), a, s)) = judged-good as-lists e in
-        record { comes = (p, refl); memory = h ∙ front-whole out _ (listed-length 0 n _ ∙ sym k) }
+        record { comes = (p, refl); memory = h ∙ listed-whole n _ out k }

@@ -12,6 +12,7 @@ use mathlib.Core.Path.{_≡_, refl, sym, ap, _∙_}
 use mathlib.Core.List.{List, map}
 use lib.ListN.{length, getD}
 use Rattle.basics.specs.declared.Refusal.{Refusal}
+use Rattle.alf.specs.Names.{namesIn}
 use Rattle.alf.specs.declared.Sort.the-variants as sort
 use Rattle.basics.specs.declared.Outcome.{Outcome}
 use Rattle.basics.specs.declared.Outcome.the-variants as outcome
@@ -37,7 +38,6 @@ use Rattle.spelling.specs.Spelled.{halfByte, pairSpelled, prefixes, signSpelled
 use Rattle.writer.specs.Trees.{text}
 use Rattle.writer.specs.Writing.{Named}
 use Rattle.text_laws.proofs.WrittenGives.{text-gives}
-use Rattle.trace_format.specs.Format as format
 use Rattle.matcher.specs.declared.tables.Total.{Total}
 use Rattle.states.specs.FirstBadCode.{Codes}
 use Rattle.matching_calls.specs.declared.matching.Counting.{Counting}
@@ -108,7 +108,7 @@ A-readable : Readable letters (bytes "A") sort.Boolean
 unfolding bytes
 A-readable = record { names-good = letters-good; short = omega arith; expression = boolean A; given = A-gives }
 
-T-good : GoodTrace (format.count letters) rows states
+T-good : GoodTrace (namesIn letters) rows states
 T-good = rw letters-count trace-good
 
 -- Totals, and the line with them.
@@ -166,7 +166,7 @@ pub other-sums : (n : ℕ) (cs : List Counting) (s : Sums) → addedAll (Added (
 other-sums n cs s e differ = differ (sums-exact n cs s e)
 
 -- Listings: of 01 A, of A, of any values.
-answers-length : length (patternListing (format.count letters) times states rises) ≡ 76
+answers-length : length (patternListing (namesIn letters) times states rises) ≡ 76
 unfolding bytes
 answers-length = rw letters-count (ap length case-1)
 

@@ -10,7 +10,7 @@ use Rattle.basics.specs.Refusing.{refusal}
 use Rattle.basics.specs.declared.Refusal.{Refusal}
 use Rattle.alf.specs.declared.Sort.the-variants as sort
 use Rattle.basics.specs.declared.Outcome.the-variants as outcome
-use Rattle.alf.specs.Names.{slot, untilZero, slotOf}
+use Rattle.alf.specs.Names.{namesIn, slot, untilZero, slotOf}
 use Rattle.alf.specs.Bytes.{halfNumber, edgeNumber, booleanBytes, vectorBytes, bytesOf}
 use Rattle.alf.specs.Decoder.{halfAt, edgeAt, leafAt, oneAt, operationAt}
 use Rattle.alf.specs.Decoder.{isBoolean, topBoolean, under, ifSo, run, stackAt}
@@ -28,7 +28,7 @@ use Rattle.writer.specs.Trees.{text}
 use Rattle.writer.specs.Writing.{textAt, Writes}
 use Rattle.text_laws.proofs.WrittenGives.{written-gives}
 use Rattle.trace_reader.specs.declared.Reading.the-variants as file
-use Rattle.trace_format.specs.Format.{fileOf, count}
+use Rattle.trace_format.specs.Format.{fileOf}
 use Rattle.trace_reader.specs.Reading.{Reads}
 use Rattle.trace_writer.specs.Writing as files
 use Rattle.changes.specs.declared.RowChanges.the-variants as row-changes
@@ -52,7 +52,7 @@ unfolding
     under ifSo run stackAt top slotOf slot untilZero bytes
 text-is = refl
 
-rises-counted : Accepted (count letters) sort.Vector (asked rises)
+rises-counted : Accepted (namesIn letters) sort.Vector (asked rises)
 rises-counted = rw letters-count rises-accepted
 
 text-short : length (textAt letters (asked rises)) ≡ 4
@@ -60,7 +60,7 @@ unfolding bytes
 text-short = ap length text-is
 
 pub check-names : (r : Refusal)
-    → Comes (namesOrder letters) (λ k. k ≡ count letters) (outcome.Refused r) → ⊥
+    → Comes (namesOrder letters) (λ k. k ≡ namesIn letters) (outcome.Refused r) → ⊥
 check-names r w = texts.check-names letters .no-refusal letters-good r tt w
 
 pub read-expression : (n p : ℕ) → ReadsText letters (bytes "01 A") sort.Vector (refusedWith n p) → ⊥

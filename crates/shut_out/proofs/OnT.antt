@@ -12,7 +12,8 @@ use lib.Dec.{ltb}
 use lib.ListN.{length, getD}
 use Rattle.alf.specs.declared.Sort.the-variants as sort
 use Rattle.basics.specs.Words.{greatestOf, sumOf, all}
-use Rattle.alf.specs.Names.{isLetter, isDecimal, startsName, goesOnName, isName, slot, untilZero, nameAt, slotOf}
+use Rattle.alf.specs.Names.{namesIn, isLetter, isDecimal, startsName, goesOnName, isName}
+use Rattle.alf.specs.Names.{slot, untilZero, nameAt, slotOf}
 use Rattle.alf.specs.Names.{GoodSlot}
 use Rattle.alf.specs.Expressions.{vector}
 use Rattle.alf.specs.Bytes.{joinByte, halfNumber, edgeNumber, booleanBytes, vectorBytes, bytesOf}
@@ -22,7 +23,7 @@ use Rattle.alf.specs.Alternatives.{alternatives, rewritten, each, overLimit, te
 use Rattle.alf.specs.TableT.{names, rows, times, states, pulse}
 use Rattle.basics.proofs.Bools.{and-left, and-right}
 use Rattle.names.specs.Check.{Slots}
-use Rattle.trace_format.specs.Format.{Trace, count}
+use Rattle.trace_format.specs.Format.{Trace}
 use Rattle.trees.specs.Brackets.{joinLevel, levelOf, bracketed, booleanDepth, vectorDepth, depthOf}
 use Rattle.alf.proofs.FewNames.{decodes-encoded}
 use Rattle.acceptance.specs.Accepted.{sortOf, overSize, Accepted}
@@ -122,7 +123,7 @@ pub letters-length : length letters ≡ 96
 unfolding slotOf
 letters-length = refl
 
-pub letters-count : count letters ≡ names
+pub letters-count : namesIn letters ≡ names
 unfolding slotOf
 letters-count = refl
 

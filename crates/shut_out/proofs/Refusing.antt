@@ -11,7 +11,7 @@ use lib.ListN.{length, getD}
 use Rattle.alf.specs.declared.Sort.{Sort}
 use Rattle.alf.specs.declared.Sort.the-variants.{Vector}
 use Rattle.basics.specs.declared.Outcome.the-variants as outcome
-use Rattle.alf.specs.Names.{GoodSlot}
+use Rattle.alf.specs.Names.{namesIn, GoodSlot}
 use Rattle.alf.specs.Refusals.{Passed, Comes, NameCount}
 use Rattle.names.specs.Check.{Slots, namesOrder}
 use Rattle.writer.specs.Writing as writing
@@ -57,7 +57,7 @@ module _ (names : List ℕ) where
   module _ (tree : List ℕ) (sort : Sort) (out : List ℕ) where
     pub record Writable : Type 0 where
       pub names-good : GoodNames names
-      pub accepted : Accepted (writing.countOf names) sort tree
+      pub accepted : Accepted (namesIn names) sort tree
       pub short : length (writing.textAt names tree) ≤ 4096
       pub room : length (writing.textAt names tree) ≤ length out
 

@@ -9,6 +9,7 @@ use mathlib.Core.Path.{_≡_, refl}
 use mathlib.Core.Logic.{_⊎_, inl, inr}
 use mathlib.Core.List.{List, [], _∷_, _++_}
 use lib.ListN.{length}
+use Rattle.alf.specs.Names.{namesIn}
 use Rattle.basics.specs.declared.Refusal.{Refusal}
 use Rattle.alf.specs.declared.Sort.the-variants as sort
 use Rattle.basics.specs.declared.Outcome.{Outcome}
@@ -20,7 +21,6 @@ use Rattle.alf.proofs.Orders.{refused-first, refused-then, refused-either, pass
 use Rattle.acceptance.specs.Accepted.{Accepted}
 use Rattle.reader.specs.Reading.{readOrder, Gives}
 use Rattle.reader.proofs.Unique.{gives-unique}
-use Rattle.writer.specs.Writing.{countOf}
 use Rattle.basics.specs.Memory.{after}
 use Rattle.figures.specs.Delivering.{lineOrder}
 use Rattle.alternative_lines.specs.declared.Lines.{Lines}
@@ -52,7 +52,7 @@ lines-parts o made x n (outcome.Refused r) e c t = inr (r, λ i. record { writte
 module _ (names tree out : List ℕ) where
   pub record Showable : Type 0 where
     pub names-good : GoodNames names
-    pub accepted : Accepted (countOf names) sort.Vector tree
+    pub accepted : Accepted (namesIn names) sort.Vector tree
     pub room : length (listingAt names tree) ≤ length out
 
   show-passes : Showable → Passed (order names tree (length out))

@@ -10,6 +10,7 @@ use mathlib.Core.Bool.{Bool, true, false}
 use mathlib.Core.Logic.{_⊎_}
 use mathlib.Core.List.{List}
 use lib.ListN.{length}
+use Rattle.alf.specs.Names.{namesIn}
 use Rattle.basics.specs.declared.Refusal.{Refusal}
 use Rattle.alf.specs.declared.Sort.{Sort}
 use Rattle.alf.specs.Expressions.{Expression}
@@ -22,7 +23,7 @@ use Rattle.reader.specs.Reading.{readOrder, Gives, ReadsText}
 use Rattle.reader.proofs.Unique.{read-unique, gives-read, read-complete}
 use Rattle.trace_reader.specs.declared.Reading as files
 use Rattle.trace_reader.specs.declared.Reading.the-variants as file
-use Rattle.trace_format.specs.Format.{Trace, fileOf, count}
+use Rattle.trace_format.specs.Format.{Trace, fileOf}
 use Rattle.trace_reader.specs.Reading.{FileRefused, RoomRefused, Reads}
 use Rattle.trace_laws.proofs.Theorems.{TraceOf, OneReading, got-trace}
 use Rattle.trace_laws.proofs.RoundTrips.{reads-unique, read-write}
@@ -76,7 +77,7 @@ told (file.Read k n) = true
 told (file.Refused r) = false
 
 module _ {names times states : List ℕ} {n : ℕ} (t : Trace names times states n) (n₀ t₀ s₀ : List ℕ) where
-  pub file-not-refused : length names ≤ length n₀ → n ≤ length t₀ → n * count names ≤ length s₀
+  pub file-not-refused : length names ≤ length n₀ → n ≤ length t₀ → n * namesIn names ≤ length s₀
       → (r : Refusal) (m : Three)
       → Reads (fileOf names times states n) n₀ t₀ s₀ (m .0) (m .1) (m .2) (file.Refused r) → ⊥
   unfolding told

@@ -1,5 +1,5 @@
--- Shut out: "refusing everything (the table says 'exactly when')", for the texts of a pattern's tree: the listing of its
--- answers, and its line of the table. Good input is a good trace, an accepted tree, and room for the text.
+-- Shut out: "refusing everything (the table says 'exactly when')", for the texts of a pattern's tree: the listing of
+-- its answers, and its line of the table. Good input is a good trace, an accepted tree, and room for the text.
 --   Textable, list, table-line
 use Prim.Native.Nat.{ℕ, _≤_}
 use native.Mathlib.Omega.{arith}

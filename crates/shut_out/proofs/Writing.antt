@@ -9,6 +9,7 @@ use native.Mathlib.Omega.{arith}
 use mathlib.Core.Path.{_≡_, sym, ap, _∙_}
 use mathlib.Core.List.{List, [], _∷_, _++_}
 use lib.ListN.{length, getD, take, drop, length-append, length-take, List·getD-append}
+use Rattle.alf.specs.Names.{namesIn}
 use Rattle.basics.specs.declared.Refusal.{Refusal}
 use Rattle.alf.specs.declared.Sort.{Sort}
 use Rattle.alf.specs.declared.Sort.the-variants as sort
@@ -17,7 +18,7 @@ use Rattle.alf.specs.Refusals.{Comes}
 use Rattle.writer.specs.Writing as writing
 use Rattle.trace_reader.specs.declared.Reading as files
 use Rattle.trace_reader.specs.declared.Reading.the-variants as file
-use Rattle.trace_format.specs.Format.{Trace, fileOf, count}
+use Rattle.trace_format.specs.Format.{Trace, fileOf}
 use Rattle.trace_reader.specs.Reading.{Reads}
 use Rattle.trace_laws.proofs.RoundTrips.{read-write}
 use Rattle.rewriting.specs.Calls.{Rewrites}
@@ -54,7 +55,7 @@ module _ {names tree : List ℕ} {sort : Sort} {out out′ : List ℕ} {m : ℕ}
 
 -- a file read with one state, or one time, other than the trace's: rows swapped, say
 module _ {names times states : List ℕ} {n : ℕ} (t : Trace names times states n) (n₀ t₀ s₀ : List ℕ) (m : Three)
-    (r : files.Reading) (a : length names ≤ length n₀) (b : n ≤ length t₀) (c : n * count names ≤ length s₀)
+    (r : files.Reading) (a : length names ≤ length n₀) (b : n ≤ length t₀) (c : n * namesIn names ≤ length s₀)
     (w : Reads (fileOf names times states n) n₀ t₀ s₀ (m .0) (m .1) (m .2) r) where
   pub other-state : (i : ℕ) → i < length states → (getD (m .2) i 0 ≡ getD states i 0 → ⊥) → ⊥
   other-state i l differ =

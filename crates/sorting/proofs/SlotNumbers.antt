@@ -16,13 +16,13 @@ use Rattle.basics.specs.Deciding.{Decides}
 use Rattle.basics.proofs.Deciding.{decided-by}
 use Rattle.basics.specs.Words.{if_then_else_, same}
 use Rattle.basics.proofs.Entries.{same-sound, same-true, same-false}
-use Rattle.alf.specs.Names.{nameAt, untilZero}
+use Rattle.alf.specs.Names.{namesIn, nameAt, untilZero}
 use Rattle.basics.proofs.Bools.{never}
 use Rattle.names.specs.Check.{NameLength}
 use Rattle.names.proofs.Slots.{slot-part}
 use Rattle.token_steps.specs.Taking.{nameBytes}
 use Rattle.token_steps.proofs.RightName.{names-le}
-use Rattle.sorting.specs.Lookup.{word, countOf, first, slotNumber, numberAt, isUnknown}
+use Rattle.sorting.specs.Lookup.{word, first, slotNumber, numberAt, isUnknown}
 
 pub first-here :
     (n : ℕ) (p : ℕ → Bool) (k : ℕ) → k < n → p k ≡ true → ((j : ℕ) → j < k → p j ≡ false) →
@@ -80,8 +80,8 @@ first-before (suc n) p j h = go (p 0) refl j (first-before n (λ k. p (suc k))) 
 
 -- k is the number of the first slot that holds the name w, or of all slots
 pub record Found (names w : List ℕ) (k : ℕ) : Type 0 where
-  pub within : k ≤ countOf names
-  pub there : k < countOf names → nameAt names k ≡ w
+  pub within : k ≤ namesIn names
+  pub there : k < namesIn names → nameAt names k ≡ w
   pub before : (j : ℕ) → j < k → nameAt names j ≡ w → ⊥
 
 pub number-found : (names w : List ℕ) → Found names w (slotNumber names w)
@@ -89,31 +89,31 @@ unfolding slotNumber
 number-found names w =
     record {
       within = first-bound _ _;
-      there = λ l. same-sound _ _ (first-passes (countOf names) (λ k. same (nameAt names k) w) l);
+      there = λ l. same-sound _ _ (first-passes (namesIn names) (λ k. same (nameAt names k) w) l);
       before = λ j l e.
-          let a = first-before (countOf names) (λ k. same (nameAt names k) w) j l in
+          let a = first-before (namesIn names) (λ k. same (nameAt names k) w) j l in
           never (sym a ∙ same-true _ _ e);
     }
 
 -- what the lookup passed and where it ended
 pub number-here :
     (names w : List ℕ) (k : ℕ) →
-    k < countOf names →
+    k < namesIn names →
     nameAt names k ≡ w →
     ((j : ℕ) → j < k → nameAt names j ≡ w → ⊥) →
     k ≡ slotNumber names w
 unfolding slotNumber
 number-here names w k l e b =
-    first-here (countOf names) (λ k. same (nameAt names k) w) k l (same-true _ _ e) (λ j h. same-false _ _ (b j h))
+    first-here (namesIn names) (λ k. same (nameAt names k) w) k l (same-true _ _ e) (λ j h. same-false _ _ (b j h))
 
 pub number-none :
     (names w : List ℕ) (k : ℕ) →
-    k ≡ countOf names →
+    k ≡ namesIn names →
     ((j : ℕ) → j < k → nameAt names j ≡ w → ⊥) →
     k ≡ slotNumber names w
 unfolding slotNumber
 number-none names w k e b =
-    rw e (first-none (countOf names) (λ k. same (nameAt names k) w) (λ j h. same-false _ _ (b j (rw e h))))
+    rw e (first-none (namesIn names) (λ k. same (nameAt names k) w) (λ j h. same-false _ _ (b j (rw e h))))
 
 -- the parts that the code compares
 pub word-part : (text : List ℕ) (at : ℕ) {end : ℕ} → end ≡ at + nameBytes (drop at text)
@@ -146,11 +146,11 @@ unfolding isUnknown
 unknown-other names text c p n = rw (ne-eqb c 0 n)
 
 pub unknown-name : (names text : List ℕ) (c p : ℕ) {k : ℕ} → c ≡ 0 → k ≡ numberAt names text p
-    → eqb k (countOf names) ≡ isUnknown names text c p
+    → eqb k (namesIn names) ≡ isUnknown names text c p
 unfolding isUnknown
 unknown-name names text c p e f = rw (eq-eqb c 0 e, f)
 
-pub number-small : (names text : List ℕ) (p : ℕ) → numberAt names text p ≤ countOf names
+pub number-small : (names text : List ℕ) (p : ℕ) → numberAt names text p ≤ namesIn names
 number-small names text p = number-found names (word text p) .within
 
 -- two tests that say the same find the same

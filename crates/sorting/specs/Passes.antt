@@ -13,13 +13,13 @@ use mathlib.Core.List.{List, [], _∷_, _++_}
 use lib.Dec.{eqb, ltb}
 use lib.ListN.{length, take, getD}
 use Rattle.basics.specs.Words.{if_then_else_}
-use Rattle.alf.specs.Names.{between}
+use Rattle.alf.specs.Names.{namesIn, between}
 use Rattle.alf.specs.Expressions.{Expression, boolean, vector}
 use Rattle.alf.specs.Bytes.{bytesOf}
 use Rattle.grammar.specs.declared.Token.{Token}
 use Rattle.grammar.specs.Answers.{padded, handed}
 use Rattle.sorting.specs.declared.sorts.Sorting.{Sorting}
-use Rattle.sorting.specs.Lookup.{countOf, numberAt}
+use Rattle.sorting.specs.Lookup.{numberAt}
 use Rattle.sorting.specs.Sorts.{Sorted, is, faulty, atom, ofOne, ofTwo, ofThree}
 
 -- a run goes on with some expressions, the last made first; or it stopped at a place
@@ -174,7 +174,7 @@ pub record Halted (place : ℕ) (s r : Sorting) : Type 0 where
 
 -- the lookup of a name at a place: inside the text, and with numbers that are bytes
 pub record Named (names text : List ℕ) (place : ℕ) : Type 0 where
-  pub few : countOf names ≤ 32
+  pub few : namesIn names ≤ 32
   pub inside : place ≤ length text
 
 -- some tokens of a text
@@ -185,7 +185,7 @@ pub record Listed (text codes places : List ℕ) (count : ℕ) : Type 0 where
 
 -- the nodes of a tree of a text
 pub record Handed (names text codes places : List ℕ) (len : ℕ) : Type 0 where
-  pub few : countOf names ≤ 32
+  pub few : namesIn names ≤ 32
   pub short : len ≤ 256
   pub listed : Listed text codes places len
   pub known : (i : ℕ) → i < len → isNode (getD codes i 0) ≡ true

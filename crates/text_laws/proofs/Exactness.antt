@@ -10,6 +10,7 @@ use mathlib.Core.Path.{_≡_, sym, subst}
 use mathlib.Core.Bool.{Bool, true, false}
 use mathlib.Core.List.{List}
 use lib.ListN.{length}
+use Rattle.alf.specs.Names.{namesIn}
 use Rattle.alf.specs.declared.Sort.{Sort}
 use Rattle.alf.specs.Refusals.{Passed, NameCount, cannot-be}
 use Rattle.names.specs.Check.{namesOrder}
@@ -17,7 +18,6 @@ use Rattle.trees.specs.Parts.{expressionAt}
 use Rattle.acceptance.specs.Accepted.{Accepted}
 use Rattle.basics.specs.Deciding.{Decides}
 use Rattle.acceptance.proofs.Acceptance.{accepted-bytes}
-use Rattle.sorting.specs.Lookup.{countOf}
 use Rattle.writer.specs.Writing.{textAt}
 use Rattle.text_laws.proofs.WrittenGives.{written-gives}
 use Rattle.text_laws.specs.GivingTexts.{TextFor, SomeText, Exactly}
@@ -26,9 +26,9 @@ use Rattle.text_laws.proofs.SomeNames.{someNames, some-counted, some-go
 
 -- what some text gives is accepted
 pub text-accepted : {names tree : List ℕ} {sort : Sort} → Passed (namesOrder names) → TextFor names sort tree
-    → Accepted (countOf names) sort tree
+    → Accepted (namesIn names) sort tree
 text-accepted {names} {tree} {sort} good t =
-    subst (Accepted (countOf names) sort) (t .bytes) (gives-accepted good (t .gives))
+    subst (Accepted (namesIn names) sort) (t .bytes) (gives-accepted good (t .gives))
 
 pub given-accepted : {n : ℕ} {sort : Sort} {tree : List ℕ} → SomeText n sort tree → Accepted n sort tree
 given-accepted {n} {sort} {tree} s =
@@ -36,11 +36,11 @@ given-accepted {n} {sort} {tree} s =
 
 -- an accepted tree is given by its written text
 pub accepted-text : {names tree : List ℕ} {sort : Sort} → Passed (namesOrder names)
-    → Accepted (countOf names) sort tree → TextFor names sort tree
+    → Accepted (namesIn names) sort tree → TextFor names sort tree
 accepted-text {names} {tree} good a =
     record {
       text = textAt names tree;
-      expression = expressionAt tree (countOf names) (length tree);
+      expression = expressionAt tree (namesIn names) (length tree);
       gives = written-gives (record { passed = good }) a;
       bytes = accepted-bytes a;
     }
@@ -58,11 +58,11 @@ accepted-given {n} {sort} {tree} (l, h) a =
 
 -- for a good list of names
 module _ {names : List ℕ} (good : Passed (namesOrder names)) {sort : Sort} {tree : List ℕ} where
-  pub exact-names : Exactly (Accepted (countOf names) sort tree) (TextFor names sort tree)
+  pub exact-names : Exactly (Accepted (namesIn names) sort tree) (TextFor names sort tree)
   exact-names = (accepted-text good, text-accepted good)
 
   -- the row of the table, as the writer has it
-  pub exact-row : (p : ℕ) → Exactly (cannot-be (Accepted (countOf names) sort tree → ⊥) p)
+  pub exact-row : (p : ℕ) → Exactly (cannot-be (Accepted (namesIn names) sort tree → ⊥) p)
       (cannot-be (TextFor names sort tree → ⊥) p)
   exact-row p = (
     λ r. record { given = λ t. r .given (text-accepted good t); there = r .there },
@@ -87,6 +87,6 @@ accepts-exact count sort tree false d = exact-none count .0 d
 
 -- which names they are does not matter
 pub gives-any : {n : ℕ} {sort : Sort} {tree names : List ℕ} → SomeText n sort tree → Passed (namesOrder names)
-    → countOf names ≡ n → TextFor names sort tree
+    → namesIn names ≡ n → TextFor names sort tree
 gives-any {sort = sort} {tree = tree} s good e =
     accepted-text good (subst (λ (k : ℕ). Accepted k sort tree) (sym e) (given-accepted s))

@@ -11,6 +11,7 @@ use mathlib.Core.Path.{_≡_, refl, sym}
 use mathlib.Core.Bool.{Bool, true, false}
 use mathlib.Core.List.{List}
 use lib.ListN.{length}
+use Rattle.alf.specs.Names.{namesIn}
 use Rattle.alf.specs.declared.Sort.{Sort}
 use Rattle.alf.specs.declared.Sort.the-variants as the-sort
 use Rattle.alf.specs.Expressions.{Expression, boolean, vector, ExpressionOver}
@@ -29,14 +30,14 @@ use Rattle.grammar.proofs.Fewest.{counted-nodes}
 use Rattle.grammar.proofs.Depth.{written-depth, written-shallowest}
 use Rattle.trees.specs.Brackets.{depthOf}
 use Rattle.acceptance.specs.Accepted.{sortOf, overSize, Accepted}
-use Rattle.sorting.specs.Lookup.{countOf, numberAt}
+use Rattle.sorting.specs.Lookup.{numberAt}
 use Rattle.sorting.specs.Sorts.{Sorted, is, faulty, given, asked, sorted, sortedFor}
 use Rattle.reader.specs.Texts.{tokensOf}
 use Rattle.reader.specs.Reading.{tooLarge, Gives}
 use Rattle.reader.proofs.Limits.{call-over}
 use Rattle.reader.proofs.Texts.{few-counted, nodes-inside}
 use Rattle.reader.proofs.Unknowns.{names-numbered}
-use Rattle.reader.proofs.TokenedTexts.{names-few}
+use Rattle.names.proofs.Few.{names-few}
 use Rattle.writer.specs.Trees.{treeOf}
 use Rattle.writer.proofs.Known.{nodes-bytes}
 use Rattle.text_laws.proofs.BracketDepths.{tree-depth}
@@ -86,9 +87,9 @@ module _ {names text : List ℕ} {sort : Sort} {x : Expression} (good : Passed (
   same-tokens : bare (g .tree) ≡ bare (treeOf x)
   same-tokens = sorted-bare (numberAt names text) formed (fits .was)
 
-  over : ExpressionOver (countOf names) x
+  over : ExpressionOver (namesIn names) x
   over =
-      call-over (countOf names) (numberAt names text) sort (length text) formed
+      call-over (namesIn names) (numberAt names text) sort (length text) formed
       (nodes-inside (g .whole) (names-numbered names text (g .tokens) (g .known))) (g .sorts)
 
   few : counted (tokensOf (g .tokens)) ≤ 256
@@ -108,10 +109,10 @@ module _ {names text : List ℕ} {sort : Sort} {x : Expression} (good : Passed (
         shallow-depth (g .read) (g .shallow),
       )
 
-  pub gives-decodes : Decodes (countOf names) (bytesOf x) x
-  gives-decodes = decode-bytes (countOf names) (names-few names good) x over
+  pub gives-decodes : Decodes (namesIn names) (bytesOf x) x
+  gives-decodes = decode-bytes (namesIn names) (names-few names good) x over
 
-  pub gives-accepted : Accepted (countOf names) sort (bytesOf x)
+  pub gives-accepted : Accepted (namesIn names) sort (bytesOf x)
   gives-accepted =
       record {
         expression = x;

@@ -13,6 +13,7 @@ use mathlib.Core.Path.{_≡_, refl, ap, sym, _∙_}
 use mathlib.Core.Bool.{Bool, true, false}
 use mathlib.Core.List.{List}
 use lib.ListN.{length, take, replicate, length-take}
+use Rattle.alf.specs.Names.{namesIn}
 use Rattle.alf.specs.declared.Sort.{Sort}
 use Rattle.alf.specs.declared.Sort.the-variants as the-sort
 use Rattle.alf.specs.Expressions.{Boolean, Vector, Expression, boolean, vector}
@@ -28,7 +29,6 @@ use Rattle.grammar.specs.Answers.{padded}
 use Rattle.acceptance.proofs.Acceptance.{accepted-decodes}
 use Rattle.acceptance.specs.Accepted.{sortOf, Accepted}
 use Rattle.reader.specs.declared.Read.{Read}
-use Rattle.sorting.specs.Lookup.{countOf}
 use Rattle.reader.specs.Reads.{made, refusedBy, refusedWith}
 use Rattle.reader.specs.Reading.{readOrder, Gives, ReadsText, refused, read}
 use Rattle.reader.proofs.Unique.{read-unique}
@@ -75,13 +75,13 @@ module _ {names text : List ℕ} {sort : Sort} {r : Read} (f : Found names text 
   found-names : Passed (namesOrder names)
   found-names = passed-left (namesOrder names) _ (f .passed)
 
-  pub found-accepted : Accepted (countOf names) sort (take (r .len) (r .tree))
+  pub found-accepted : Accepted (namesIn names) sort (take (r .len) (r .tree))
   found-accepted = rw found-front (gives-accepted found-names (f .gives))
 
   pub found-few : r .len ≤ 256
   found-few = omega (arith, found-count, found-accepted .tokens)
 
-  pub found-decodes : Decodes (countOf names) (take (r .len) (r .tree)) (f .it)
+  pub found-decodes : Decodes (namesIn names) (take (r .len) (r .tree)) (f .it)
   found-decodes = rw found-front (gives-decodes found-names (f .gives))
 
   pub found-sort : sortOf (f .it) ≡ sort
@@ -122,5 +122,5 @@ module _ {names text : List ℕ} {r : Read} (f : Found names text the-sort.Vecto
   pub vector-given : Gives names text the-sort.Vector (vector (found-vector f .p))
   vector-given = rw (found-vector f .is-vector) at (f .gives)
 
-  pub vector-decodes : Decodes (countOf names) (take (r .len) (r .tree)) (vector (found-vector f .p))
+  pub vector-decodes : Decodes (namesIn names) (take (r .len) (r .tree)) (vector (found-vector f .p))
   vector-decodes = rw (found-vector f .is-vector) at (found-decodes f)

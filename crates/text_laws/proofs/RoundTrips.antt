@@ -13,6 +13,7 @@ use mathlib.Core.List.{List, _∷_, _++_}
 use mathlib.Core.Logic.{_⊎_, inl, inr}
 use lib.ListN.{length, take, replicate}
 use lib.Seq.{take-at}
+use Rattle.alf.specs.Names.{namesIn}
 use Rattle.alf.specs.declared.Sort.{Sort}
 use Rattle.basics.specs.Refusing.{refusal}
 use Rattle.basics.specs.declared.Outcome.{Outcome}
@@ -40,7 +41,7 @@ use Rattle.reader.specs.Reading.{ReadsText}
 use Rattle.reader.proofs.Unique.{read-unique, read-sound, gives-read}
 use Rattle.writer.specs.Trees.{treeOf}
 use Rattle.writer.specs.Trees.{text}
-use Rattle.writer.specs.Writing.{countOf, textAt, order, Writes, Named, endOrder}
+use Rattle.writer.specs.Writing.{textAt, order, Writes, Named, endOrder}
 use Rattle.basics.specs.Memory.{after, front}
 use Rattle.acceptance.proofs.Acceptance.{accepted-bytes}
 use Rattle.writer.proofs.Theorems.{text-tokens, text-parses, writes-unique}
@@ -51,7 +52,7 @@ use Rattle.text_laws.proofs.NeededPairs.{pair-left-out}
 -- a tree that was written: names and tree were good, and the text is the tree's
 pub record Written (names tree : List ℕ) (sort : Sort) (bytes : List ℕ) : Type 0 where
   pub named : Named names
-  pub accepted : Accepted (countOf names) sort tree
+  pub accepted : Accepted (namesIn names) sort tree
   pub is : bytes ≡ textAt names tree
   pub short : length bytes ≤ 4096
 
@@ -70,7 +71,7 @@ was-written {names} {tree} {sort} {k = k} w =
     let front = ap (take k) (w .memory) ∙ take-at (textAt names tree) _ k (sym (w .outcome .1)) in
     record {
       named = record { passed = (p .0, (p .1 .0, tt)) };
-      accepted = accepted-stable (countOf names) sort tree (λ f. p .1 .1 .0 0 (record { given = f; there = refl }));
+      accepted = accepted-stable (namesIn names) sort tree (λ f. p .1 .1 .0 0 (record { given = f; there = refl }));
       is = front;
       short = rw front (not-long (length (textAt names tree)) (p .1 .1 .1 .0));
     }
@@ -98,7 +99,7 @@ made-as x e b =
 
 pub written-read : {names tree : List ℕ} {sort : Sort} {out out′ : List ℕ} {k : ℕ}
     → Writes names tree sort out out′ (Done k)
-    → ReadsText names (take k out′) sort (made (expressionAt tree (countOf names) (length tree)))
+    → ReadsText names (take k out′) sort (made (expressionAt tree (namesIn names) (length tree)))
 written-read w =
     let g = was-written w in
     rw (g .is) (gives-read (g .named .passed) (rw (g .is) at (g .short)) (written-gives (g .named) (g .accepted)))
@@ -107,7 +108,7 @@ pub read-write : {names tree : List ℕ} {sort : Sort} {out out′ : List ℕ} {
     → Writes names tree sort out out′ (Done k) → ReadsText names (take k out′) sort r → ReadAs tree r
 read-write {names} {tree} {sort} w v =
     let a = was-written w .accepted in
-    let n = countOf names in
+    let n = namesIn names in
     made-as (expressionAt tree n (length tree)) (read-unique v (written-read w))
     (accepted-bytes a)
 
@@ -136,7 +137,7 @@ read-again {q = q} u n w v =
 
 -- within the limit of 4,096 bytes, and past it
 module _ {names tree : List ℕ} {sort : Sort} {out out′ : List ℕ} {r : Outcome} (h : Named names)
-    (a : Accepted (countOf names) sort tree) (w : Writes names tree sort out out′ r) where
+    (a : Accepted (namesIn names) sort tree) (w : Writes names tree sort out out′ r) where
   pub written-within : length (textAt names tree) ≤ 4096 → length (textAt names tree) ≤ length out
       → (r ≡ Done (length (textAt names tree))) × (out′ ≡ front (textAt names tree) out)
   unfolding Comes Passed order endOrder after
@@ -177,7 +178,7 @@ pub record PairLess (ts us : List Token) : Type 0 where
   pub has : us ≡ before ++ (inside ++ behind)
 
 -- the tokens of an expression's text are its tree; without such a pair they are no tree with the same codes
-module _ {names : List ℕ} (h : Named names) (x : Expression) (o : ExpressionOver (countOf names) x) where
+module _ {names : List ℕ} (h : Named names) (x : Expression) (o : ExpressionOver (namesIn names) x) where
   pub one-pair-less : {ts : List texts.Token} {us : List Token} → Reads 0 (text names x) ts
       → PairLess (tokensOf ts) us → (e : Tree) → grammar.Expression us e
       → codesOf (nodes e) ≡ codesOf (nodes (treeOf x)) → ⊥

@@ -12,13 +12,12 @@ use lib.ListN.{length, getD, length-append}
 use lib.Seq.{take-at, drop-at, drop-drop}
 use borrow.Author.Tests.{lt-ltb, le-ltb, ne-eqb}
 use Rattle.basics.specs.Words.{if_then_else_, all}
-use Rattle.alf.specs.Names.{slot, slotOf, untilZero, nameAt, isName, startsName, isLetter, GoodSlot}
+use Rattle.alf.specs.Names.{namesIn, slot, slotOf, untilZero, nameAt, isName, startsName, isLetter, GoodSlot}
 use Rattle.alf.specs.Refusals.{Passed, Comes}
 use Rattle.basics.proofs.Bools.{below?}
 use Rattle.basics.proofs.Choices.{every, every-at}
 use Rattle.names.specs.Check.{Slots, namesOrder}
 use Rattle.names.proofs.Outcomes.{names-done}
-use Rattle.sorting.specs.Lookup.{countOf}
 
 unfoldable pub letter : ℕ → ℕ
 letter k = if ltb k 26 then 65 + k else 71 + k
@@ -98,7 +97,7 @@ module _ (n : ℕ) where
   name-is : (k : ℕ) → k < n → nameAt (someNames n) k ≡ named k
   name-is k h = ap untilZero (slot-is k h) ∙ slot-name k
 
-  pub some-counted : countOf (someNames n) ≡ n
+  pub some-counted : namesIn (someNames n) ≡ n
   some-counted = omega (arith, names-length 0 n)
 
   module _ (some : 1 ≤ n) (few : n ≤ 32) where

@@ -7,6 +7,7 @@ use mathlib.Core.Path.{_≡_, refl, sym, ap, _∙_}
 use mathlib.Core.Bool.{false}
 use mathlib.Core.List.{List, map}
 use lib.ListN.{length}
+use Rattle.alf.specs.Names.{namesIn}
 use Rattle.alf.specs.declared.Sort.{Sort}
 use Rattle.alf.specs.Expressions.{Expression, boolean, vector, ExpressionOver}
 use Rattle.alf.specs.Bytes.{bytesOf}
@@ -23,7 +24,7 @@ use Rattle.grammar.proofs.Depth.{written-depth}
 use Rattle.trees.specs.Parts.{expressionAt}
 use Rattle.trees.specs.Brackets.{depthOf}
 use Rattle.acceptance.specs.Accepted.{Accepted, sortOf, overSize}
-use Rattle.sorting.specs.Lookup.{countOf, numberAt}
+use Rattle.sorting.specs.Lookup.{numberAt}
 use Rattle.sorting.specs.Sorts.{is, given, asked, sortedFor}
 use Rattle.reader.specs.Texts.{tokensOf}
 use Rattle.reader.specs.Reading.{tooLarge, Gives}
@@ -55,7 +56,7 @@ never-large (boolean c) h p l = l
 never-large (vector v) h p l = never (sym h ∙ l .given)
 
 -- of an expression over checked names, within the limits of a text's tokens, brackets and alternatives
-module _ {names : List ℕ} (h : Named names) (x : Expression) (o : ExpressionOver (countOf names) x) where
+module _ {names : List ℕ} (h : Named names) (x : Expression) (o : ExpressionOver (namesIn names) x) where
   abbrev pub written-tokens : List Token
   written-tokens = written 6 (treeOf x)
 
@@ -109,16 +110,16 @@ module _ {names : List ℕ} (h : Named names) (x : Expression) (o : ExpressionOv
         tree = tree-there .tree;
         whole = tree-there .whole;
         known = none-unknown h (text names x) known refl;
-        sorts = rw (matched-sorted (countOf names) number x o tree-there) (asked-is x _);
+        sorts = rw (matched-sorted (namesIn names) number x o tree-there) (asked-is x _);
         small = never-large x small;
       }
 
 -- of a tree that is accepted
-pub written-gives : {names tree : List ℕ} {sort : Sort} → Named names → Accepted (countOf names) sort tree
-    → Gives names (textAt names tree) sort (expressionAt tree (countOf names) (length tree))
+pub written-gives : {names tree : List ℕ} {sort : Sort} → Named names → Accepted (namesIn names) sort tree
+    → Gives names (textAt names tree) sort (expressionAt tree (namesIn names) (length tree))
 unfolding textAt
 written-gives {names} {tree} {sort} h a =
-    let n = countOf names in
+    let n = namesIn names in
     let x = a .expression in
     let b = ap length (bytes-decode n tree x (accepted-decodes a)) in
     rw (decoded n tree x (accepted-decodes a), ← a .sorted)

@@ -10,7 +10,7 @@ use mathlib.Core.List.{List, [], _∷_, _++_, map}
 use lib.ListN.{length, take, drop}
 use lib.Seq.{take-at, drop-at, drop-drop}
 use borrow.Author.Tests.{eq-eqb, ne-eqb}
-use Rattle.alf.specs.Names.{isName, nameAt}
+use Rattle.alf.specs.Names.{namesIn, isName, nameAt}
 use Rattle.basics.proofs.Bools.{never}
 use Rattle.basics.proofs.AllEntries.{All}
 use Rattle.token_steps.specs.Taking.{nameBytes}
@@ -18,7 +18,7 @@ use Rattle.tokens.specs.Texts as texts
 use Rattle.tokens.specs.Tokenizing as reading
 use Rattle.grammar.specs.declared.Token.{Token}
 use Rattle.grammar.specs.Tokens.{tokens}
-use Rattle.sorting.specs.Lookup.{word, countOf, numberAt}
+use Rattle.sorting.specs.Lookup.{word, numberAt}
 use Rattle.reader.specs.Texts.{tokensOf}
 use Rattle.reader.specs.Reading.{Stands, here, there, Unknown}
 use Rattle.sorting.proofs.SlotNumbers.{number-here}
@@ -59,7 +59,7 @@ rest-stands names text p t ts h =
 -- a slot holds the name that stands at byte p
 record Held (names text : List ℕ) (p : ℕ) : Type 0 where
   slot : ℕ
-  within : slot < countOf names
+  within : slot < namesIn names
   is : nameAt names slot ≡ word text p
 
 stands-held : {names text : List ℕ} {q : ℕ} {us : List texts.Token} → Stands q us
@@ -74,7 +74,7 @@ module _ {names : List ℕ} (h : Named names) (text : List ℕ) where
   word-stands p t ts e k d =
       rw (d, spelled-name names t e) (name-stands (nameAt names (t .place)) (following-behind names ts) k)
 
-  number-stands : (p : ℕ) (t : Token) (ts : List Token) → t .code ≡ 0 → t .place < countOf names
+  number-stands : (p : ℕ) (t : Token) (ts : List Token) → t .code ≡ 0 → t .place < namesIn names
       → isName (nameAt names (t .place)) ≡ true → drop p text ≡ spelled names t ++ following names ts
       → numberAt names text p ≡ t .place
   number-stands p t ts e l k d =

@@ -8,12 +8,12 @@
 use Prim.Native.Nat.{ℕ}
 use mathlib.Core.Path.{_≡_}
 use mathlib.Core.List.{List}
+use Rattle.alf.specs.Names.{namesIn}
 use Rattle.alf.specs.declared.Sort.{Sort}
 use Rattle.alf.specs.Expressions.{Expression}
 use Rattle.alf.specs.Bytes.{bytesOf}
 use Rattle.alf.specs.Refusals.{Passed}
 use Rattle.names.specs.Check.{namesOrder}
-use Rattle.sorting.specs.Lookup.{countOf}
 use Rattle.reader.specs.Reading.{Gives}
 
 pub record TextFor (names : List ℕ) (sort : Sort) (tree : List ℕ) : Type 0 where
@@ -25,7 +25,7 @@ pub record TextFor (names : List ℕ) (sort : Sort) (tree : List ℕ) : Type 0 w
 pub record SomeText (n : ℕ) (sort : Sort) (tree : List ℕ) : Type 0 where
   pub names : List ℕ
   pub good : Passed (namesOrder names)
-  pub counted : countOf names ≡ n
+  pub counted : namesIn names ≡ n
   pub given : TextFor names sort tree
 
 -- the one exactly if the other

@@ -1,3 +1,4 @@
 -- The laws of this crate.
+pub mod CodeParts
 pub mod Marks
 pub mod RowByRow

@@ -5,6 +5,7 @@ ghost use lib.ListN.{length, getD};
 ghost use Rattle.trace_format.specs.Records.{markAt, wordAt};
 ghost use Rattle.trace_format.specs.Parts.{ByteIs, CodesTo};
 use crate::Mark;
+use states::codes::first_bad_code;
 
 // The byte at a place.
 pub fn byte_at(file: &[u8], at: usize) -> usize
@@ -59,12 +60,5 @@ pub fn codes_to(codes: &[u8], from: usize, to: usize) -> usize
     requires { ⌜ (from ≤ to) × (to ≤ length (now codes)) ⌝ }
     ensures { λ r. ⌜ CodesTo (now (codes .entry)) from to r ⌝ }
 {
-    let mut i = from;
-    while i < to {
-        if 7 < codes[i] {
-            return i;
-        }
-        i += 1;
-    }
-    i
+    from + first_bad_code(&codes[from..to])
 }

@@ -11,6 +11,7 @@ use mathlib.Core.Logic.{_⊎_, inl, inr}
 use Prim.Native.Nat.{ℕ, zero, suc, _-_, _*_, _<_, _≤_}
 use native.Mathlib.Omega.{arith}
 use lib.ListN.{length}
+use Rattle.alf.specs.Names.{namesIn}
 use Rattle.basics.specs.declared.Outcome.{Outcome}
 use Rattle.basics.specs.declared.Outcome.the-variants as Outcome
 use Rattle.alf.specs.Refusals.{Passed, Comes}
@@ -19,7 +20,7 @@ use Rattle.alf.proofs.Outcomes.{at-fixed, refused-passed, refused-unique, comes
 use Rattle.alf.proofs.Orders.{passed-both, fixed-both}
 use Rattle.trace_reader.specs.declared.Reading.{Reading}
 use Rattle.trace_reader.specs.declared.Reading.the-variants.{Read, Refused}
-use Rattle.trace_format.specs.Format.{fileOf, count, Trace}
+use Rattle.trace_format.specs.Format.{fileOf, Trace}
 use Rattle.trace_reader.specs.Reading.{FileRefused, RoomRefused, roomOrder, Got, Reads}
 use Rattle.trace_writer.specs.Writing.{rowsOrder, listsOrder, writeOrder, Writes, BadState}
 use Rattle.trace_writer.proofs.TraceChecks.{trace-fixed}
@@ -83,8 +84,8 @@ module _ (file names times states : List ℕ) where
 
 pub checks-unique :
     (names times states : List ℕ) (n : ℕ) (r s : Outcome) →
-    Comes (listsOrder names times states n) (λ k. k ≡ count names) r →
-    Comes (listsOrder names times states n) (λ k. k ≡ count names) s →
+    Comes (listsOrder names times states n) (λ k. k ≡ namesIn names) r →
+    Comes (listsOrder names times states n) (λ k. k ≡ namesIn names) s →
     r ≡ s
 checks-unique names times states n r s a b =
     comes-unique (listsOrder names times states n) _ (trace-fixed names times states n) (λ j k x y. x ∙ sym y) r s a b
@@ -112,23 +113,23 @@ module _ {names times states : List ℕ} {n : ℕ} {out : List ℕ} where
 
 -- a trace passes the checks of writing
 module _ {names times states : List ℕ} {n : ℕ} (t : Trace names times states n) where
-  rows-pass : (r : ℕ) → r ≤ n → Passed (rowsOrder (count names) times states r)
+  rows-pass : (r : ℕ) → r ≤ n → Passed (rowsOrder (namesIn names) times states r)
   unfolding rowsOrder Passed
   rows-pass zero h = tt
   rows-pass (suc r) h =
-      passed-both (rowsOrder (count names) times states r) _ (rows-pass r (omega arith)) (
+      passed-both (rowsOrder (namesIn names) times states r) _ (rows-pass r (omega arith)) (
         (λ p a.
             let l : 0 < r = a .given .0 in
             let e : suc (r - 1) ≡ r = omega arith in
             omega (arith, rw e at (t .rising (r - 1) (omega arith)), a .given .1)),
         (
           (λ p a.
-              let b : BadState (count names) states r p = a .given in
+              let b : BadState (namesIn names) states r p = a .given in
               omega (
                 arith,
                 b .above,
                 t .codes p (omega
-                    (arith, b .to, room-for r n (count names) h, t .lists .states-all)),
+                    (arith, b .to, room-for r n (namesIn names) h, t .lists .states-all)),
               )),
           tt,
         ),
@@ -163,12 +164,12 @@ module _ {names times states : List ℕ} {n : ℕ} (t : Trace names times states
       (n₀ t₀ s₀ : List ℕ) {n₁ t₁ s₁ : List ℕ} (r : Reading) →
       length names ≤ length n₀ →
       n ≤ length t₀ →
-      n * count names ≤ length s₀ →
+      n * namesIn names ≤ length s₀ →
       Reads (fileOf names times states n) n₀ t₀ s₀ n₁ t₁ s₁ r →
-      OneReading r n₁ t₁ s₁ (Read (count names) n) (front names n₀) (front times t₀) (front states s₀)
+      OneReading r n₁ t₁ s₁ (Read (namesIn names) n) (front names n₀) (front times t₀) (front states s₀)
   unfolding Reads Passed
   read-write n₀ t₀ s₀ r hn ht hs w =
-      reads-unique (fileOf names times states n) n₀ t₀ s₀ r (Read (count names) n) w
+      reads-unique (fileOf names times states n) n₀ t₀ s₀ r (Read (namesIn names) n) w
       (record {
         ns = names;
         ts = times;

@@ -8,11 +8,12 @@ use mathlib.Core.Path.{_≡_, sym, ap, _∙_}
 use mathlib.Core.List.{List}
 use Prim.Native.Nat.{ℕ, _<_}
 use lib.ListN.{getD}
+use Rattle.alf.specs.Names.{namesIn}
 use Rattle.basics.specs.declared.Outcome.{Outcome}
 use Rattle.basics.specs.declared.Outcome.the-variants as Outcome
 use Rattle.alf.proofs.Outcomes.{AllFixed, at-fixed}
 use Rattle.trace_reader.specs.declared.Reading.{Reading}
-use Rattle.trace_format.specs.Format.{fileOf, count, Trace}
+use Rattle.trace_format.specs.Format.{fileOf, Trace}
 use Rattle.trace_reader.specs.Reading.{Accepted, FileRefused, roomOrder, Got}
 use Rattle.trace_reader.specs.HeldLists.{namesOf, timesOf, statesOf}
 use Rattle.trace_reader.proofs.AcceptedTraces.{accepted-trace, accepted-bytes}
@@ -26,7 +27,7 @@ pub record TraceOf (file : List ℕ) (k n : ℕ) : Type 0 where
   pub states : List ℕ
   pub trace : Trace names times states n
   pub bytes : file ≡ fileOf names times states n
-  pub counted : k ≡ count names
+  pub counted : k ≡ namesIn names
 
 pub exact-accepted : {file : List ℕ} {k n : ℕ} → TraceOf file k n → Accepted file k n
 exact-accepted t = rw (t .bytes, t .counted) (trace-accepted (t .trace))

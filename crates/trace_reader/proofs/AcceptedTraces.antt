@@ -6,10 +6,10 @@ use Prim.Native.Nat.{ℕ, zero, suc, _+_, _-_, _*_, _≤_, _<_}
 use native.Mathlib.Omega.{arith}
 use native.Mathlib.Numerals.{add-one}
 use lib.ListN.{length, getD, drop}
-use Rattle.alf.specs.Names.{slotOf, nameAt, GoodSlot}
+use Rattle.alf.specs.Names.{namesIn, slotOf, nameAt, GoodSlot}
 use Rattle.names.specs.Check.{Slots}
 use Rattle.trace_format.specs.declared.Mark.the-variants.{Row}
-use Rattle.trace_format.specs.Format.{nameRecord, rowRecord, nameRecords, rowRecords, fileOf, count, Lists, Trace}
+use Rattle.trace_format.specs.Format.{nameRecord, rowRecord, nameRecords, rowRecords, fileOf, Lists, Trace}
 use Rattle.trace_format.specs.Records.{place, nameEnd, nameIn, timeIn, codesIn, Good}
 use Rattle.trace_reader.specs.Reading.{Accepted}
 use Rattle.trace_reader.specs.HeldLists.{namesOf, timesOf, statesOf}
@@ -46,7 +46,7 @@ module _ {file : List ℕ} {k n : ℕ} (accepted : Accepted file k n) where
   pub few-rows : n ≤ 65535
   few-rows = let h : n - 1 < n = omega (arith, ends .some) in omega (arith, row (n - 1) h .few)
 
-  pub counted : count (namesOf file k) ≡ k
+  pub counted : namesIn (namesOf file k) ≡ k
   counted = let e : length (namesOf file k) ≡ k * 32 = names-length file k in rw e (omega arith)
 
   name-at : (j : ℕ) → j < k → nameAt (namesOf file k) j ≡ nameIn file j

@@ -7,11 +7,12 @@ use mathlib.Core.Logic.{_⊎_}
 use mathlib.Core.Path.{_≡_}
 use mathlib.Core.List.{List, [], _∷_}
 use lib.ListN.{length}
+use Rattle.alf.specs.Names.{namesIn}
 use Rattle.alf.specs.Refusals.{Order, check, no-room, RefusedWith, Passed}
 use Rattle.trace_format.specs.declared.Mark.the-variants.{End}
 use Rattle.trace_reader.specs.declared.Reading.{Reading}
 use Rattle.trace_reader.specs.declared.Reading.the-variants.{Read, Refused}
-use Rattle.trace_format.specs.Format.{Trace, fileOf, count}
+use Rattle.trace_format.specs.Format.{Trace, fileOf}
 use Rattle.trace_format.specs.Records.{recordOrder, Good, Before}
 use Rattle.basics.specs.Memory.{front}
 
@@ -48,7 +49,7 @@ pub record Got (file names times states : List ℕ) (k n : ℕ) (names′ times�
   pub ss : List ℕ
   pub trace : Trace ns ts ss n
   pub bytes : file ≡ fileOf ns ts ss n
-  pub named : k ≡ count ns
+  pub named : k ≡ namesIn ns
   pub room : Passed (roomOrder names times states k n)
   pub names-now : names′ ≡ front ns names
   pub times-now : times′ ≡ front ts times

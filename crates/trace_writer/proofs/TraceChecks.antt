@@ -17,19 +17,18 @@ use Rattle.basics.proofs.Stable.{le-stable, eq-stable}
 use Rattle.basics.specs.declared.Refusal.{Refusal}
 use Rattle.basics.specs.declared.Outcome.{Outcome}
 use Rattle.basics.specs.declared.Outcome.the-variants.{Done, Refused}
-use Rattle.alf.specs.Names.{GoodSlot}
+use Rattle.alf.specs.Names.{namesIn, GoodSlot}
 use Rattle.alf.specs.Refusals.{bad-slot, At, RefusedWith, Passed, Comes}
 use Rattle.alf.proofs.Orders.{Is, none-first, passed-left, passed-right, fixed-both}
 use Rattle.alf.proofs.Outcomes.{AllFixed, at-fixed, first-fixed}
 use Rattle.names.specs.Check.{namesOrder}
-use Rattle.trace_format.specs.Format.{count}
 use Rattle.trace_writer.specs.Writing.{AllLists, BadState, rowsOrder, listsOrder}
 use Rattle.trace_writer.specs.Putting.{RowsLent, NamesGood, Good}
 use Rattle.trace_writer.proofs.StableNames.{slot-stable}
 
-slots-good : (names : List ℕ) → ((p : ℕ) → bad-slot names p → ⊥) → (j : ℕ) → j < count names → GoodSlot names j
+slots-good : (names : List ℕ) → ((p : ℕ) → bad-slot names p → ⊥) → (j : ℕ) → j < namesIn names → GoodSlot names j
 slots-good names f j h =
-    slot-stable names j (λ n. none-first (λ i. (i < count names) × (GoodSlot names i → ⊥)) f j (h, n))
+    slot-stable names j (λ n. none-first (λ i. (i < namesIn names) × (GoodSlot names i → ⊥)) f j (h, n))
 
 pub checked-18 :
     (names times states : List ℕ) (n : ℕ) {b : Bool} {o : Outcome} (made : ℕ → Type 0) →
@@ -42,7 +41,7 @@ checked-18 names times states n made t f e = rw e (inl (refl, record { given = n
 
 module _ {names times states : List ℕ} {n : ℕ} where
   module _ (all : AllLists names times states n) {o : Outcome}
-      (c : Comes (namesOrder names) (λ m. m ≡ count names) o) where
+      (c : Comes (namesOrder names) (λ m. m ≡ namesIn names) o) where
     -- a list of names that is refused is refused with 12
     pub checked-12 : {r : Refusal} (made : ℕ → Type 0) → o ≡ Refused r
         → Comes (listsOrder names times states n) made (Refused r)
@@ -59,7 +58,7 @@ module _ {names times states : List ℕ} {n : ℕ} where
     pub names-good : {k : ℕ} → o ≡ Done k → NamesGood names times states n k
     unfolding Comes Passed
     names-good {k} e =
-        let d : Comes (namesOrder names) (λ m. m ≡ count names) (Done k) = rw e at c in
+        let d : Comes (namesOrder names) (λ m. m ≡ namesIn names) (Done k) = rw e at c in
         record { all = all; good = slots-good names (d .0 .1 .0); counted = d .1 }
 
 -- the lists that pass 18 and 12
@@ -75,7 +74,7 @@ module _ {names times states : List ℕ} {n k : ℕ} (g : NamesGood names times 
   no-12 p a = a .given .1 (g .good p (a .given .0))
 
   pub checked-rows : (o : Outcome) → Comes (rowsOrder k times states n) (λ m. m ≡ k) o
-      → Comes (listsOrder names times states n) (λ m. m ≡ count names) o
+      → Comes (listsOrder names times states n) (λ m. m ≡ namesIn names) o
   unfolding Comes RefusedWith Passed
   checked-rows (Done m) c = ((no-18, (no-12, rw (g .counted) at (c .0))), c .1 ∙ g .counted)
   checked-rows (Refused r) c = inr (no-18, inr (no-12, rw (g .counted) at c))
@@ -87,26 +86,26 @@ lists-stable names times states n h =
       slots =
           record {
             whole = eq-stable (length names % 32) 0 (λ k. h (λ a. k (a .slots .whole)));
-            some = le-stable 1 (count names) (λ k. h (λ a. k (a .slots .some)));
-            few = le-stable (count names) 32 (λ k. h (λ a. k (a .slots .few)));
+            some = le-stable 1 (namesIn names) (λ k. h (λ a. k (a .slots .some)));
+            few = le-stable (namesIn names) 32 (λ k. h (λ a. k (a .slots .few)));
           };
       lists =
           record {
             some = le-stable 1 n (λ k. h (λ a. k (a .lists .some)));
             few = le-stable n 65535 (λ k. h (λ a. k (a .lists .few)));
             times-all = eq-stable (length times) n (λ k. h (λ a. k (a .lists .times-all)));
-            states-all = eq-stable (length states) (n * count names) (λ k. h (λ a. k (a .lists .states-all)));
+            states-all = eq-stable (length states) (n * namesIn names) (λ k. h (λ a. k (a .lists .states-all)));
           };
     }
 
 pub trace-good :
     {names times states : List ℕ} {n k : ℕ} {o : Outcome} →
-    Comes (listsOrder names times states n) (λ m. m ≡ count names) o →
+    Comes (listsOrder names times states n) (λ m. m ≡ namesIn names) o →
     o ≡ Done k →
     Good names times states n k
 unfolding Comes Passed
 trace-good {names} {times} {states} {n} {k} c e =
-    let d : Comes (listsOrder names times states n) (λ m. m ≡ count names) (Done k) = rw e at c in
+    let d : Comes (listsOrder names times states n) (λ m. m ≡ namesIn names) (Done k) = rw e at c in
     record {
       named =
           record {
@@ -153,4 +152,4 @@ rows-fixed k times states (suc n) =
     fixed-both (rowsOrder k times states n) _ (rows-fixed k times states n) (at-fixed _ _, (first-fixed _, tt))
 
 pub trace-fixed : (names times states : List ℕ) (n : ℕ) → AllFixed (listsOrder names times states n)
-trace-fixed names times states n = (at-fixed _ _, (first-fixed _, rows-fixed (count names) times states n))
+trace-fixed names times states n = (at-fixed _ _, (first-fixed _, rows-fixed (namesIn names) times states n))

@@ -1,5 +1,5 @@
 -- What writing comes to: what the check of the trace refuses, 9, or the file in front of the buffer.
--- Main names: writes-refused, writes-9, written.
+-- Main names: writes-refused, writes-9, file-written.
 use mathlib.Core.Path.{_≡_, refl, sym}
 use mathlib.Core.List.{List}
 use mathlib.Core.Logic.{inl}
@@ -7,12 +7,13 @@ use Prim.Native.Nat.{ℕ, _+_, _*_, _≤_, _<_}
 use native.Mathlib.Omega.{arith}
 use native.Mathlib.Nat.{mul-le-mul}
 use lib.ListN.{length, length-append}
+use Rattle.alf.specs.Names.{namesIn}
 use Rattle.basics.specs.declared.Refusal.{Refusal}
 use Rattle.basics.specs.declared.Outcome.{Outcome}
 use Rattle.basics.specs.declared.Outcome.the-variants.{Done, Refused}
 use Rattle.alf.specs.Refusals.{RefusedWith, Passed, Comes}
 use Rattle.alf.proofs.Orders.{Is, refused-first, refused-then, passed-both}
-use Rattle.trace_format.specs.Format.{nameRecords, rowRecords, endRecord, fileOf, count}
+use Rattle.trace_format.specs.Format.{nameRecords, rowRecords, endRecord, fileOf}
 use Rattle.trace_writer.specs.Writing.{listsOrder, writeOrder, Writes}
 use Rattle.basics.specs.Memory.{Put, after}
 use Rattle.basics.proofs.PartByPart.{put-then, put-front, put-length}
@@ -64,7 +65,7 @@ module _ {names times states : List ℕ} {n k : ℕ} (g : Good names times state
   pub file-length : length (fileOf names times states n) ≡ length (nameRecords names k) + n * (6 + k) + 6
   unfolding fileOf endRecord
   file-length =
-      let e : count names ≡ k = sym (g .named .counted) in
+      let e : namesIn names ≡ k = sym (g .named .counted) in
       rw (e, length-append, length-append, rows-size, word-length n) (omega arith)
 
   module _ (out : List ℕ) {s : ℕ} (size : NamesSize names k s) where
@@ -107,11 +108,11 @@ module _ {names times states : List ℕ} {n k : ℕ} (g : Good names times state
                 put-length rows-put,
               )
 
-          pub written : {out₃ : List ℕ} {all : ℕ} → Put out₂ end (endRecord n) out₃ all
+          pub file-written : {out₃ : List ℕ} {all : ℕ} → Put out₂ end (endRecord n) out₃ all
               → Writes names times states n out out₃ (Done all)
           unfolding Comes Passed after fileOf
-          written {out₃} {all} end-put =
-              let e : count names ≡ k = sym (g .named .counted) in
+          file-written {out₃} {all} end-put =
+              let e : namesIn names ≡ k = sym (g .named .counted) in
               let file : Put out 0 (fileOf names times states n) out₃ all =
               rw e (put-then names-put (put-then rows-put end-put))
               in

@@ -8,9 +8,9 @@ use Prim.Native.Nat.{ℕ, _+_, _-_, _*_, _<_, _≤_}
 use mathlib.Core.Path.{_≡_}
 use mathlib.Core.List.{List}
 use lib.ListN.{length, getD}
-use Rattle.alf.specs.Names.{GoodSlot}
+use Rattle.alf.specs.Names.{namesIn, GoodSlot}
 use Rattle.alf.specs.Refusals.{Passed}
-use Rattle.trace_format.specs.Format.{nameRecords, count}
+use Rattle.trace_format.specs.Format.{nameRecords}
 use Rattle.trace_writer.specs.Writing.{AllLists, listsOrder}
 
 -- a name of at most 32 bytes, and room for its record
@@ -50,8 +50,8 @@ pub record RowsFit (k : ℕ) (times states : List ℕ) (n : ℕ) (out : List ℕ
 -- lists that pass 18 and 12
 pub record NamesGood (names times states : List ℕ) (n k : ℕ) : Type 0 where
   pub all : AllLists names times states n
-  pub good : (j : ℕ) → j < count names → GoodSlot names j
-  pub counted : k ≡ count names
+  pub good : (j : ℕ) → j < namesIn names → GoodSlot names j
+  pub counted : k ≡ namesIn names
 
 -- lists that pass 13 and 15 too
 pub record Good (names times states : List ℕ) (n k : ℕ) : Type 0 where

@@ -8,10 +8,11 @@ use Prim.Native.Nat.{ℕ, zero, suc, _+_, _-_, _*_, _<_, _≤_}
 use mathlib.Core.Path.{_≡_}
 use mathlib.Core.List.{List, [], _∷_, _++_}
 use lib.ListN.{length, getD}
+use Rattle.alf.specs.Names.{namesIn}
 use Rattle.basics.specs.declared.Outcome.{Outcome}
 use Rattle.alf.specs.Refusals.{Order, check, First, bad-lists, bad-slot, not-above, no-room, Comes}
 use Rattle.names.specs.Check.{Slots}
-use Rattle.trace_format.specs.Format.{Lists, fileOf, count}
+use Rattle.trace_format.specs.Format.{Lists, fileOf}
 use Rattle.basics.specs.Memory.{after, front}
 
 -- 1 to 32 slots, and lists of exactly n entries
@@ -37,11 +38,11 @@ abbrev pub listsOrder : List ℕ → List ℕ → List ℕ → ℕ → Order
 listsOrder names times states n =
     check 18 (bad-lists (AllLists names times states n))
     ∷ check 12 (bad-slot names)
-    ∷ rowsOrder (count names) times states n
+    ∷ rowsOrder (namesIn names) times states n
 
 -- what the check of a trace in lists comes to: how many names
 abbrev pub ChecksTrace : List ℕ → List ℕ → List ℕ → ℕ → Outcome → Type 0
-ChecksTrace names times states n = Comes (listsOrder names times states n) (λ k. k ≡ count names)
+ChecksTrace names times states n = Comes (listsOrder names times states n) (λ k. k ≡ namesIn names)
 
 -- then 9
 abbrev pub writeOrder : List ℕ → List ℕ → List ℕ → ℕ → ℕ → Order

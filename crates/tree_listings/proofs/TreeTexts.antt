@@ -18,7 +18,7 @@ use Rattle.basics.specs.Memory.{after, placed}
 use Rattle.basics.proofs.Deciding.{eqb-decides}
 use Rattle.basics.proofs.Listed.{listed-length}
 use Rattle.basics.proofs.Stable.{le-stable}
-use Rattle.basics.proofs.Stores.{front-whole}
+use Rattle.basics.proofs.Stores.{placed-whole}
 use Rattle.basics.proofs.Tables.{listed-at}
 use Rattle.alf.specs.Values.{stateAt}
 use Rattle.alf.specs.Alternatives.{answerOf}
@@ -67,12 +67,6 @@ module _ (lists : Type 0) (names : ℕ) (tree states text : List ℕ) where
 pub listed-most : (most n : ℕ) (f : ℕ → ℕ) → ((i : ℕ) → f i ≤ most) → (i : ℕ) → i < length (listed 0 n f)
     → getD (listed 0 n f) i 0 ≤ most
 listed-most most n f h i l = rw (listed-at n i f 0 (omega (arith, listed-length 0 n f))) (h i)
-
-placed-whole : (d w : List ℕ) → length w ≡ length d → placed d 0 w ≡ w
-unfolding placed
-placed-whole d w e =
-    let z : _≡_ {A = ℕ} (0 + length w) (length w) = omega arith in
-    rw z (front-whole d w e)
 
 module _ {names n : ℕ} {tree states answers : List ℕ} (f : Filling names n tree states answers) where
   module _ {a : Alternatives} (h : Holds tree names a) where

@@ -1,6 +1,6 @@
 -- What the call and its parts are proved by.
 --   delivered-long, delivered-short, delivered   the end of the call: 1, 9, or done
---   names-few, names-named, names-new            what checked names are
+--   names-named, names-new                       what checked names are
 --   refused-names, refused-tree, names-passed    18, 12 and 10, before the text is made
 --   laid, lined, wrote                           an accepted tree is laid out, spelled and delivered
 use Prim.Native.Nat.{ℕ, _+_, _/_, _<_, _≤_}
@@ -18,7 +18,7 @@ use Rattle.basics.specs.declared.Refusal.{Refusal}
 use Rattle.basics.specs.Refusing.{refusal}
 use Rattle.basics.specs.declared.Outcome.{Outcome}
 use Rattle.basics.specs.declared.Outcome.the-variants.{Done, Refused}
-use Rattle.alf.specs.Names.{isName, nameAt}
+use Rattle.alf.specs.Names.{namesIn, isName, nameAt}
 use Rattle.alf.specs.Expressions.{Expression, ExpressionOver}
 use Rattle.alf.specs.Bytes.{bytesOf}
 use Rattle.alf.specs.Decoder.{Decodes}
@@ -27,6 +27,7 @@ use Rattle.alf.proofs.Decoding.{bytes-decode, decode-over}
 use Rattle.alf.specs.Refusals.{RefusedWith, Passed, Comes}
 use Rattle.grammar.specs.Written.{written}
 use Rattle.trees.specs.Parts.{Ends, isWhole, expressionAt}
+use Rattle.names.proofs.Few.{names-few}
 use Rattle.names.specs.Check.{namesOrder}
 use Rattle.alf.proofs.Orders.{none-first}
 use Rattle.acceptance.specs.Accepted.{Accepted}
@@ -37,7 +38,7 @@ use Rattle.spelling.specs.Signs.{sign, lineFrom}
 use Rattle.writer.specs.Layout.{signs, treeAt}
 use Rattle.spelling.specs.Inner.{Spellable}
 use Rattle.basics.specs.Memory.{Put}
-use Rattle.writer.specs.Writing.{countOf, textAt, order, Writes, Named, Layable, Linable}
+use Rattle.writer.specs.Writing.{textAt, order, Writes, Named, Layable, Linable}
 use Rattle.basics.specs.Memory.{Holds}
 use Rattle.basics.specs.Memory.{after}
 use Rattle.writer.specs.Writing.{endOrder, Delivers}
@@ -72,18 +73,8 @@ delivered {w} {out} h k p =
           p .bytes ∙ sets-eq w out 0 z ∙ ap (λ (n : ℕ). w ++ drop n out) e;
     }
 
--- what checked names are: at most 32, names, and all different
+-- what checked names are: names, and all different
 module _ {names : List ℕ} (h : Named names) where
-  pub names-few : length names / 32 ≤ 32
-  unfolding Passed
-  names-few = go (leb (length names / 32) 32) refl
-    where
-      go : (b : Bool) → leb (length names / 32) 32 ≡ b → length names / 32 ≤ 32
-      go true e = leb-true _ 32 e
-      go false e =
-          let k : 32 < length names / 32 = leb-false _ 32 e in
-          absurd (h .passed .0 0 (record { given = λ s. omega (arith, s .few); there = refl }))
-
   pub names-named : (i : ℕ) → i < length names / 32 → isName (nameAt names i) ≡ true
   unfolding Passed
   names-named i l = go (isName (nameAt names i)) refl
@@ -113,12 +104,12 @@ module _ (names tree : List ℕ) (sort : Sort) (room : ℕ) where
   unfolding Comes
   comes-names made r x = names-refused (r .number) (r .place) x
 
-  comes-ten : Named names → (Accepted (countOf names) sort tree → ⊥)
+  comes-ten : Named names → (Accepted (namesIn names) sort tree → ⊥)
       → Comes (order names tree sort room) (done names tree) (Refused (refusal 10 0))
   unfolding Comes RefusedWith Passed order
   comes-ten h f = inr (h .passed .0, inr (h .passed .1 .0, inl (refl, record { given = f; there = refl })))
 
-  comes-end : Named names → Accepted (countOf names) sort tree → (r : Outcome)
+  comes-end : Named names → Accepted (namesIn names) sort tree → (r : Outcome)
       → Comes (endOrder (textAt names tree) room) (done names tree) r
       → Comes (order names tree sort room) (done names tree) r
   unfolding Comes RefusedWith Passed order endOrder
@@ -134,7 +125,7 @@ refused-names {names} {tree} {sort} {out} made {r} x e =
     record { outcome = comes-names names tree sort (length out) made r (rw e at x); memory = refl }
 
 pub refused-tree : {names tree : List ℕ} {sort : Sort} {out : List ℕ} {o : Outcome}
-    → Named names → (Accepted (countOf names) sort tree → ⊥)
+    → Named names → (Accepted (namesIn names) sort tree → ⊥)
     → o ≡ Refused (refusal 10 0)
     → Writes names tree sort out out o
 unfolding after
@@ -147,19 +138,19 @@ pub names-passed : {names : List ℕ} (made : ℕ → Type 0) {k : ℕ} {o : Out
 unfolding Comes
 names-passed made x e = record { passed = (rw e at x) .0 }
 
-module _ {names tree : List ℕ} {sort : Sort} (h : Named names) (a : Accepted (countOf names) sort tree) where
+module _ {names tree : List ℕ} {sort : Sort} (h : Named names) (a : Accepted (namesIn names) sort tree) where
   abbrev e : Expression
-  e = expressionAt tree (countOf names) (length tree)
+  e = expressionAt tree (namesIn names) (length tree)
 
-  over : ExpressionOver (countOf names) e
+  over : ExpressionOver (namesIn names) e
   over =
-      rw (decoded (countOf names) tree (a .expression) (accepted-decodes a))
-      (decode-over (countOf names) tree (a .expression) (accepted-decodes a))
+      rw (decoded (namesIn names) tree (a .expression) (accepted-decodes a))
+      (decode-over (namesIn names) tree (a .expression) (accepted-decodes a))
 
   bytes : length (bytesOf e) ≡ length tree
   bytes =
-      rw (decoded (countOf names) tree (a .expression) (accepted-decodes a))
-      (ap length (bytes-decode (countOf names) tree (a .expression) (accepted-decodes a)))
+      rw (decoded (namesIn names) tree (a .expression) (accepted-decodes a))
+      (ap length (bytes-decode (namesIn names) tree (a .expression) (accepted-decodes a)))
 
   tokens : AllKnown names (written 6 (treeOf e))
   tokens = written-known 6 (tree-known (names-named h) e over)
@@ -167,19 +158,19 @@ module _ {names tree : List ℕ} {sort : Sort} (h : Named names) (a : Accepted (
   few : length (written 6 (treeOf e)) ≤ 1024
   few = omega (arith, written-short (treeOf e) 6, nodes-bytes e, bytes, a .tokens)
 
-  ends : Ends tree (countOf names) (length tree)
+  ends : Ends tree (namesIn names) (length tree)
   unfolding Decodes isWhole
   ends = record { within = omega arith; whole = rw (accepted-decodes a) refl }
 
-  pub laid : Layable tree (countOf names)
+  pub laid : Layable tree (namesIn names)
   unfolding signs treeAt
   laid = record { ends = ends; few = rw length-map few }
 
   module _ {list : List ℕ} {count : ℕ}
-      (k : Holds list count (signs 6 (treeAt tree (countOf names) (length tree)))) where
+      (k : Holds list count (signs 6 (treeAt tree (namesIn names) (length tree)))) where
     pub line-is : lineFrom names 0 (take count list) ≡ textAt names tree
     unfolding signs treeAt textAt text
-    line-is = ap (lineFrom names 0) (k .front) ∙ line-text (names-few h) tokens
+    line-is = ap (lineFrom names 0) (k .front) ∙ line-text (names-few names (h .passed)) tokens
 
     counted : count ≡ length (written 6 (treeOf e))
     unfolding signs treeAt
@@ -189,7 +180,7 @@ module _ {names tree : List ℕ} {sort : Sort} (h : Named names) (a : Accepted (
     unfolding signs treeAt
     spellable i l =
         rw (sym (getD-take count list i 0 l) ∙ ap (λ (x : List ℕ). getD x i 0) (k .front))
-        (signs-spellable (names-few h) tokens i (omega (arith, k .size)))
+        (signs-spellable (names-few names (h .passed)) tokens i (omega (arith, k .size)))
 
     short : length (textAt names tree) ≤ 33792
     unfolding textAt text

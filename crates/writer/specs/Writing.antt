@@ -1,5 +1,4 @@
 -- Document 01, "Writing" and rows 18, 12, 10, 1, 9 of "Numbers for refused work": what `write_expression` comes to.
---   countOf            how many names a list has
 --   textAt             the text of the expression that a tree is
 --   order, Writes      what is refused, in its order; the outcome and the lent buffer
 --   Named, Layable, Laid, Linable, endOrder, Delivers   what the functions inside ask and give
@@ -8,6 +7,7 @@ use Prim.Native.Nat.{ℕ, _/_, _≤_, _<_}
 use mathlib.Core.Path.{_≡_}
 use mathlib.Core.List.{List, [], _∷_}
 use lib.ListN.{length, take, getD}
+use Rattle.alf.specs.Names.{namesIn}
 use Rattle.alf.specs.declared.Sort.{Sort}
 use Rattle.basics.specs.declared.Outcome.{Outcome}
 use Rattle.alf.specs.Refusals.{Order, check, bad-lists, bad-slot, cannot-be, too-long, no-room}
@@ -21,19 +21,16 @@ use Rattle.writer.specs.Layout.{signs, treeAt}
 use Rattle.spelling.specs.Inner.{Spellable}
 use Rattle.basics.specs.Memory.{Holds, after, front}
 
-abbrev pub countOf : List ℕ → ℕ
-countOf names = length names / 32
-
 -- the text of the expression that a tree is
 unfoldable pub textAt : List ℕ → List ℕ → List ℕ
-textAt names tree = text names (expressionAt tree (countOf names) (length tree))
+textAt names tree = text names (expressionAt tree (namesIn names) (length tree))
 
 -- 18, 12, 10, 1, 9
 unfoldable pub order : List ℕ → List ℕ → Sort → ℕ → Order
 order names tree sort room =
     check 18 (bad-lists (Slots names)) ∷
     check 12 (bad-slot names) ∷
-    check 10 (cannot-be (Accepted (countOf names) sort tree → ⊥)) ∷
+    check 10 (cannot-be (Accepted (namesIn names) sort tree → ⊥)) ∷
     check 1 (too-long (length (textAt names tree))) ∷
     check 9 (no-room (length (textAt names tree)) room) ∷
     []

@@ -2,7 +2,7 @@
 use native.Mathlib.Omega.{arith}
 use borrow.Author.Needs.{needs}
 use Rattle.trace_writer.proofs.WriteOutcomes.{names-lent, size-small, writes-9, slots-fit}
-use Rattle.trace_writer.proofs.WriteOutcomes.{rows-fit, end-fits, written}
+use Rattle.trace_writer.proofs.WriteOutcomes.{rows-fit, end-fits, file-written}
 use Rattle.trace_writer.proofs.write.write_good.Statement.{statement}
 use Rattle.trace_writer.proofs.write.write_good.Tie as tie
 
@@ -72,7 +72,7 @@ returns-2 c =
     let named = rowed .before .before .before .before in
     let sized = named .before .before .before in
     let start = sized .before .before .before .before .before in
-    written (start .pre) _ (sized .names-size .ensures) (named .before .before .if1 .left)
+    file-written (start .pre) _ (sized .names-size .ensures) (named .before .before .if1 .left)
     (named .put-names .ensures) (rowed .put-rows .ensures) (ended .put-end .ensures)
 
 pub write-good-spec : {M : Type 1} → statement M

@@ -1,0 +1,28 @@
+-- Demand 1 holds of the calls that the program makes. Main name: demand-1-jobs.
+use Rattle.basics.specs.Memory.{after}
+use Rattle.alternative_lines.proofs.Theorems.{alternatives-unique}
+use Rattle.listing.proofs.Theorems.{values-unique}
+use Rattle.row_listings.proofs.ListingTheorems.{list-text-unique, values-text-unique, lists-stays}
+use Rattle.jobs.proofs.AlternativesLaws.{text-unique}
+use Rattle.jobs.proofs.TextCounts.{counts-unique}
+use Rattle.jobs.proofs.TableLines.{table-line-unique}
+use Rattle.jobs.proofs.LetterCorrections.{letters-unique}
+use Rattle.demands.specs.Jobs.{Demand1Jobs}
+
+pub demand-1-jobs : Demand1Jobs
+unfolding after
+demand-1-jobs =
+    record {
+      count-text = λ names n states text a b x y. counts-unique x y;
+      table-line = λ names n states text out. record { one = λ a b m o x y. table-line-unique x y };
+      list-text = λ names times states text out.
+          record { one = λ a b m o x y. list-text-unique x y; stays = λ r m x. lists-stays x };
+      values-text = λ names times states text out.
+          record { one = λ a b m o x y. values-text-unique x y; stays = λ r m x. lists-stays x };
+      list-values = λ times values out.
+          record { one = λ a b m o x y. values-unique times values out x y; stays = λ r m x. x .memory };
+      alternatives-text = λ names text out. record { one = λ a b m o x y. text-unique x y };
+      write-alternatives = λ names tree out. record { one = λ a b m o x y. alternatives-unique x y };
+      correct-letters = λ names n states row letters.
+          record { one = λ a b m o x y. letters-unique x y; stays = λ r m x. x .memory };
+    }

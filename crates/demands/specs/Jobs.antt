@@ -1,0 +1,34 @@
+-- Demand 1, for the calls that the program makes: from a text and a trace to a text, a line of the table, the
+-- alternatives as lines, a corrected row. Each has one result and one memory; refused, the memory is as it was.
+--   Single          any two results, and the memory with each, coincide
+--   Demand1Jobs     what is promised of these calls
+use Prim.Native.Nat.{ℕ}
+use mathlib.Core.Path.{_≡_}
+use mathlib.Core.List.{List}
+use Rattle.basics.specs.declared.Outcome.the-variants.{Refused}
+use Rattle.alternative_lines.specs.Calls.{WritesAlternatives}
+use Rattle.listing.specs.Calls.{ValuesText}
+use Rattle.row_listings.specs.Listings.{ListsPattern, ListsValues}
+use Rattle.jobs.specs.Counting.{CountsText}
+use Rattle.jobs.specs.Lines.{TableLine}
+use Rattle.jobs.specs.Correcting.{CorrectsLetters}
+use Rattle.jobs.specs.AlternativesText.{RewritesText}
+use Rattle.demands.specs.Promises.{Promised, One}
+
+-- a call whose result tells of more than one refusal
+pub record Single {R M : Type 0} (allows : R → M → Type 0) : Type 0 where
+  pub one : (a b : R) (m n : M) → allows a m → allows b n → (a ≡ b) × (m ≡ n)
+
+pub record Demand1Jobs : Type 0 where
+  pub count-text : (names : List ℕ) (n : ℕ) (states text : List ℕ) → One (CountsText names n states text)
+  pub table-line : (names : List ℕ) (n : ℕ) (states text out : List ℕ)
+      → Single (λ r m. TableLine names n states text out m r)
+  pub list-text : (names times states text out : List ℕ)
+      → Promised Refused (λ r m. ListsPattern names times states text out m r) out
+  pub values-text : (names times states text out : List ℕ)
+      → Promised Refused (λ r m. ListsValues names times states text out m r) out
+  pub list-values : (times values out : List ℕ) → Promised Refused (λ r m. ValuesText times values out m r) out
+  pub alternatives-text : (names text out : List ℕ) → Single (λ r m. RewritesText names text out m r)
+  pub write-alternatives : (names tree out : List ℕ) → Single (λ r m. WritesAlternatives names tree out m r)
+  pub correct-letters : (names n : ℕ) (states : List ℕ) (row : ℕ) (letters : List ℕ)
+      → Promised Refused (λ r m. CorrectsLetters names n states row letters m r) states
