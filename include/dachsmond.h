@@ -11,7 +11,7 @@
 
    A call takes less than 256 KB of stack. The proofs say nothing of that: tests/stack measures each call on the inputs
    that recurse deepest (145,904 bytes at most, for a listing, which holds an answer for each row) and reckons from the
-   object code how much any input can take (237,872 bytes at most). Nothing is allocated and nothing is kept. */
+   object code how much any input can take (242,608 bytes at most). Nothing is allocated and nothing is kept. */
 #ifndef DACHSMOND_H
 #define DACHSMOND_H
 #include <stdbool.h>
@@ -127,8 +127,8 @@ dachsmond_told dachsmond_values(size_t names, size_t n, const uint8_t *tree, siz
                                 size_t states_len, uint8_t *out, size_t out_len);
 
 /* The answer of a vector tree at a row, the greatest over all windows that end there: 18, 10, 15, 19. It is worked out
-   as the tree is written, on windows of at most 16 events, so its cost does not grow with the row; the states are all
-   looked through once for 15. */
+   as the tree is written, each part of it once on each window of at most 16 events, so its cost does not grow with the
+   row; the states are all looked through once for 15. */
 dachsmond_answered dachsmond_row_answer(size_t names, size_t n, const uint8_t *tree, size_t tree_len,
                                         const uint8_t *states, size_t states_len, uint32_t row);
 

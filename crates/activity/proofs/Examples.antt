@@ -9,7 +9,8 @@ use Rattle.alf.specs.Traces.{changed, changeCount}
 use Rattle.basics.specs.Text.{bytes, joined}
 use Rattle.figures.specs.Numbers.{digits, widthUpTo, width, decimal}
 use Rattle.listing.specs.Listing.{letter}
-use Rattle.activity.specs.Activity.{member, members, letters, headLine, rowLine, rowLines, activityText}
+use Rattle.row_lines.specs.Lines.{member, members, letters, rowLine, rowLines}
+use Rattle.activity.specs.Activity.{headLine, activityText}
 
 -- the slots of the names A, B and C
 unfoldable pub names : List ℕ

@@ -1,8 +1,6 @@
 -- The laws of the activity listing.
-pub mod InTurn
-pub mod NameSets
-pub mod RowParts
 pub mod WholeText
 pub mod Examples
 pub mod Theorems
+pub mod Parts
 pub mod Longest

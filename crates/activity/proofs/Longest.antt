@@ -1,5 +1,6 @@
 -- How long the activity listing of a trace can be: 65,535 lines of 1,134 bytes, and a head of 1,069.
--- Main name: activity-fits. So a buffer of 74,317,759 bytes suffices for every trace.
+-- Main names: activity-fits, part-fits. So a buffer of 74,317,759 bytes suffices for every trace, and one of 1,135,069
+-- for every part of 1,000 rows.
 use Prim.Native.Nat.{ℕ, zero, suc, _+_, _*_, _^_, _<_, _≤_}
 use native.Mathlib.Omega.{arith}
 use native.Mathlib.Nat.{suc-mul, mul-le-mul}
@@ -7,6 +8,7 @@ use mathlib.Core.Path.{_≡_, refl, ap, _∙_}
 use mathlib.Core.Bool.{Bool, true, false}
 use mathlib.Core.Logic.{_⊎_, inl, inr}
 use mathlib.Core.List.{List, [], _∷_, _++_}
+use lib.Dec.{eqb}
 use lib.ListN.{length, getD, length-append}
 use Rattle.basics.specs.Words.{if_then_else_, listed}
 use Rattle.basics.proofs.Bools.{never, below?}
@@ -20,8 +22,9 @@ use Rattle.trace_format.specs.Format.{Trace}
 use Rattle.basics.specs.Text.{bytes, joined}
 use Rattle.figures.specs.Numbers.{decimal}
 use Rattle.figures.proofs.Digits.{width-most, decimal-length}
-use Rattle.activity.specs.Activity.{member, members, letters, headLine, rowLine, rowLines, activityText}
-use Rattle.activity.proofs.RowParts.{letters-length, line-length}
+use Rattle.row_lines.specs.Lines.{member, members, letters, rowLine, rowLines}
+use Rattle.activity.specs.Activity.{headLine, opening, partText, activityText}
+use Rattle.row_lines.proofs.RowParts.{letters-length, line-length}
 
 name-few : (s : List ℕ) → isName s ≡ true → length s ≤ 32
 name-few s e = go (below? 32 (length s))
@@ -87,8 +90,27 @@ module _ {names times states : List ℕ} {n : ℕ} (t : Trace names times states
   activity-fits =
       omega (
         arith,
-        length-append (headLine names (namesIn names)) (rowLines names (namesIn names) times states n),
+        length-append (headLine names (namesIn names)) (rowLines names (namesIn names) times states 0 n),
         head-few,
         parts-few (λ r. rowLine names (namesIn names) states (getD times r 0) r) 1134 0 n (λ r h. row-few r),
         t .lists .few,
+      )
+
+  opening-few : (first : ℕ) → length (opening names (namesIn names) first) ≤ 1069
+  unfolding opening
+  opening-few first = go (eqb first 0)
+    where
+      go : (b : Bool) → length (if b then headLine names (namesIn names) else []) ≤ 1069
+      go true = head-few
+      go false = omega arith
+
+  pub part-fits : (first many : ℕ)
+      → length (partText names (namesIn names) times states first many) ≤ 1069 + many * 1134
+  unfolding partText rowLines
+  part-fits first many =
+      omega (
+        arith,
+        length-append (opening names (namesIn names) first) (rowLines names (namesIn names) times states first many),
+        opening-few first,
+        parts-few (λ r. rowLine names (namesIn names) states (getD times r 0) r) 1134 first many (λ r h. row-few r),
       )

@@ -18,7 +18,8 @@ use Rattle.basics.specs.Text.{bytes, joined}
 use Rattle.figures.specs.Numbers.{digits, widthUpTo, width, decimal}
 use Rattle.trace_writer.specs.Writing.{listsOrder}
 use Rattle.trace_writer.proofs.TraceChecks.{trace-fixed}
-use Rattle.activity.specs.Activity.{member, members, letters, rowLine, activityOrder, ListsActivity}
+use Rattle.row_lines.specs.Lines.{member, members, letters, rowLine}
+use Rattle.activity.specs.Activity.{activityOrder, ListsActivity}
 
 pub activity-unique :
     (names times states : List ℕ) (n : ℕ) (out : List ℕ) {x y : List ℕ} {r s : Outcome} →

@@ -1,30 +1,37 @@
--- The whole text in its parts, and what the call comes to.
---   head-sized, head-start           the head line
---   slots-lent, row-in               what a good trace lends
---   text-size, text-start            the whole: the head, the rows
---   tells-refused, tells-delivered   refused by the check of the trace; what is left once that is passed
-use Prim.Native.Nat.{ℕ, _+_, _*_, _<_, _≤_}
+-- The text in its parts, and what the two calls come to.
+--   head-sized, head-start                    the head line
+--   none-sized, opening-sized, none-put, head-fits, head-put    the head before row 0, nothing before other rows
+--   part-size, part-start                     a part: the head or nothing, the rows
+--   part-good, checked-good                   rows that were checked
+--   whole-good, whole-part                    the whole is a part
+--   tells-refused, tells-delivered            the whole: refused by the check of the trace, or passed
+--   no-part, rows-refused, part-delivered, lists-refused, lists-passed    a part, likewise
+use Prim.Native.Nat.{ℕ, _+_, _-_, _*_, _<_, _≤_}
 use native.Mathlib.Omega.{arith}
 use mathlib.Core.Path.{_≡_, refl, sym, ap, _∙_}
 use mathlib.Core.List.{List, [], _∷_, _++_, append-nil}
+use mathlib.Core.Logic.{inl, inr}
 use lib.ListN.{length, length-append}
+use borrow.Author.Tests.{ne-eqb}
 use Rattle.basics.specs.declared.Refusal.{Refusal}
 use Rattle.basics.specs.declared.Outcome.{Outcome}
 use Rattle.basics.specs.declared.Outcome.the-variants.{Done, Refused}
-use Rattle.basics.specs.Memory.{Room, after}
-use Rattle.basics.proofs.PartByPart.{flat, Going, going-start}
-use Rattle.alf.specs.Refusals.{Order, RefusedWith, Passed, Comes}
-use Rattle.alf.proofs.Orders.{refused-first, refused-then, passed-both}
+use Rattle.basics.specs.Memory.{Put, Room, after}
+use Rattle.basics.proofs.PartByPart.{flat, Going, going-start, put-none}
+use Rattle.alf.specs.Names.{namesIn}
+use Rattle.alf.specs.Refusals.{check, At, RefusedWith, Passed, Comes}
+use Rattle.alf.proofs.Orders.{Is, refused-first, passed-right}
 use Rattle.basics.specs.Text.{bytes, joined}
-use Rattle.figures.specs.Delivering.{lineOrder, Delivers}
+use Rattle.figures.specs.Delivering.{Delivers}
 use Rattle.listing.specs.Inner.{Sized}
-use Rattle.trace_format.proofs.RowByRow.{room-for}
-use Rattle.trace_writer.specs.Putting.{SlotsLent, Good}
-use Rattle.trace_writer.specs.Writing.{listsOrder}
-use Rattle.trace_writer.proofs.TraceChecks.{rows-lent}
-use Rattle.activity.specs.Activity.{members, headLine, rowLines, activityText, activityOrder, ListsActivity}
-use Rattle.activity.specs.Inner.{marked, RowIn}
-use Rattle.activity.proofs.NameSets.{members-all}
+use Rattle.trace_writer.specs.Putting.{SlotsLent, NamesGood, Good}
+use Rattle.trace_writer.specs.Writing.{lentOrder, rowsOrder, listsOrder}
+use Rattle.trace_writer.proofs.TraceChecks.{comes-first, comes-then, lists-pass, some-rows, rows-good}
+use Rattle.row_lines.specs.Lines.{members, rowLines}
+use Rattle.row_lines.specs.Inner.{marked, PartGood}
+use Rattle.row_lines.proofs.NameSets.{members-all}
+use Rattle.activity.specs.Activity.{headLine, opening, partText, activityText, ListsActivity, PartOf, ListsPart}
+use Rattle.activity.specs.Inner.{HeadFits, OpeningFits, WritesPart}
 
 module _ (names : List ℕ) {k : ℕ} (few : k ≤ 32) where
   abbrev pub headParts : List (List ℕ)
@@ -53,69 +60,166 @@ module _ (names : List ℕ) {k : ℕ} (few : k ≤ 32) where
       → Going out at (headLine names k) headParts out at
   head-start room = going-start headParts head-parts room
 
-module _ {names times states : List ℕ} {n k : ℕ} (g : Good names times states n k) where
-  pub slots-lent : SlotsLent names k
-  slots-lent =
-      record { there = rw (g .named .counted) (omega arith); few = rw (g .named .counted) (g .named .all .slots .few) }
+-- the head before row 0, and nothing before any other row
+module _ (names : List ℕ) (k : ℕ) {first : ℕ} where
+  pub opening-none : (first ≡ 0 → ⊥) → opening names k first ≡ []
+  unfolding opening
+  opening-none n = rw (ne-eqb first 0 n) refl
 
-  pub row-in : {r : ℕ} → r < n → RowIn names k states r
-  row-in {r} h =
-      record {
-        slots = slots-lent;
-        inside =
-            record {
-              name-count = (rw (g .named .counted) (g .named .all .slots .some), slots-lent .few);
-              few = omega (arith, g .named .all .lists .few);
-              room = omega (arith, room-for r n k h, rows-lent (g .named) .states-all);
-            };
-      }
+  opening-head : first ≡ 0 → opening names k first ≡ headLine names k
+  unfolding opening
+  opening-head e = rw e refl
 
-  text-parts : activityText names times states n ≡ headLine names k ++ rowLines names k times states n
-  unfolding activityText
-  text-parts = rw (g .named .counted) refl
+  pub none-sized : (first ≡ 0 → ⊥) → Sized (opening names k first) (k * 33 + 13) 0
+  none-sized n = record { is = sym (ap length (opening-none n)); few = omega arith }
 
-  pub text-size : {a b x y : ℕ} → Sized (headLine names k) x a → Sized (rowLines names k times states n) y b
-      → a + b ≡ length (activityText names times states n)
-  text-size u v =
+  pub opening-sized : {m : ℕ} → k ≤ 32 → first ≡ 0 → Sized (members names k (marked 4294967295)) (k * 33) m
+      → Sized (opening names k first) (k * 33 + 13) (m + 13)
+  opening-sized h e w = rw (opening-head e) (head-sized names h w)
+
+  pub none-put : {out : List ℕ} {at : ℕ} → (first ≡ 0 → ⊥) → Put out at (opening names k first) out at
+  none-put n = rw (opening-none n) put-none
+
+  pub head-fits : {out : List ℕ} {at : ℕ} → first ≡ 0 → OpeningFits names k first out at → HeadFits names k out at
+  head-fits e f = record { slots = f .slots; room = rw (opening-head e) at (f .room) }
+
+  pub head-put : {out out′ : List ℕ} {at r : ℕ} → first ≡ 0 → Put out at (headLine names k) out′ r
+      → Put out at (opening names k first) out′ r
+  head-put e p = rw (opening-head e) p
+
+-- a part: the head or nothing, then the rows
+module _ (names : List ℕ) (k : ℕ) (times states : List ℕ) (first many : ℕ) where
+  pub part-size : {a b x y : ℕ} → Sized (opening names k first) x a
+      → Sized (rowLines names k times states first many) y b
+      → a + b ≡ length (partText names k times states first many)
+  unfolding partText
+  part-size u v =
       omega (
         arith,
-        ap length text-parts,
-        length-append (headLine names k) (rowLines names k times states n),
+        length-append (opening names k first) (rowLines names k times states first many),
         u .is,
         v .is,
       )
 
-  pub text-start : {out : List ℕ} {size : ℕ} → size ≡ length (activityText names times states n) → size ≤ length out
-      → Going out 0 (activityText names times states n)
-      (headLine names k ∷ rowLines names k times states n ∷ []) out 0
-  text-start e h =
+  pub part-start : {out : List ℕ} {size : ℕ} → size ≡ length (partText names k times states first many)
+      → size ≤ length out
+      → Going out 0 (partText names k times states first many)
+      (opening names k first ∷ rowLines names k times states first many ∷ []) out 0
+  unfolding partText
+  part-start e h =
       going-start _
-      (text-parts ∙ ap (λ (l : List ℕ). headLine names k ++ l) (sym (append-nil (rowLines names k times states n))))
+      (ap (λ (l : List ℕ). opening names k first ++ l) (sym (append-nil (rowLines names k times states first many))))
       (omega (arith, e))
 
--- refused by the check of the trace, or passed
+-- lists that are good, and some of their rows, or all
+module _ {names times states : List ℕ} {n k : ℕ} (g : NamesGood names times states n k) where
+  slots-lent : SlotsLent names k
+  slots-lent = record { there = rw (g .counted) (omega arith); few = rw (g .counted) (g .all .slots .few) }
+
+  pub part-good : (first many : ℕ) → first + many ≤ n → Passed (rowsOrder k times states first many)
+      → PartGood names k times states first many
+  part-good first many h p =
+      record {
+        slots = slots-lent;
+        some = rw (g .counted) (g .all .slots .some);
+        few = omega (arith, g .all .lists .few);
+        rows = some-rows g first many h;
+        known = λ r i. rows-good k times states first many r i p;
+      }
+
+  -- the rows from one to another, once they are checked
+  pub checked-good : {from to m : ℕ} {o : Outcome} → PartOf n from to
+      → Comes (rowsOrder k times states from (to - from)) (λ m. m ≡ k) o → o ≡ Done m
+      → PartGood names m times states from (to - from)
+  unfolding Comes
+  checked-good {from} {to} {m} p c e =
+      let done : Comes (rowsOrder k times states from (to - from)) (λ m. m ≡ k) (Done m) = rw e at c in
+      rw (done .1) (part-good from (to - from) (omega (arith, p .some, p .within)) (done .0))
+
+pub whole-good : {names times states : List ℕ} {n k : ℕ} → Good names times states n k
+    → PartGood names k times states 0 n
+whole-good {names} {times} {states} {n} {k} g =
+    part-good (g .named) 0 n (omega arith)
+    (rw (g .named .counted) (passed-right (lentOrder names times states n) _ (g .passed)))
+
+pub whole-part : (names times states : List ℕ) (n : ℕ)
+    → partText names (namesIn names) times states 0 n ≡ activityText names times states n
+unfolding partText opening activityText
+whole-part names times states n = refl
+
+-- the whole: refused by the check of the trace, or passed
 module _ {names times states : List ℕ} {n : ℕ} {out : List ℕ} where
   pub tells-refused : {o : Outcome} {r : Refusal} (made : ℕ → Type 0)
       → Comes (listsOrder names times states n) made o → o ≡ Refused r
       → ListsActivity names times states n out out (Refused r)
-  unfolding Comes after
-  tells-refused {o} {r} made c e =
+  unfolding after
+  tells-refused made c e =
+      record { outcome = comes-first (listsOrder names times states n) _ made _ c e; memory = refl }
+
+  pub tells-delivered : {k : ℕ} {out′ : List ℕ} {r : Outcome} → Good names times states n k
+      → Delivers (partText names k times states 0 n) out out′ r
+      → ListsActivity names times states n out out′ r
+  tells-delivered {k} {out′} {r} g d =
+      let whole : partText names k times states 0 n ≡ activityText names times states n =
+      ap (λ (m : ℕ). partText names m times states 0 n) (g .named .counted) ∙ whole-part names times states n in
+      let e : Delivers (activityText names times states n) out out′ r = rw whole at d in
       record {
-        outcome = refused-first (listsOrder names times states n) _ (r .number) (r .place) (rw e at c);
-        memory = refl;
+        outcome = comes-then (listsOrder names times states n) _ _ r (g .passed) (e .outcome);
+        memory = e .memory;
       }
 
-comes-then : (o o′ : Order) (made : ℕ → Type 0) (r : Outcome) → Passed o → Comes o′ made r → Comes (o ++ o′) made r
-unfolding Comes
-comes-then o o′ made (Done k) h c = (passed-both o o′ h (c .0), c .1)
-comes-then o o′ made (Refused r) h c = refused-then o o′ (r .number) (r .place) h c
+-- a part: refused because there are no such rows, or by one of them, or passed
+module _ {names : List ℕ} {k : ℕ} {times states : List ℕ} {n from to : ℕ} {out : List ℕ} where
+  pub no-part : {o : Outcome} → (PartOf n from to → ⊥) → Is o 19 0
+      → WritesPart names k times states n from to out out o
+  unfolding Comes RefusedWith after
+  no-part h e = rw e (record { outcome = inl (refl, record { given = h; there = refl }); memory = refl })
 
-pub tells-delivered :
-    {names times states : List ℕ} {n k : ℕ} {out out′ : List ℕ} {r : Outcome} → Good names times states n k →
-    Delivers (activityText names times states n) out out′ r →
-    ListsActivity names times states n out out′ r
-tells-delivered {names} {times} {states} {n} {r = r} g d =
-    record {
-      outcome = comes-then (listsOrder names times states n) _ _ r (g .passed) (d .outcome);
-      memory = d .memory;
-    }
+  module _ (p : PartOf n from to) where
+    pub rows-refused : {o : Outcome} {r : Refusal} (made : ℕ → Type 0)
+        → Comes (rowsOrder k times states from (to - from)) made o → o ≡ Refused r
+        → WritesPart names k times states n from to out out (Refused r)
+    unfolding Comes RefusedWith after
+    rows-refused {r = r} made c e =
+        record {
+          outcome =
+              inr (
+                (λ q a. a .given p),
+                refused-first (rowsOrder k times states from (to - from)) _ (r .number) (r .place) (rw e at c),
+              );
+          memory = refl;
+        }
+
+    pub part-delivered : {o : Outcome} {m : ℕ} {out′ : List ℕ} {r : Outcome}
+        → Comes (rowsOrder k times states from (to - from)) (λ m. m ≡ k) o → o ≡ Done m
+        → Delivers (partText names m times states from (to - from)) out out′ r
+        → WritesPart names k times states n from to out out′ r
+    unfolding Comes Passed
+    part-delivered {o} {m} {out′} {r} c e d =
+        let done : Comes (rowsOrder k times states from (to - from)) (λ m. m ≡ k) (Done m) = rw e at c in
+        let told : Delivers (partText names k times states from (to - from)) out out′ r = rw (done .1) at d in
+        record {
+          outcome =
+              comes-then (check 19 (At 0 (PartOf n from to → ⊥)) ∷ rowsOrder k times states from (to - from)) _ _ r
+              ((λ q a. a .given p), done .0) (told .outcome);
+          memory = told .memory;
+        }
+
+-- what was checked first: the lists
+module _ {names times states : List ℕ} {n from to : ℕ} {out : List ℕ} where
+  pub lists-refused : {o : Outcome} {r : Refusal} (made : ℕ → Type 0)
+      → Comes (lentOrder names times states n) made o → o ≡ Refused r
+      → ListsPart names times states n from to out out (Refused r)
+  unfolding after
+  lists-refused made c e =
+      record { outcome = comes-first (lentOrder names times states n) _ made _ c e; memory = refl }
+
+  pub lists-passed : {k : ℕ} {out′ : List ℕ} {r : Outcome} → NamesGood names times states n k
+      → WritesPart names k times states n from to out out′ r
+      → ListsPart names times states n from to out out′ r
+  lists-passed {k} {out′} {r} g w =
+      let v : WritesPart names (namesIn names) times states n from to out out′ r = rw (g .counted) at w in
+      record {
+        outcome = comes-then (lentOrder names times states n) _ _ r (lists-pass g) (v .outcome);
+        memory = v .memory;
+      }

@@ -1,60 +1,27 @@
 -- What the functions inside ask and give.
---   marked                              the set whose bits are set in a mask
---   SlotIn, MemberFits, MembersFit      slots, and room for names of a set
---   LetterFits, LettersFit              states, and room for their letters
---   RowIn, RowFits, RowsFit, HeadFits   a row, and room for its line; for all lines; for the head
-use Prim.Native.Nat.{ℕ, _+_, _*_, _/_, _%_, _^_, _<_, _≤_}
-use mathlib.Core.Bool.{Bool}
+--   HeadFits, OpeningFits   room for the head, and for the head before row 0
+--   WritesPart              what a part comes to, once its lists are known to fit
+use Prim.Native.Nat.{ℕ, _-_}
+use mathlib.Core.Path.{_≡_}
 use mathlib.Core.List.{List}
-use lib.Dec.{eqb}
-use lib.ListN.{length, getD}
-use Rattle.basics.specs.Memory.{Room}
-use Rattle.changes.specs.Call.{Inside}
-use Rattle.trace_writer.specs.Putting.{SlotsLent, Good}
-use Rattle.activity.specs.Activity.{member, members, letters, headLine, rowLine, rowLines}
-
--- i is in the set where bit i of the mask is 1
-unfoldable pub marked : ℕ → ℕ → Bool
-marked mask i = eqb (mask / 2 ^ i % 2) 1
-
--- slot i, one of 32 at most
-pub record SlotIn (names : List ℕ) (i : ℕ) : Type 0 where
-  pub there : i * 32 + 32 ≤ length names
-  pub few : i < 32
-
-pub record MemberFits (names : List ℕ) (set : ℕ → Bool) (i : ℕ) (out : List ℕ) (at : ℕ) : Type 0 where
-  pub slot : SlotIn names i
-  pub room : Room out at (member names set i)
-
-pub record MembersFit (names : List ℕ) (k : ℕ) (set : ℕ → Bool) (out : List ℕ) (at : ℕ) : Type 0 where
-  pub slots : SlotsLent names k
-  pub room : Room out at (members names k set)
-
--- a state, and room for a blank and its letter
-pub record LetterFits (code : ℕ) (out : List ℕ) (at : ℕ) : Type 0 where
-  pub known : code ≤ 7
-  pub room : at + 2 ≤ length out
-
--- k states from a place on, and room for their letters
-pub record LettersFit (states : List ℕ) (from k : ℕ) (out : List ℕ) (at : ℕ) : Type 0 where
-  pub there : from + k ≤ length states
-  pub known : (i : ℕ) → i < k → getD states (from + i) 0 ≤ 7
-  pub room : Room out at (letters k (λ i. getD states (from + i) 0))
-
--- row r of k states, and k names
-pub record RowIn (names : List ℕ) (k : ℕ) (states : List ℕ) (r : ℕ) : Type 0 where
-  pub slots : SlotsLent names k
-  pub inside : Inside k states r
-
-pub record RowFits (names : List ℕ) (k : ℕ) (states : List ℕ) (time r : ℕ) (out : List ℕ) (at : ℕ) : Type 0 where
-  pub row : RowIn names k states r
-  pub known : (i : ℕ) → i < k → getD states (r * k + i) 0 ≤ 7
-  pub room : Room out at (rowLine names k states time r)
-
-pub record RowsFit (names : List ℕ) (k : ℕ) (times states : List ℕ) (n : ℕ) (out : List ℕ) (at : ℕ) : Type 0 where
-  pub good : Good names times states n k
-  pub room : Room out at (rowLines names k times states n)
+use lib.ListN.{length}
+use Rattle.basics.specs.declared.Outcome.{Outcome}
+use Rattle.basics.specs.Memory.{Room, after, front}
+use Rattle.alf.specs.Refusals.{Comes}
+use Rattle.trace_writer.specs.Putting.{SlotsLent}
+use Rattle.activity.specs.Activity.{headLine, opening, partText, someOrder}
 
 pub record HeadFits (names : List ℕ) (k : ℕ) (out : List ℕ) (at : ℕ) : Type 0 where
   pub slots : SlotsLent names k
   pub room : Room out at (headLine names k)
+
+pub record OpeningFits (names : List ℕ) (k first : ℕ) (out : List ℕ) (at : ℕ) : Type 0 where
+  pub slots : SlotsLent names k
+  pub room : Room out at (opening names k first)
+
+pub record WritesPart (names : List ℕ) (k : ℕ) (times states : List ℕ) (n from to : ℕ) (out out′ : List ℕ) (r : Outcome)
+    : Type 0 where
+  pub outcome :
+      Comes (someOrder names k times states n from to (length out))
+      (λ m. m ≡ length (partText names k times states from (to - from))) r
+  pub memory : out′ ≡ after (front (partText names k times states from (to - from)) out) out r

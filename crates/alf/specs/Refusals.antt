@@ -78,13 +78,14 @@ over-limits xs = At 0 (overLimit xs ≡ true)
 
 -- 9: output longer than the lent buffer; length needed. Of several outputs, the first short one.
 -- Filled by each call that is lent a list to write to: writer/specs/Writing, trace_reader/specs/Reading,
--- trace_writer/specs/Writing, rewriting/specs/Calls, contradictions/specs/Calls, figures/specs/Delivering for texts.
+-- trace_writer/specs/Writing, rewriting_calls/specs/Calls, contradictions/specs/Calls; for texts
+-- figures/specs/Delivering.
 abbrev pub no-room : ℕ → ℕ → Row
 no-room needed room = At needed (room < needed)
 
 -- 10: handed-in tree that no text gives, alternatives or a queue that cannot be; 0. A tree: acceptance/specs/Accepted;
--- alternatives: listed_calls/specs; a queue: update_calls/specs/Pushing. Filled in judging/specs/Orders, writer/specs/
--- Writing and rewriting/specs/Calls.
+-- alternatives: listed_acceptance/specs/Lists; a queue: queue_calls/specs/Pushing. Filled in judging/specs/Orders,
+-- writer/specs/Writing and rewriting_calls/specs/Calls.
 abbrev pub cannot-be : Type 0 → Row
 cannot-be bad = At 0 bad
 

@@ -26,7 +26,8 @@ use Rattle.basics.proofs.PartByPart.{put-then}
 use Rattle.figures.proofs.Digits.{decimal-short}
 use Rattle.alternative_texts.specs.Texts.{alternativeText}
 use Rattle.alternative_lines.specs.Listing.{note, lineOf}
-use Rattle.alternative_texts.specs.Inner.{Countable, Puts, OneAlternative, allTests}
+use Rattle.alternative_texts.specs.Inner.{Countable, Puts, allTests}
+use Rattle.alternative_writing.specs.Inner.{OneAlternative}
 use Rattle.alternative_lines.specs.Inner.{Low, AllLines}
 use Rattle.alternative_lines.specs.Inner.{flagged, noted, marked, linesWith, headedLines}
 use Rattle.alternative_texts.proofs.Clipped.{Laying, laying-start, laying-on, laying-end, laying-parts}

@@ -1,7 +1,7 @@
 -- What the functions inside ask and give, besides alternative_texts' own.
 --   flagged, noted, marked       a line's note by its flag; the line's number and note
 --   linesWith, headedLines       the lines, each note by a flag; the heading before them
---   AllLines, Listed, Whole      the lists of an accepted tree, with flags or without; the tree itself
+--   AllLines                     the lists of an accepted tree, with flags
 --   Low                          a place far below the last one of 64 bits
 use Prim.Native.Nat.{ℕ, _+_, _≤_}
 use mathlib.Core.Bool.{Bool, not}
@@ -10,8 +10,6 @@ use lib.Dec.{eqb}
 use lib.ListN.{length}
 use Rattle.alf.specs.Names.{namesIn}
 use Rattle.alf.specs.Alternatives.{Alternative}
-use Rattle.alf.specs.declared.Sort.the-variants.{Vector}
-use Rattle.acceptance.specs.Accepted.{Accepted}
 use Rattle.alternatives.specs.InMemory.{Shape}
 use Rattle.writer.specs.Writing.{Named}
 use Rattle.basics.specs.Text.{bytes, joined}
@@ -50,14 +48,3 @@ marked number flag = decimal number ++ noted flag
 -- a place far below the last one of 64 bits
 pub record Low (at : ℕ) : Type 0 where
   pub low : at ≤ 2000000000000
-
--- an accepted tree, and checked names
-pub record Whole (names tree : List ℕ) : Type 0 where
-  pub named : Named names
-  pub accepted : Accepted (namesIn names) Vector tree
-
--- the lists of an accepted tree
-pub record Listed (names tree steps tests edges operands : List ℕ) : Type 0 where
-  pub named : Named names
-  pub short : length tree ≤ 256
-  pub shape : Shape tree (namesIn names) steps tests edges operands

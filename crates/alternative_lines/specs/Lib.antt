@@ -1,5 +1,4 @@
 -- The alternatives of a pattern as lines of text. Listing is what must be believed, with alternative_texts' Texts;
--- Calls says what the call comes to; Inner is for the functions inside.
+-- Inner is for the functions inside.
 pub mod Listing
-pub mod Calls
 pub mod Inner

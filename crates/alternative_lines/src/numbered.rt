@@ -5,11 +5,12 @@ ghost use Rattle.basics.specs.Memory.{Holds};
 ghost use Rattle.alternatives.specs.InMemory.{alternativeIn, alternativesOf};
 ghost use Rattle.figures.specs.Numbers.{decimal};
 ghost use Rattle.alternative_lines.specs.Listing.{lineOf};
-ghost use Rattle.alternative_texts.specs.Inner.{Puts, OneAlternative, allTests};
+ghost use Rattle.alternative_texts.specs.Inner.{Puts, allTests};
+ghost use Rattle.alternative_writing.specs.Inner.{OneAlternative};
 ghost use Rattle.alternative_lines.specs.Inner.{AllLines, Low};
 ghost use Rattle.alternative_lines.specs.Inner.{flagged, noted, marked, linesWith, headedLines};
 use alternative_texts::puts::put;
-use alternative_texts::steps::put_steps;
+use alternative_writing::steps::put_steps;
 use alternatives::walking::pass;
 use figures::numbers::put_decimal;
 

@@ -1,8 +1,5 @@
--- The laws of the text of an alternative.
+-- The laws of the text of a test, and of writing as far as there is room.
 pub mod Clipped
 pub mod PartBytes
 pub mod Telling
-pub mod Between
 pub mod Counting
-pub mod StepWalks
-pub mod AlternativeWalks

@@ -2,22 +2,21 @@
 -- what is lent, and then only what has room is written. So a text is measured by writing it where there is no room.
 --   Countable, Puts, lead                     a text from a place on, with the gap before it
 --   Joinable, ShowsTest, Tellable, Untold         a test's expression, shown or not
---   Testable, Tested, OneTest, OneStep, OneAlternative    a test, a step, an alternative in the lists
---   allTests, textOfTest                      the tests of the lists and their texts
+--   Testable, Tested, allTests                a test, the tests of the lists
 use Prim.Native.Nat.{ℕ, zero, suc, _+_, _^_, _<_, _≤_}
 use mathlib.Core.Path.{_≡_}
 use mathlib.Core.List.{List, []}
-use lib.ListN.{length, getD, drop}
+use lib.ListN.{length}
 use Rattle.alf.specs.Names.{namesIn}
 use Rattle.alf.specs.Alternatives.{Test}
 use Rattle.alf.specs.Expressions.{Boolean, Edge, Expression, vector, edge}
 use Rattle.alf.specs.Decoder.{Decodes}
 use Rattle.trees.specs.Parts.{EndsBoolean}
-use Rattle.alternatives.specs.InMemory.{sum, testOf, testsOf, Tests}
+use Rattle.alternatives.specs.InMemory.{testsOf, Tests}
 use Rattle.basics.specs.Memory.{Put}
 use Rattle.writer.specs.Writing.{Named}
 use Rattle.basics.specs.Memory.{Holds}
-use Rattle.alternative_texts.specs.Texts.{shown, missing, testText}
+use Rattle.alternative_texts.specs.Texts.{shown, missing}
 
 -- the place behind some bytes is a number of 64 bits
 pub record Countable (at : ℕ) (w : List ℕ) : Type 0 where
@@ -65,34 +64,9 @@ pub record Tested (names tree edges operands : List ℕ) : Type 0 where
   pub few : length tree ≤ 256
   pub known : Tests tree (namesIn names) edges operands
 
--- test k, whose text is to stand far below the last place of 64 bits
-pub record OneTest (names tree edges operands : List ℕ) (k at : ℕ) : Type 0 where
-  pub tested : Tested names tree edges operands
-  pub there : k < length edges
-  pub low : at ≤ 4000000000000
-
--- the step of n tests from test t on
-pub record OneStep (names tree edges operands : List ℕ) (t n at : ℕ) : Type 0 where
-  pub tested : Tested names tree edges operands
-  pub there : t + n ≤ length edges
-  pub few : n ≤ 255
-  pub low : at ≤ 3000000000000
-
--- the alternative of n steps from step s on, whose tests start at t
-pub record OneAlternative (names tree tests edges operands : List ℕ) (s n t at : ℕ) : Type 0 where
-  pub tested : Tested names tree edges operands
-  pub there : s + n ≤ length tests
-  pub room : t + sum (drop s tests) ≤ length edges
-  pub few : n ≤ 255
-  pub low : at ≤ 2000000000000
-
--- a text over some lists: of test k, of a step, of an alternative
+-- the tests of some lists
 abbrev pub allTests : List ℕ → List ℕ → List ℕ → List ℕ → List Test
 allTests names tree edges operands = testsOf tree (namesIn names) edges operands
-
-abbrev pub textOfTest : List ℕ → List ℕ → List ℕ → List ℕ → ℕ → List ℕ
-textOfTest names tree edges operands k =
-    testText names (testOf tree (namesIn names) (getD edges k 0) (getD operands k 0))
 
 -- 1 where an expression is shown as `...`, else 0
 pub record Untold (names : List ℕ) (e : Expression) (r : ℕ) : Type 0 where

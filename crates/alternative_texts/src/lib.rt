@@ -1,4 +1,3 @@
-// The text of a pattern's alternatives: tests, steps and alternatives, from their lists.
+// The text of a test of an alternative, and writing as far as there is room.
 pub mod puts;
 pub mod showing;
-pub mod steps;

@@ -33,7 +33,7 @@ use Rattle.matching_calls.specs.declared.matching.Matching.the-variants.{Found,
 use Rattle.judging.specs.Orders.{Rows, order, codes, codesRow}
 use Rattle.row_calls.specs.Written.{Tells, AnsweredAs, RowAnswer}
 use Rattle.matching_calls.specs.Matching.{expression, answersOn, triesOn, Finds, FoundAs, RowMatch}
-use Rattle.update_calls.specs.Pushing.{RowFits, Handed, pushOrder, PushesTree, Takes, Push}
+use Rattle.queue_calls.specs.Pushing.{RowFits, Handed, pushOrder, PushesTree, Takes, Push}
 use Rattle.call_laws.proofs.Theorems.{push-answers}
 
 -- what is good is passed

@@ -19,7 +19,7 @@ use Rattle.alf.specs.Expressions.{Expression, boolean, vector, Over, VectorOver
 use Rattle.alf.specs.Decoder.{Decodes, topVector}
 use Rattle.alf.specs.Values.{stateAt}
 use Rattle.alf.proofs.Answers.{number-same}
-use Rattle.update_calls.proofs.ByAlternatives.{tree-pushed}
+use Rattle.queue_calls.proofs.ByAlternatives.{tree-pushed}
 use Rattle.alf.specs.Alternatives.{alternatives, stepsOf}
 use Rattle.alf.specs.Traces.{corrected, lastRewritten}
 use Rattle.alf.specs.Refusals.{Passed, Comes}
@@ -48,7 +48,7 @@ use Rattle.row_calls.specs.Written.{Tells, RowAnswer}
 use Rattle.basics.specs.Memory.{after}
 use Rattle.matching_calls.specs.Matching.{MatchesTree, expression, answersOn, Finds, RowMatch, Counts, RowTotals}
 use Rattle.update_calls.specs.Correcting.{Lists, correctionOrder, Correction, rewritten}
-use Rattle.update_calls.specs.Pushing.{Takes, Push}
+use Rattle.queue_calls.specs.Pushing.{Takes, Push}
 
 rows-stable : (names n s : ℕ) → ((Rows names n s → ⊥) → ⊥) → Rows names n s
 rows-stable names n s h =

@@ -13,7 +13,7 @@ use Rattle.basics.specs.declared.Outcome.{Outcome}
 use Rattle.basics.specs.declared.Outcome.the-variants as outcome
 use Rattle.alf.specs.Refusals.{Order, Comes}
 use Rattle.alf.proofs.Answers.{number-same}
-use Rattle.update_calls.proofs.ByAlternatives.{tree-pushed}
+use Rattle.queue_calls.proofs.ByAlternatives.{tree-pushed}
 use Rattle.alf.proofs.Outcomes.{AllFixed, at-fixed, first-fixed, refused-passed, refused-by-unique, comes-unique}
 use Rattle.queue.specs.declared.queues.Queue.{Queue}
 use Rattle.queue.proofs.Unique.{pushes-unique}
@@ -29,7 +29,7 @@ use Rattle.judging.specs.Orders.{order, codes, codesRow, codesCorrection, Judge
 use Rattle.row_calls.specs.Written.{RowState, RowValue, AllValues, Tells, RowAnswer}
 use Rattle.matching_calls.specs.Matching.{Finds, RowMatch, AllMatched, Counts, RowTotals}
 use Rattle.update_calls.specs.Correcting.{Correction}
-use Rattle.update_calls.specs.Pushing.{pushOrder, Takes, Push}
+use Rattle.queue_calls.specs.Pushing.{pushOrder, Takes, Push}
 use Prim.Native.Nat.{ℕ, max}
 use mathlib.Core.Path.{_≡_}
 use Rattle.judging.specs.declared.checks.Verdict.the-variants.{Refused}

@@ -20,11 +20,11 @@ use Rattle.alternatives.specs.InMemory.{alternativesOf}
 use Rattle.rewriting.specs.declared.lists.Alternatives.{Alternatives}
 use Rattle.rewriting.specs.Lists.{Holds}
 use Rattle.contradictions.specs.Possible.{flagOf, flagList, Reported, Flagged}
-use Rattle.rewriting.specs.Calls.{treeOrder}
+use Rattle.rewriting_calls.specs.Calls.{treeOrder}
 use Rattle.basics.specs.Memory.{after}
 use Rattle.contradictions.specs.Calls.{ownAt, flagOrder, Reports, Contradicts, Flaggable}
 use Rattle.step_tests.proofs.Exchanging.{placed-number}
-use Rattle.rewriting.proofs.Calls.{comes-18, comes-10, comes-on}
+use Rattle.rewriting_calls.proofs.Calls.{comes-18, comes-10, comes-on}
 use Rattle.basics.proofs.Memory.{after-unique}
 
 pub flag-entries : (names : ℕ) (xs : List Alternative) → length (flagList names xs) ≡ length xs

@@ -12,7 +12,7 @@ use Rattle.trees.specs.Parts.{vectorAt}
 use Rattle.rewriting.specs.declared.lists.Alternatives.{Alternatives}
 use Rattle.rewriting.specs.Lists.{Holds}
 use Rattle.contradictions.specs.Possible.{flagList}
-use Rattle.rewriting.specs.Calls.{treeOrder}
+use Rattle.rewriting_calls.specs.Calls.{treeOrder}
 use Rattle.basics.specs.Memory.{after, front}
 
 -- the expression's alternatives; the report of the contradictory ones: 9, or a flag for each

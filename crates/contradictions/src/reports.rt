@@ -11,7 +11,7 @@ use basics::Outcome;
 use basics::refusing::refuse;
 use rewriting::lists::Alternatives;
 use rewriting::lists::alternatives_of;
-use rewriting::names_fit;
+use rewriting_calls::names_fit;
 
 // The flags of the alternatives that are in use.
 fn flag_lists(names: usize, tree: &[u8], a: Alternatives, flags: &mut [u8])

@@ -7,8 +7,8 @@ use complaints::refused;
 use complaints::refused_for;
 use console::output::failed;
 use console::saving::save_front;
-use jobs::correcting::correct_letters;
-use jobs::correcting::row_number;
+use letter_corrections::correcting::correct_letters;
+use letter_corrections::correcting::row_number;
 use trace_writer::write::write_trace;
 
 // A file that was made is saved, or it is said why there is none.

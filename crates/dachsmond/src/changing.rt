@@ -5,6 +5,7 @@ ghost use Rattle.update_calls.specs.Correcting.{Correction};
 ghost use Rattle.telling.specs.Handing.{Hands, told};
 ghost use Rattle.telling.specs.Matching.{queueOf, Pushes, toldPush};
 use alf::RowNo;
+use queue_calls::pushing::push;
 use telling::Pushed;
 use telling::Queue;
 use telling::Told;
@@ -12,7 +13,6 @@ use telling::matching::queue_of;
 use telling::matching::tell_push;
 use telling::outcomes::tell;
 use update_calls::correcting::correct;
-use update_calls::pushing::push;
 
 // The new states become a row of the trace, and the answers that can depend on it are written anew.
 #[no_mangle]

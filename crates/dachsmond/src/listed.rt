@@ -1,12 +1,12 @@
 // Matching by alternatives that are handed in as lists, for C: whether they are accepted, a row, all rows, the totals,
 // the queue.
-ghost use Rattle.listed_calls.specs.Fitting.{ListedFits};
+ghost use Rattle.listed_acceptance.specs.Fitting.{ListedFits};
 ghost use Rattle.listed_calls.specs.Listed.{ListedMatch, ListedAll, ListedTotals};
 ghost use Rattle.telling.specs.Handing.{Hands, told};
 ghost use Rattle.telling.specs.Matching.{toldMatch, toldCounts, queueOf, toldPush};
 ghost use Rattle.telling.specs.Listed.{ListedPushes};
 use alf::RowNo;
-use listed_calls::accepting::count_listed;
+use listed_acceptance::accepting::count_listed;
 use listed_calls::listed::match_all;
 use listed_calls::listed::match_row;
 use listed_calls::listed::push;

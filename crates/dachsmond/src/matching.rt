@@ -1,6 +1,6 @@
 // Matching by the alternatives of an expression, for C: a row, all rows, the totals, and the alternatives themselves.
 ghost use Rattle.matching_calls.specs.Matching.{RowMatch, AllMatched, RowTotals};
-ghost use Rattle.rewriting.specs.Calls.{Rewrites};
+ghost use Rattle.rewriting_calls.specs.Calls.{Rewrites};
 ghost use Rattle.contradictions.specs.Calls.{Contradicts};
 ghost use Rattle.telling.specs.Handing.{Hands, told};
 ghost use Rattle.telling.specs.Matching.{toldMatch, toldCounts};
@@ -9,7 +9,7 @@ use contradictions::reports::contradictions;
 use matching_calls::matching::match_all;
 use matching_calls::matching::match_row;
 use matching_calls::matching::totals;
-use rewriting::rewrite;
+use rewriting_calls::rewrite;
 use telling::Counted;
 use telling::Matched;
 use telling::Told;

@@ -1,5 +1,6 @@
 // Dachsmond, the program: counts patterns of pin events in a trace. Here stand the commands with the words that they
-// expect. What a command prints of an answer is made by a call of `jobs`; here are arguments, files and complaints.
+// expect. What a command prints of an answer is made by one call of the library; here are arguments, files and
+// complaints.
 mod texts;
 
 use complaints::unfit;
@@ -50,7 +51,8 @@ fn expects(c: usize, word: &[u8], more: usize) -> bool {
     }
     unfit(
         word,
-        b"TRACE PATTERN.. or TRACE -f FILE\nTRACE PATTERN\nTRACE EXPRESSION\nTRACE PATTERN\nTRACE\nTRACE ROW STATES OUT\n",
+        b"TRACE PATTERN.. or TRACE -f FILE\nTRACE PATTERN\nTRACE EXPRESSION\nTRACE PATTERN\nTRACE\n\
+          TRACE ROW STATES OUT\n",
         c,
     );
     false

@@ -1,6 +1,8 @@
-// What is asked of one text: `list`, `values`, `rewrite`. Each text that is printed is made by a call of `jobs`.
+// What is asked of one text: `list`, `values`, `rewrite`. Each text that is printed is made by a call
+// of `row_listings` or `alternative_listings`.
 use crate::LIST;
 use crate::VALUES;
+use alternative_listings::texts::alternatives_text;
 use basics::Outcome;
 use basics::Refusal;
 use complaints::refused;
@@ -9,7 +11,6 @@ use console::output::complain;
 use console::output::note;
 use console::output::note_number;
 use console::output::say_front;
-use jobs::alternatives::alternatives_text;
 use loading::files::take_argument;
 use row_listings::listings::list_text;
 use row_listings::listings::values_text;

@@ -13,9 +13,9 @@ use Rattle.alf.proofs.Outcomes.{refused-passed}
 use Rattle.acceptance.specs.Accepted.{Accepted}
 use Rattle.states.specs.FirstBadCode.{Codes}
 use Rattle.queue.specs.Queues.{heldOf}
-use Rattle.update_calls.specs.Pushing.{RowFits, Keeps, Handed, pushOrder, Takes}
+use Rattle.queue_calls.specs.Pushing.{RowFits, Keeps, Handed, pushOrder, Takes}
 use Rattle.call_laws.proofs.Routes.{holding-first, codes-passed}
-use Rattle.listed_calls.specs.Lists.{AcceptedAlternatives}
+use Rattle.listed_acceptance.specs.Lists.{AcceptedAlternatives}
 use Rattle.listed_calls.specs.Listed as listed
 use Rattle.telling.specs.declared.Queue.{Queue}
 use Rattle.telling.specs.declared.Pushed.{Pushed}

@@ -8,9 +8,9 @@ use Rattle.alf.specs.Refusals.{Comes}
 use Rattle.names.specs.Check.{namesOrder}
 use Rattle.names.proofs.Unique.{names-unique}
 use Rattle.queue.specs.declared.queues.Queue.{Queue}
-use Rattle.listed_calls.specs.Fitting.{ListedFits}
+use Rattle.listed_acceptance.specs.Fitting.{ListedFits}
 use Rattle.listed_calls.specs.Listed.{ListedMatch, ListedAll, ListedTotals}
-use Rattle.listed_calls.proofs.Fitting as fitting
+use Rattle.listed_acceptance.proofs.Fitting as fitting
 use Rattle.listed_calls.proofs.Unique as listed
 use Rattle.table_lines.specs.Table.{headingLine, refusedLine, totalLine}
 use Rattle.tree_listings.specs.TreeTexts.{ListsTree, LinesTree}

@@ -17,11 +17,11 @@ use Rattle.row_calls.specs.Written.{RowState, RowValue, AllValues, RowAnswer}
 use Rattle.row_calls.specs.Windows.{WindowAnswer}
 use Rattle.matching_calls.specs.Matching.{RowMatch, AllMatched, RowTotals}
 use Rattle.update_calls.specs.Correcting.{Correction}
-use Rattle.update_calls.specs.Pushing.{Takes, Push}
-use Rattle.rewriting.specs.Calls.{Rewrites}
+use Rattle.queue_calls.specs.Pushing.{Takes, Push}
+use Rattle.rewriting_calls.specs.Calls.{Rewrites}
 use Rattle.contradictions.specs.Calls.{Contradicts}
 use Rattle.listed_calls.specs.Listed as listed
-use Rattle.listed_calls.specs.Fitting.{ListedFits}
+use Rattle.listed_acceptance.specs.Fitting.{ListedFits}
 use Rattle.tree_listings.specs.TreeTexts.{ListsTree, LinesTree}
 use Rattle.figures.specs.Delivering.{Delivers}
 use Rattle.table_lines.specs.Table.{headingLine, refusedLine, totalLine}

@@ -21,9 +21,9 @@ use Rattle.matching_calls.specs.Matching.{RowMatch, AllMatched, RowTotals}
 use Rattle.update_calls.specs.Correcting.{Correction}
 use Rattle.call_laws.proofs.Unique.{state-unique, value-unique, values-unique, answer-unique, match-unique, all-unique}
 use Rattle.call_laws.proofs.Unique.{totals-unique, correction-unique, push-unique}
-use Rattle.rewriting.specs.Calls.{Rewrites}
+use Rattle.rewriting_calls.specs.Calls.{Rewrites}
 use Rattle.contradictions.specs.Calls.{Contradicts}
-use Rattle.rewriting.proofs.Theorems.{rewrites-unique}
+use Rattle.rewriting_calls.proofs.Theorems.{rewrites-unique}
 use Rattle.contradictions.proofs.Reporting.{contradicts-unique}
 use Rattle.telling.specs.declared.Told.{Told}
 use Rattle.telling.specs.declared.Expression.{Expression}

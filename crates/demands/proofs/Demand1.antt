@@ -5,18 +5,19 @@ use Rattle.writer.proofs.Theorems as writing-laws
 use Rattle.trace_reader.specs.Reading.{Reads}
 use Rattle.trace_laws.proofs.RoundTrips as file-laws
 use Rattle.activity.proofs.Theorems.{activity-unique}
+use Rattle.activity.proofs.Parts.{part-unique}
 use Rattle.changes.proofs.Unique.{changes-unique}
-use Rattle.rewriting.proofs.Theorems.{rewrites-unique}
+use Rattle.rewriting_calls.proofs.Theorems.{rewrites-unique}
 use Rattle.contradictions.proofs.Reporting.{contradicts-unique}
 use Rattle.basics.specs.Memory.{after}
 use Rattle.call_laws.proofs.Unique.{state-unique, value-unique, values-unique, answer-unique, match-unique, all-unique}
 use Rattle.call_laws.proofs.Unique.{totals-unique, correction-unique, push-unique}
 use Rattle.call_laws.proofs.Unique.{window-unique}
-use Rattle.listed_calls.proofs.Fitting.{listed-fits-unique}
+use Rattle.listed_acceptance.proofs.Fitting.{listed-fits-unique}
 use Rattle.listed_calls.proofs.Unique as listed-laws
 use Rattle.figures.proofs.Delivering.{delivers-unique}
 use Rattle.tree_listings.proofs.Theorems.{list-unique, line-unique}
-use Rattle.update_calls.specs.Pushing.{Takes}
+use Rattle.queue_calls.specs.Pushing.{Takes}
 use Rattle.listed_calls.specs.Listed as listed
 use Rattle.demands.specs.Demand1.{Demand1}
 
@@ -41,9 +42,15 @@ demand-1 =
             stays = λ r m x. x .memory;
           };
       check-trace = λ names times states n a b x y. file-laws.checks-unique names times states n a b x y;
+      check-lists = λ names times states n a b x y. file-laws.lists-unique names times states n a b x y;
       activity = λ names times states n out.
           record {
             one = λ a b m o x y. activity-unique names times states n out x y;
+            stays = λ r m x. x .memory;
+          };
+      activity-part = λ names times states n from to out.
+          record {
+            one = λ a b m o x y. part-unique names times states n from to out x y;
             stays = λ r m x. x .memory;
           };
       changes-at = λ names n states row a b x y. changes-unique names n states row a b x y;

@@ -38,15 +38,16 @@ use Rattle.matching_calls.specs.declared.matching.Counting.the-variants as coun
 use Rattle.row_calls.specs.Written.{Tells, AnsweredAs, RowAnswer}
 use Rattle.row_calls.specs.Windows.{WindowAnswer}
 use Rattle.matching_calls.specs.Matching.{FoundAs, RowMatch, AllMatched, Counts, RowTotals, expression}
-use Rattle.update_calls.specs.Pushing.{Takes, Push}
-use Rattle.update_calls.proofs.ByAlternatives.{tree-pushed}
+use Rattle.queue_calls.specs.Pushing.{Takes, Push}
+use Rattle.queue_calls.proofs.ByAlternatives.{tree-pushed}
 use Rattle.call_laws.proofs.Routes.{answered, matched, pushed-found, row-passed, codes-passed}
 use Rattle.call_laws.proofs.Routes.{told-by, never-refused}
 use Rattle.demands.specs.Questions.{Question, namesOf, treeOf, answerOn, triesOn, answerAt, triesAt}
 use Rattle.rewritten_laws.specs.WrittenOut.{WrittenOut}
 use Rattle.rewritten_laws.proofs.Theorems.{rewritten-accepted, written-are, match-as-tree, all-as-tree}
 use Rattle.rewritten_laws.proofs.Theorems.{totals-as-tree, push-as-tree}
-use Rattle.demands.specs.Demand2.{ByLists, Demand2}
+use Rattle.demands.specs.Lists.{ByLists}
+use Rattle.demands.specs.Demand2.{Demand2}
 use Rattle.demands.proofs.Asked.{lists-fit, codes-good, tree-accepted, tree-is}
 use Rattle.demands.proofs.Surviving.{survives}
 use Rattle.demands.proofs.Flagging.{own-is, flagged, never-yes}

@@ -20,7 +20,7 @@ use Rattle.alf.specs.Refusals.{Passed, Comes}
 use Rattle.alf.proofs.Outcomes.{refused-passed}
 use Rattle.alf.proofs.Contradictions.{contradictory-row-not-yes}
 use Rattle.states.specs.FirstBadCode.{Codes}
-use Rattle.rewriting.specs.Calls.{treeOrder}
+use Rattle.rewriting_calls.specs.Calls.{treeOrder}
 use Rattle.contradictions.specs.Calls.{ownAt, flagOrder, Contradicts}
 use Rattle.contradictions.specs.Possible.{flagOf}
 use Rattle.contradictions.proofs.Reporting.{contradicts-flag, flag-entries}

@@ -1,12 +1,12 @@
 -- Demand 1 holds of the calls that the program makes. Main name: demand-1-jobs.
 use Rattle.basics.specs.Memory.{after}
-use Rattle.alternative_lines.proofs.Theorems.{alternatives-unique}
-use Rattle.listing.proofs.Theorems.{values-unique}
+use Rattle.alternative_listings.proofs.Theorems.{alternatives-unique}
+use Rattle.column_listings.proofs.Theorems.{values-unique}
 use Rattle.row_listings.proofs.ListingTheorems.{list-text-unique, values-text-unique, lists-stays}
-use Rattle.jobs.proofs.AlternativesLaws.{text-unique}
+use Rattle.alternative_listings.proofs.AlternativesLaws.{text-unique}
 use Rattle.jobs.proofs.TextCounts.{counts-unique}
 use Rattle.jobs.proofs.TableLines.{table-line-unique}
-use Rattle.jobs.proofs.LetterCorrections.{letters-unique}
+use Rattle.letter_corrections.proofs.LetterCorrections.{letters-unique}
 use Rattle.demands.specs.Jobs.{Demand1Jobs}
 
 pub demand-1-jobs : Demand1Jobs

@@ -4,7 +4,7 @@
 --   numbers            the orders, by computation; that of trace writing by the number of rows
 --   by-order           a contract that tells a refusal by its order refuses with the order's numbers
 --   refused-numbers    the public calls
-use Prim.Native.Nat.{ℕ, zero, suc, _≤_, max}
+use Prim.Native.Nat.{ℕ, zero, suc, _-_, _≤_, max}
 use mathlib.Core.Path.{_≡_, refl, sym, ap, subst, _∙_}
 use mathlib.Core.Bool.{Bool, true, false, _||_}
 use mathlib.Core.Logic.{_⊎_, inl, inr}
@@ -30,16 +30,17 @@ use Rattle.trace_format.specs.Records.{contents, markedOrder, markHere}
 use Rattle.trace_reader.specs.Reading.{FileRefused, RoomRefused, roomOrder, Reads}
 use Rattle.trace_writer.specs.Writing as files
 use Rattle.changes.specs.Call as changes
-use Rattle.rewriting.specs.Calls as rewriting
+use Rattle.rewriting_calls.specs.Calls as rewriting
 use Rattle.contradictions.specs.Calls as flagging
 use Rattle.row_calls.specs.Written.{Tells}
 use Rattle.matching_calls.specs.Matching.{Finds, Counts}
-use Rattle.update_calls.specs.Pushing as pushing
+use Rattle.queue_calls.specs.Pushing as pushing
 use Rattle.listed_calls.specs.Listed as listed
 use Rattle.matching_calls.specs.Matching.{expression}
 use Rattle.tree_listings.specs.TreeTexts.{patternListing, totalsLine}
+use Rattle.activity.specs.Activity.{partOrder}
 use Rattle.demands.specs.Numbers.{traceNumbers, recordNumbers, roomNumbers, fileNumbers, rowByRow, inTable}
-use Rattle.demands.specs.Numbers.{Numbers, Refuses, RefusedNumbers}
+use Rattle.demands.specs.Numbers.{partNumbers, Numbers, Refuses, RefusedNumbers}
 
 -- Lists of numbers.
 pub one-passes : (p : ℕ → Bool) (ns : List ℕ) (n : ℕ) → all p ns ≡ true → among n ns ≡ true → p n ≡ true
@@ -63,12 +64,13 @@ unfolding rowByRow
 one-more-row zero = refl
 one-more-row (suc n) = ap (λ ns. 13 ∷ 15 ∷ ns) (one-more-row n)
 
-rows-numbers : (k : ℕ) (times states : List ℕ) (n : ℕ) → numbersOf (files.rowsOrder k times states n) ≡ rowByRow n
+rows-numbers : (k : ℕ) (times states : List ℕ) (first n : ℕ)
+    → numbersOf (files.rowsOrder k times states first n) ≡ rowByRow n
 unfolding numbersOf files.rowsOrder rowByRow
-rows-numbers k times states zero = refl
-rows-numbers k times states (suc n) =
-    numbers-both (files.rowsOrder k times states n) _
-    ∙ ap (λ ns. ns ++ (13 ∷ 15 ∷ [])) (rows-numbers k times states n)
+rows-numbers k times states first zero = refl
+rows-numbers k times states first (suc n) =
+    numbers-both (files.rowsOrder k times states first n) _
+    ∙ ap (λ ns. ns ++ (13 ∷ 15 ∷ [])) (rows-numbers k times states first n)
     ∙ one-more-row n
 
 rows-in-table : (n : ℕ) → all inTable (rowByRow n ++ (9 ∷ [])) ≡ true
@@ -101,8 +103,16 @@ trace-numbers : (names times states : List ℕ) (n : ℕ) (row : Row)
 unfolding numbersOf
 trace-numbers names times states n row =
     ap (λ ns. 18 ∷ 12 ∷ ns)
-    (numbers-both (files.rowsOrder _ times states n) _
-    ∙ ap (λ ns. ns ++ (9 ∷ [])) (rows-numbers _ times states n))
+    (numbers-both (files.rowsOrder _ times states 0 n) _
+    ∙ ap (λ ns. ns ++ (9 ∷ [])) (rows-numbers _ times states 0 n))
+
+part-numbers : (names times states : List ℕ) (n from to : ℕ) (room : ℕ)
+    → numbersOf (partOrder names times states n from to room) ≡ partNumbers (to - from)
+unfolding numbersOf
+part-numbers names times states n from to room =
+    ap (λ ns. 18 ∷ 12 ∷ 19 ∷ ns)
+    (numbers-both (files.rowsOrder _ times states from (to - from)) _
+    ∙ ap (λ ns. ns ++ (9 ∷ [])) (rows-numbers _ times states from (to - from)))
 
 -- The orders of the public calls.
 pub numbers : Numbers
@@ -117,6 +127,7 @@ numbers =
       read-room = λ names times states k n. refl;
       write-trace = λ names times states n room. trace-numbers names times states n _;
       activity = λ names times states n room. trace-numbers names times states n _;
+      activity-part = λ names times states n from to room. part-numbers names times states n from to _;
       changes-at = λ names n states row. refl;
       rewrite = λ names tree xs steps tests edges operands. refl;
       contradictions = λ names tree xs flags. refl;
@@ -189,6 +200,9 @@ refused-numbers =
           by-order _ (numbers .write-trace names times states n _) (rows-in-table n) (λ r x. x .outcome);
       activity = λ names times states n out out′.
           by-order _ (numbers .activity names times states n _) (rows-in-table n) (λ r x. x .outcome);
+      activity-part = λ names times states n from to out out′.
+          by-order _ (numbers .activity-part names times states n from to _) (rows-in-table (to - from))
+          (λ r x. x .outcome);
       changes-at = λ names n states row. by-order _ (numbers .changes-at names n states row) refl (λ r x. x);
       rewrite = λ names tree steps tests edges operands steps′ tests′ edges′ operands′.
           by-order _ (numbers .rewrite names tree _ steps tests edges operands) refl (λ r x. x .outcome);

@@ -9,7 +9,7 @@ use Rattle.reader.proofs.Unique.{read-complete, read-unique}
 use Rattle.text_laws.proofs.RoundTrips.{written-read, written-within, refused-past-limit}
 use Rattle.trace_laws.proofs.RoundTrips.{read-write, writes-bytes}
 use Rattle.demands.specs.Questions.{Asked}
-use Rattle.demands.specs.Demand2.{Survives}
+use Rattle.demands.specs.Survival.{Survives}
 use Rattle.demands.proofs.Asked.{names-good, named, tree-accepted, tree-whole, tree-text}
 
 module _ {A : Type 0} {into : A → Expression} {sort : Sort} {file text : List ℕ} (q : Asked into sort file text) where

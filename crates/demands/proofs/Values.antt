@@ -14,7 +14,7 @@ use Rattle.alf.proofs.Outcomes.{refused-passed}
 use Rattle.row_calls.specs.Written.{RowState, RowValue, AllValues}
 use Rattle.call_laws.proofs.Routes.{row-passed, codes-passed}
 use Rattle.demands.specs.Questions.{Formula, namesOf, treeOf, valueOf, stateOf}
-use Rattle.demands.specs.Demand2.{Demand2Values}
+use Rattle.demands.specs.Values.{Demand2Values}
 use Rattle.demands.proofs.Asked.{lists-fit, codes-good, tree-accepted, formula-is}
 use Rattle.demands.proofs.Surviving.{survives}
 

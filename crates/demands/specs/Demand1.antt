@@ -13,9 +13,9 @@ use Rattle.writer.specs.Writing as writing
 use Rattle.trace_reader.specs.declared.Reading.the-variants as reading
 use Rattle.trace_reader.specs.Reading.{Reads}
 use Rattle.trace_writer.specs.Writing as files
-use Rattle.activity.specs.Activity.{ListsActivity}
+use Rattle.activity.specs.Activity.{ListsActivity, ListsPart}
 use Rattle.changes.specs.Call.{RowChanged}
-use Rattle.rewriting.specs.Calls.{Rewrites}
+use Rattle.rewriting_calls.specs.Calls.{Rewrites}
 use Rattle.contradictions.specs.Calls.{Contradicts}
 use Rattle.queue.specs.declared.queues.Queue.{Queue}
 use Rattle.matching_calls.specs.declared.matching.Matching.the-variants as matching
@@ -23,8 +23,8 @@ use Rattle.row_calls.specs.Written.{RowState, RowValue, AllValues, RowAnswer}
 use Rattle.row_calls.specs.Windows.{WindowAnswer}
 use Rattle.matching_calls.specs.Matching.{RowMatch, AllMatched, RowTotals}
 use Rattle.update_calls.specs.Correcting.{Correction}
-use Rattle.update_calls.specs.Pushing.{Push}
-use Rattle.listed_calls.specs.Fitting.{ListedFits}
+use Rattle.queue_calls.specs.Pushing.{Push}
+use Rattle.listed_acceptance.specs.Fitting.{ListedFits}
 use Rattle.listed_calls.specs.Listed as listed
 use Rattle.figures.specs.Delivering.{Delivers}
 use Rattle.tree_listings.specs.TreeTexts.{ListsTree, LinesTree}
@@ -43,8 +43,11 @@ pub record Demand1 : Type 0 where
   pub write-trace : (names times states : List ℕ) (n : ℕ) (out : List ℕ)
       → Promised Refused (λ r m. files.Writes names times states n out m r) out
   pub check-trace : (names times states : List ℕ) (n : ℕ) → One (files.ChecksTrace names times states n)
+  pub check-lists : (names times states : List ℕ) (n : ℕ) → One (files.ChecksLists names times states n)
   pub activity : (names times states : List ℕ) (n : ℕ) (out : List ℕ)
       → Promised Refused (λ r m. ListsActivity names times states n out m r) out
+  pub activity-part : (names times states : List ℕ) (n from to : ℕ) (out : List ℕ)
+      → Promised Refused (λ r m. ListsPart names times states n from to out m r) out
   pub changes-at : (names n : ℕ) (states : List ℕ) (row : ℕ) → One (RowChanged names n states row)
   -- rewriting
   pub rewrite : (names : ℕ) (tree steps tests edges operands : List ℕ)
@@ -83,7 +86,8 @@ pub record Demand1 : Type 0 where
   pub listed-totals : (names n : ℕ) (tree steps tests edges operands states : List ℕ)
       → One (listed.ListedTotals names n tree steps tests edges operands states)
   pub listed-push : (names : ℕ) (tree steps tests edges operands : List ℕ) (queue : Queue) (row : List ℕ)
-      → Promised matching.Refused (λ r q. listed.ListedPush names tree steps tests edges operands queue row r q) queue
+      → Promised matching.Refused
+      (λ r q. listed.ListedPush names tree steps tests edges operands queue row r q) queue
   -- the listing, and the lines of the table: of a pattern, and any other
   pub list : (names n : ℕ) (tree states times out : List ℕ)
       → Promised Refused (λ r m. ListsTree names n tree times states out m r) out

@@ -25,11 +25,13 @@ module _ {file text : List ℕ} (q : Question file text) where
 
   pub record Demand3 : Type 0 where
     -- a row that is there, new states that are codes, and lists of the right length: it is done
-    pub done : (answers : List ℕ) (r : ℕ) (new states′ answers′ : List ℕ) (o : Outcome) → length answers ≡ q .rows
-        → length new ≡ namesOf q → Codes new → r < q .rows → Corrects answers r new states′ answers′ o → o ≡ Done 1
+    pub done : (answers : List ℕ) (r : ℕ) (new states′ answers′ : List ℕ) (o : Outcome)
+        → length answers ≡ q .rows → length new ≡ namesOf q → Codes new → r < q .rows
+        → Corrects answers r new states′ answers′ o → o ≡ Done 1
     -- the new states are row r; other rows stay
     pub stored : (answers : List ℕ) (r : ℕ) (new states′ answers′ : List ℕ)
-        → Corrects answers r new states′ answers′ (Done 1) → states′ ≡ corrected (namesOf q) (q .states) r new
+        → Corrects answers r new states′ answers′ (Done 1)
+        → states′ ≡ corrected (namesOf q) (q .states) r new
     -- the answers r to min(r+K, n-1) are those of the corrected trace, whatever stood there; the others stay
     pub rewritten-right : (answers : List ℕ) (r : ℕ) (new states′ answers′ : List ℕ)
         → Corrects answers r new states′ answers′ (Done 1) → (i : ℕ) → r ≤ i → i ≤ last r

@@ -6,13 +6,13 @@ use Prim.Native.Nat.{ℕ}
 use mathlib.Core.Path.{_≡_}
 use mathlib.Core.List.{List}
 use Rattle.basics.specs.declared.Outcome.the-variants.{Refused}
-use Rattle.alternative_lines.specs.Calls.{WritesAlternatives}
-use Rattle.listing.specs.Calls.{ValuesText}
+use Rattle.alternative_listings.specs.Calls.{WritesAlternatives}
+use Rattle.column_listings.specs.Calls.{ValuesText}
 use Rattle.row_listings.specs.Listings.{ListsPattern, ListsValues}
 use Rattle.jobs.specs.Counting.{CountsText}
 use Rattle.jobs.specs.Lines.{TableLine}
-use Rattle.jobs.specs.Correcting.{CorrectsLetters}
-use Rattle.jobs.specs.AlternativesText.{RewritesText}
+use Rattle.letter_corrections.specs.Correcting.{CorrectsLetters}
+use Rattle.alternative_listings.specs.AlternativesText.{RewritesText}
 use Rattle.demands.specs.Promises.{Promised, One}
 
 -- a call whose result tells of more than one refusal

@@ -7,7 +7,7 @@
 --   Numbers                         the orders of the public calls have these numbers
 --   Refuses                         a contract refuses with these numbers alone, all from 1 to 19
 --   RefusedNumbers                  so do the public calls
-use Prim.Native.Nat.{ℕ, zero, suc, _≤_}
+use Prim.Native.Nat.{ℕ, zero, suc, _-_, _≤_}
 use mathlib.Core.Path.{_≡_}
 use mathlib.Core.Bool.{Bool, true, _&&_}
 use mathlib.Core.List.{List, [], _∷_, _++_}
@@ -32,7 +32,7 @@ use Rattle.trace_reader.specs.Reading as traces
 use Rattle.trace_writer.specs.Writing as files
 use Rattle.changes.specs.declared.RowChanges.the-variants as row-changes
 use Rattle.changes.specs.Call as changes
-use Rattle.rewriting.specs.Calls as rewriting
+use Rattle.rewriting_calls.specs.Calls as rewriting
 use Rattle.contradictions.specs.Calls as flagging
 use Rattle.queue.specs.declared.queues.Queue.{Queue}
 use Rattle.judging.specs.Orders as judging
@@ -43,11 +43,11 @@ use Rattle.matching_calls.specs.declared.matching.Matching.the-variants as matc
 use Rattle.matching_calls.specs.declared.matching.Counting.the-variants as counting
 use Rattle.matching_calls.specs.Matching.{RowMatch, AllMatched, RowTotals}
 use Rattle.update_calls.specs.Correcting.{correctionOrder, Correction}
-use Rattle.update_calls.specs.Pushing.{pushOrder, Push}
+use Rattle.queue_calls.specs.Pushing.{pushOrder, Push}
 use Rattle.listed_calls.specs.Listed as listed
-use Rattle.listed_calls.specs.Fitting.{fitsOrder, ListedFits}
+use Rattle.listed_acceptance.specs.Fitting.{fitsOrder, ListedFits}
 use Rattle.tree_listings.specs.TreeTexts.{textOrder, ListsTree, LinesTree}
-use Rattle.activity.specs.Activity.{activityOrder, ListsActivity}
+use Rattle.activity.specs.Activity.{activityOrder, ListsActivity, partOrder, ListsPart}
 use Rattle.figures.specs.Delivering.{lineOrder, Delivers}
 
 -- "Text: 18 and 12 for the name list, then 1 to 8. Writing: 18, 12, 10, 1, 9."
@@ -81,6 +81,10 @@ rowByRow (suc n) = 13 ∷ 15 ∷ rowByRow n
 
 abbrev pub traceNumbers : ℕ → List ℕ
 traceNumbers n = 18 ∷ 12 ∷ (rowByRow n ++ (9 ∷ []))
+
+-- a part of the activity listing: 19 before its rows
+abbrev pub partNumbers : ℕ → List ℕ
+partNumbers n = 18 ∷ 12 ∷ 19 ∷ (rowByRow n ++ (9 ∷ []))
 
 -- "Totals, matching, rewriting, queue, correction, changes of a row: 18, 10, 15 (trace, then new row), 19; for
 -- rewriting 9 last, first short output."
@@ -127,6 +131,8 @@ pub record Numbers : Type 0 where
       → numbersOf (files.writeOrder names times states n room) ≡ traceNumbers n
   pub activity : (names times states : List ℕ) (n room : ℕ)
       → numbersOf (activityOrder names times states n room) ≡ traceNumbers n
+  pub activity-part : (names times states : List ℕ) (n from to room : ℕ)
+      → numbersOf (partOrder names times states n from to room) ≡ partNumbers (to - from)
   pub changes-at : (names n : ℕ) (states : List ℕ) (row : ℕ)
       → numbersOf (changes.order names n states row) ≡ changesNumbers
   pub rewrite : (names : ℕ) (tree : List ℕ) (xs : List Alternative) (steps tests edges operands : List ℕ)
@@ -182,7 +188,8 @@ pub record Refuses {R : Type 0} (refused : Refusal → R) (allows : R → Type 0
 -- The public calls refuse with these numbers alone. A list with a prime is memory at exit.
 pub record RefusedNumbers : Type 0 where
   pub check-names : (names : List ℕ) → Refuses Refused (ChecksNames names) namesNumbers
-  pub read-expression : (names text : List ℕ) (sort : Sort) → Refuses refusedBy (ReadsText names text sort) textNumbers
+  pub read-expression : (names text : List ℕ) (sort : Sort)
+      → Refuses refusedBy (ReadsText names text sort) textNumbers
   pub write-expression : (names tree : List ℕ) (sort : Sort) (out out′ : List ℕ)
       → Refuses Refused (writing.Writes names tree sort out out′) writingNumbers
   pub read-trace : (file names times states names′ times′ states′ : List ℕ)
@@ -191,10 +198,13 @@ pub record RefusedNumbers : Type 0 where
       → Refuses Refused (files.Writes names times states n out out′) (traceNumbers n)
   pub activity : (names times states : List ℕ) (n : ℕ) (out out′ : List ℕ)
       → Refuses Refused (ListsActivity names times states n out out′) (traceNumbers n)
+  pub activity-part : (names times states : List ℕ) (n from to : ℕ) (out out′ : List ℕ)
+      → Refuses Refused (ListsPart names times states n from to out out′) (partNumbers (to - from))
   pub changes-at : (names n : ℕ) (states : List ℕ) (row : ℕ)
       → Refuses row-changes.Refused (changes.RowChanged names n states row) changesNumbers
   pub rewrite : (names : ℕ) (tree steps tests edges operands steps′ tests′ edges′ operands′ : List ℕ)
-      → Refuses Refused (rewriting.Rewrites names tree steps tests edges operands steps′ tests′ edges′ operands′)
+      → Refuses Refused
+      (rewriting.Rewrites names tree steps tests edges operands steps′ tests′ edges′ operands′)
       rewritingNumbers
   pub contradictions : (names : ℕ) (tree flags flags′ : List ℕ)
       → Refuses Refused (flagging.Contradicts names tree flags flags′) flagNumbers

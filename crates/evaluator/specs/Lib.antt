@@ -1,4 +1,2 @@
--- What the functions that evaluate a tree as it is written ask and promise.
+-- What the functions that evaluate a boolean expression as it is written ask and promise.
 pub mod Rows
-pub mod Spans
-pub mod Lengths

@@ -1,7 +1,5 @@
-// The answer as written, by recursion over the tree in its array: states and values of boolean expressions, and answers
-// of vector expressions.
-pub mod lengths;
+// The state and the value of a boolean expression as it is written, by recursion over the tree in its array; and the
+// name of an answer.
 pub mod operators;
-pub mod rows;
+pub mod ranks;
 pub mod values;
-pub mod windows;

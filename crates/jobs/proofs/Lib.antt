@@ -4,8 +4,3 @@ pub mod TextCounts
 pub mod TableLines
 pub mod Additions
 pub mod SumLaws
-pub mod LetterCodes
-pub mod LetterCorrections
-pub mod Decimals
-pub mod LetterExamples
-pub mod AlternativesLaws

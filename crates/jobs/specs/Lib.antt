@@ -2,7 +2,3 @@
 pub mod Counting
 pub mod Lines
 pub mod Sums
-pub mod Letters
-pub mod Correcting
-pub mod RowNumbers
-pub mod AlternativesText

@@ -31,16 +31,16 @@ use Rattle.matching_calls.specs.declared.matching.Counting.the-variants as coun
 use Rattle.judging.specs.Orders.{Rows, Judged, JudgesTrace, JudgesRow}
 use Rattle.basics.specs.Memory.{after}
 use Rattle.matching_calls.specs.Matching.{Finds, Counts}
-use Rattle.update_calls.specs.Pushing.{RowFits, Keeps}
+use Rattle.queue_calls.specs.Pushing.{RowFits, Keeps}
 use Rattle.basics.proofs.Deciding.{told, tells, same-decided}
 use Rattle.judging.proofs.Verdicts.{judged-as, judged-good, judged-not, lists-as}
 use Rattle.basics.proofs.Listed.{listed-whole}
 use Rattle.matching_calls.proofs.Matches.{rows-asked}
-use Rattle.listed_calls.specs.Lists.{AcceptedAlternatives}
+use Rattle.listed_acceptance.specs.Lists.{AcceptedAlternatives}
 use Rattle.listed_calls.specs.Listed as listed
 use Rattle.listed_calls.specs.Listed.{ListedMatch, ListedAll, ListedTotals, ListedPush}
 use Rattle.listed_calls.specs.Listed.{Handed, Takes, DecidesQueue}
-use Rattle.listed_calls.proofs.Acceptance.{accepted-shape, accepted-short}
+use Rattle.listed_acceptance.proofs.Acceptance.{accepted-shape, accepted-short}
 
 -- the trace, and two lists of n entries
 abbrev Lists : ℕ → ℕ → ℕ → List ℕ → List ℕ → Type 0

@@ -1,9 +1,4 @@
--- The laws of alternatives handed in.
-pub mod Each
-pub mod Sums
-pub mod Alone
-pub mod Acceptance
-pub mod Fitting
+-- The laws of the calls over alternatives handed in.
 pub mod Calls
 pub mod Unique
 pub mod Theorems

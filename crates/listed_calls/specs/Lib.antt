@@ -1,4 +1,2 @@
--- Alternatives handed in as lists: when they are accepted, and what the calls over them come to.
-pub mod Lists
-pub mod Fitting
+-- Alternatives handed in as lists: what the calls over them come to. listed_acceptance says when they are accepted.
 pub mod Listed

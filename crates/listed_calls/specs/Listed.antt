@@ -27,8 +27,8 @@ use Rattle.matching_calls.specs.declared.matching.Counting.{Counting}
 use Rattle.judging.specs.Orders.{Rows, order, codes, codesRow}
 use Rattle.basics.specs.Memory.{after}
 use Rattle.matching_calls.specs.Matching.{Finds, Counts}
-use Rattle.update_calls.specs.Pushing.{RowFits, Keeps}
-use Rattle.listed_calls.specs.Lists.{AcceptedAlternatives}
+use Rattle.queue_calls.specs.Pushing.{RowFits, Keeps}
+use Rattle.listed_acceptance.specs.Lists.{AcceptedAlternatives}
 
 module _ (names n : ℕ) (tree steps tests edges operands states : List ℕ) where
   -- the alternatives that are handed in

@@ -1,5 +1,2 @@
-// The calls over rows, for alternatives that are handed in: whether they are accepted; matching, totals, queue.
-pub mod accepting;
-pub mod counting;
+// The calls over rows, for alternatives that are handed in: matching, totals, queue.
 pub mod listed;
-pub mod operands;

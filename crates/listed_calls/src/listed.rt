@@ -1,6 +1,5 @@
 // Matching by alternatives that are handed in as lists: a row, all rows, the totals, the queue.
 ghost use Rattle.listed_calls.specs.Listed.{ListedMatch, ListedAll, ListedTotals, DecidesQueue, ListedPush};
-use crate::accepting::fits;
 use alf::RowNo;
 use alternatives::walking::longest;
 use basics::Outcome;
@@ -9,14 +8,15 @@ use judging::checks::judge;
 use judging::checks::judge_row;
 use judging::checks::lists_fit;
 use judging::checks::rows_fit;
+use listed_acceptance::accepting::fits;
 use matcher::answers::Matched;
 use matching_calls::matching::Counting;
 use matching_calls::matching::Matching;
 use matching_calls::matching::both_are;
 use queue::queues::Queue;
-use update_calls::pushing::Pushing;
-use update_calls::pushing::keeps;
-use update_calls::pushing::row_fits;
+use queue_calls::pushing::Pushing;
+use queue_calls::pushing::keeps;
+use queue_calls::pushing::row_fits;
 
 // The answer of the alternatives at a row, and the number tried.
 pub fn match_row(

@@ -1,8 +1,4 @@
--- The laws of the listings.
+-- The laws of the lines of a listing.
 pub mod ColumnWords
 pub mod RowByRow
-pub mod LastLine
-pub mod WholeListings
-pub mod ListOrder
 pub mod Examples
-pub mod Theorems

@@ -2,16 +2,13 @@
 --   Sized              the length of a text
 --   Listable           times, and codes that have a word
 --   Wording, Lining    a word, a line, all lines have room
---   Tallied            how many answers are yes, no, unknown
 use Prim.Native.Nat.{ℕ, _<_, _≤_}
 use mathlib.Core.Path.{_≡_}
 use mathlib.Core.List.{List}
 use lib.ListN.{length, getD}
 use Rattle.basics.specs.Memory.{Room}
 use Rattle.listing.specs.declared.lines.Column.{Column}
-use Rattle.listing.specs.declared.totals.Tally.{Tally}
-use Rattle.listing.specs.Listing.{highest, lines, howMany}
-use Rattle.listing.specs.Calls.{Lists}
+use Rattle.listing.specs.Listing.{highest, lines, Lists}
 
 -- a list of which so many are at most as large as said
 pub record Sized (w : List ℕ) (most r : ℕ) : Type 0 where
@@ -32,9 +29,3 @@ pub record Wording (most a : ℕ) (out : List ℕ) (at : ℕ) (w : List ℕ) : T
 pub record Lining (column : Column) (times codes out : List ℕ) (at : ℕ) : Type 0 where
   pub listable : Listable (highest column) times codes
   pub room : Room out at (lines column times codes)
-
--- how many answers are yes, no, unknown
-pub record Tallied (answers : List ℕ) (r : Tally) : Type 0 where
-  pub yeses : r .yes ≡ howMany answers 1
-  pub noes : r .no ≡ howMany answers 0
-  pub unknowns : r .unknown ≡ howMany answers 2

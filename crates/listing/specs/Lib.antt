@@ -1,4 +1,3 @@
--- The listings of answers and of values, and what the calls promise. Inner is for the functions inside.
+-- The listings of answers and of values. Inner is for the functions inside.
 pub mod Listing
-pub mod Calls
 pub mod Inner

@@ -6,12 +6,15 @@
 --   line, lines, lastLine            a row's line, all rows' lines, the totals
 --   howMany                          how many answers have a number
 --   listing, valuesListing           the whole
+--   Lists                            times and codes of which a listing can be made
 -- Case 1's listing and case 8's values are computed as examples, byte for byte.
 use Prim.Native.Nat.{ℕ}
+use mathlib.Core.Path.{_≡_}
 use mathlib.Core.List.{List, [], _∷_, _++_}
 use lib.Dec.{eqb}
 use lib.ListN.{length, getD}
 use Rattle.basics.specs.Words.{count}
+use Rattle.alf.specs.Refusals.{RowCount}
 use Rattle.listing.specs.declared.lines.Column.{Column}
 use Rattle.listing.specs.declared.lines.Column.the-variants.{Answers, Values}
 use Rattle.basics.specs.Text.{bytes, joined}
@@ -63,3 +66,8 @@ listing times answers =
 
 unfoldable pub valuesListing : List ℕ → List ℕ → List ℕ
 valuesListing times values = joined (bytes "time value\n" ∷ lines Values times values ∷ [])
+
+-- 1 to 65,535 times, and as many codes: answers, or values
+pub record Lists (times codes : ℕ) : Type 0 where
+  pub rows : RowCount times
+  pub same : codes ≡ times

@@ -1,4 +1,2 @@
-// The listing of a pattern's answers, and that of an expression's values, each into a lent buffer.
+// The lines of a listing, of a pattern's answers or of an expression's values.
 pub mod lines;
-pub mod listings;
-mod totals;

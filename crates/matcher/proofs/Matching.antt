@@ -20,7 +20,7 @@ use Rattle.alf.specs.Alternatives.{Test, Alternative, testAt, stepAt, stepsFrom
 use Rattle.basics.proofs.Extremes.{leastOf-small}
 use Rattle.alf.proofs.Steps.{steps-small}
 use Rattle.alf.proofs.RowsAreAlternatives.{row-on}
-use Rattle.evaluator.proofs.RowAnswers.{numbered-yes}
+use Rattle.evaluator.proofs.AnswerNumbers.{numbered-yes}
 use Rattle.alternatives.specs.InMemory.{cut, sum, stepIn, alternativeIn}
 use Rattle.matcher.specs.Answers.{Matches}
 use Rattle.alternatives.proofs.Cuts.{part, part-first, part-next, part-last, cut-at, cut-length, sum-next}

@@ -8,7 +8,7 @@ ghost use Rattle.alternatives.specs.InMemory.{testOf, testsOf, alternativesOf, 
 ghost use Rattle.matcher.specs.Answers.{TestAsked, StepAsked, AlternativeAsked, RowAsked, EventAsked, Matches};
 use alf::Answer;
 use alternatives::walking::pass;
-use evaluator::rows::name_of;
+use evaluator::ranks::name_of;
 use evaluator::values::state;
 use states::edges::edge_on;
 use states::edges::greater;

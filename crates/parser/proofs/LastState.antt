@@ -20,10 +20,12 @@ use Rattle.grammar.specs.Answers.{Handed, placeAt, padded, codesOf, placesOf}
 use Rattle.grammar.specs.Answers.{accepted, refusedAt, Answer, tree, no-tree}
 use Rattle.grammar.specs.Views.{going, stopped, nothing, Ends, whole, refused}
 use Rattle.grammar.proofs.Refusals.{left, ends, ends-halted}
-use Rattle.parser.specs.declared.State.{State}
-use Rattle.parser.specs.Inner.{tokenAt, picked, view, Halted, Ran, Given, Finished, Full}
-use Rattle.parser.proofs.CodeTokens.{tokens-length, counts-tokens, placeAt-of}
-use Rattle.parser.proofs.SingleSteps.{used-small, view-halt, moved-halt}
+use Rattle.parser_steps.specs.declared.State.{State}
+use Rattle.parser_steps.specs.Inner.{tokenAt, picked, view, Halted}
+use Rattle.parser_levels.specs.Inner.{Ran}
+use Rattle.parser.specs.Inner.{Given, Finished, Full}
+use Rattle.parser_steps.proofs.CodeTokens.{tokens-length, counts-tokens, placeAt-of}
+use Rattle.parser_steps.proofs.SingleSteps.{used-small, view-halt, moved-halt}
 
 view-left : (cs ps : List ℕ) (s : State) (ns : List ℕ) → left (view cs ps s ns) ≡ drop (s .at) (tokens cs ps)
 unfolding view
@@ -73,9 +75,11 @@ module _ (f : Token → ℕ) (cs ps ns : List ℕ) (len : ℕ) where
     nodes-length = length-take-le len ns h
 
     column-length : length (map f (picked cs ps (take len ns))) ≡ len
-    column-length = length-map (picked cs ps (take len ns)) f ∙ length-map (take len ns) (tokenAt cs ps) ∙ nodes-length
+    column-length =
+        length-map (picked cs ps (take len ns)) f ∙ length-map (take len ns) (tokenAt cs ps) ∙ nodes-length
 
-    column-at : (i : ℕ) → i < len → f (tokenAt cs ps (getD ns i 0)) ≡ getD (map f (picked cs ps (take len ns))) i 0
+    column-at : (i : ℕ) → i < len
+        → f (tokenAt cs ps (getD ns i 0)) ≡ getD (map f (picked cs ps (take len ns))) i 0
     column-at i l =
         let n = nodes-length in
         let m = length-map (take len ns) (tokenAt cs ps) in
@@ -143,7 +147,8 @@ ends-refused (refused f) q = no-tree f q
 module _ (cs ps : List ℕ) {s : State} {ns : List ℕ} {bytes : ℕ} {r : Parsed} (even : length ps ≡ length cs)
     (f : Finished cs s ns)
   where
-    pub answer-tree : s .ok ≡ true → r ≡ accepted (picked cs ps (take (s .len) ns)) → Answer (tokens cs ps) bytes r
+    pub answer-tree : s .ok ≡ true → r ≡ accepted (picked cs ps (take (s .len) ns))
+        → Answer (tokens cs ps) bytes r
     unfolding view
     answer-tree e q = ends-tree (rw e at (f .ends ps even)) q
 

@@ -1,2 +1,2 @@
--- The parser, as definitions: what its inner functions ask and tell. The contract of `parse` is grammar/specs/Answers.
+-- What the functions of the parser ask and tell of a whole text. The contract of `parse` is grammar/specs/Answers.
 pub mod Inner

@@ -1,23 +1,16 @@
 // The parser: from tokens to the nodes of their tree, operands before their operator, or to the place where no
-// expression goes on. `level` has a function for each level of the operators, `cursor` their single steps.
+// expression goes on. `parser_levels` has a function for each level of the operators, `parser_steps` their single
+// steps.
 // A parser goes by codes alone. What it writes are numbers of tokens; codes and places are looked up at the end.
-mod cursor;
-mod level;
-
-use crate::cursor::stop;
-use crate::level::level6;
 use grammar::Parsed;
+use parser_levels::level::level6;
+use parser_steps::State;
+use parser_steps::cursor::stop;
 ghost use mathlib.Core.Path.{_≡_};
 ghost use lib.ListN.{take, getD};
 ghost use Rattle.grammar.specs.Answers.{handed, Handed, placeAt, accepted, refusedAt, Answer};
-ghost use Rattle.parser.specs.Inner.{Given, Finished, Full, picked};
-
-// How far a parser is: the number of the next token, how many nodes it wrote, and whether it goes on.
-pub struct State {
-    pub at: usize,
-    pub len: usize,
-    pub ok: bool,
-}
+ghost use Rattle.parser.specs.Inner.{Given, Finished, Full};
+ghost use Rattle.parser_steps.specs.Inner.{picked};
 
 // A whole text: an expression and nothing behind it, or where it is refused.
 fn read_all(codes: &[u8], nodes: &mut [usize; 256]) -> State

@@ -1,4 +1,4 @@
--- The laws that the alternatives are written by, the statements that the lists meet, and the laws of the report.
+-- The laws that the alternatives are written by, and what the lists stand for.
 pub mod Joining
 pub mod Asking
 pub mod Meaning
@@ -6,5 +6,3 @@ pub mod Bounds
 pub mod Filling
 pub mod Turns
 pub mod Holding
-pub mod Calls
-pub mod Theorems

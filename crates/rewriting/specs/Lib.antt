@@ -1,4 +1,2 @@
--- What rewriting promises: the alternatives of a tree as edge numbers and places of operands, the report of the
--- contradictory ones, and the two calls.
+-- What is written: the alternatives of a tree as edge numbers and places of operands.
 pub mod Lists
-pub mod Calls

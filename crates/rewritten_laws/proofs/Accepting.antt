@@ -31,8 +31,8 @@ use Rattle.rewriting.proofs.Bounds.{accepted-limited}
 use Rattle.rewriting.proofs.Holding.{step-entries, test-entries, edge-entries, operand-entries}
 use Rattle.rewriting.proofs.Joining.{joined-map, lengths-sum}
 use Rattle.rewriting.proofs.Meaning.{alternatives-back}
-use Rattle.rewriting.proofs.Theorems.{rewritten-stand, edges-own}
-use Rattle.listed_calls.specs.Lists.{Each, Operand, Known, AcceptedAlternatives}
+use Rattle.rewriting_calls.proofs.Theorems.{rewritten-stand, edges-own}
+use Rattle.listed_acceptance.specs.Lists.{Each, Operand, Known, AcceptedAlternatives}
 use Rattle.rewritten_laws.proofs.Operands.{tree-operands}
 
 mapped-each : {A : Type 0} {P : A → Type 0} (so : ℕ → Type 0) (f : A → ℕ) → ((x : A) → P x → so (f x))

@@ -25,8 +25,8 @@ use Rattle.acceptance.proofs.Acceptance.{accepted-decodes}
 use Rattle.step_tests.specs.OperandPlaces.{byPlaces, placeOf}
 use Rattle.step_tests.proofs.Places.{Each, of-edge, of-join, of-while}
 use Rattle.text_laws.proofs.ReadTrees.{sorted-vector}
-use Rattle.listed_calls.specs.Lists.{Operand}
-use Rattle.listed_calls.proofs.Alone.{alone}
+use Rattle.listed_acceptance.specs.Lists.{Operand}
+use Rattle.listed_acceptance.proofs.Alone.{alone}
 use Rattle.rewritten_laws.proofs.Lying.{Lies, lies-whole, lies-first, lies-second, lies-within, lies-part}
 
 -- brackets around an operand nest no less deep than those inside

@@ -29,9 +29,9 @@ use Rattle.matching_calls.specs.declared.matching.Counting.{Counting}
 use Rattle.matching_calls.specs.declared.matching.Counting.the-variants as counting
 use Rattle.matching_calls.specs.Matching.{expression, MatchesTree, Finds, RowMatch, AllMatched, Counts, RowTotals}
 use Rattle.matching_calls.proofs.ByAlternatives.{answers-on}
-use Rattle.update_calls.specs.Pushing.{PushesTree, Push}
-use Rattle.update_calls.specs.Pushing as pushing
-use Rattle.listed_calls.specs.Lists.{AcceptedAlternatives}
+use Rattle.queue_calls.specs.Pushing.{PushesTree, Push}
+use Rattle.queue_calls.specs.Pushing as pushing
+use Rattle.listed_acceptance.specs.Lists.{AcceptedAlternatives}
 use Rattle.listed_calls.specs.Listed.{ListedMatch, ListedAll, ListedTotals, Handed, Takes, ListedPush}
 
 -- the orders of the calls: 10 for one thing, or for another that is as good

@@ -33,11 +33,11 @@ use Rattle.matcher.specs.declared.tables.Total.{Total}
 use Rattle.queue.specs.declared.queues.Queue.{Queue}
 use Rattle.queue.specs.Queues.{fed}
 use Rattle.rewriting.specs.Lists.{joined, alternativesAt, stepList, testList, edgeList, operandList}
-use Rattle.rewriting.specs.Calls.{treeOrder, roomOrder, Rewrites}
+use Rattle.rewriting_calls.specs.Calls.{treeOrder, roomOrder, Rewrites}
 use Rattle.rewriting.proofs.Bounds.{accepted-bounded, few-steps, few-tests}
 use Rattle.rewriting.proofs.Holding.{step-entries, test-entries, edge-entries, operand-entries, front-taken}
 use Rattle.rewriting.proofs.Joining.{lengths-sum}
-use Rattle.rewriting.proofs.Theorems.{rewritten-stand}
+use Rattle.rewriting_calls.proofs.Theorems.{rewritten-stand}
 use Rattle.judging.specs.Orders.{Rows}
 use Rattle.matching_calls.specs.declared.matching.Matching.{Matching}
 use Rattle.matching_calls.specs.declared.matching.Matching.the-variants.{Found}
@@ -45,9 +45,9 @@ use Rattle.matching_calls.specs.declared.matching.Counting.{Counting}
 use Rattle.matching_calls.specs.declared.matching.Counting.the-variants as counting
 use Rattle.matching_calls.specs.Matching.{expression, answersOn, triesOn, FoundAs, RowMatch, FillsTree, AllMatched}
 use Rattle.matching_calls.specs.Matching.{TotalsTree, Counts, RowTotals}
-use Rattle.update_calls.specs.Pushing.{Push}
+use Rattle.queue_calls.specs.Pushing.{Push}
 use Rattle.call_laws.proofs.Routes.{codes-passed, matched, told-by, never-refused, pushed-found}
-use Rattle.listed_calls.specs.Lists.{AcceptedAlternatives}
+use Rattle.listed_acceptance.specs.Lists.{AcceptedAlternatives}
 use Rattle.listed_calls.specs.Listed.{ListedMatch, ListedAll, ListedTotals, ListedPush}
 use Rattle.rewritten_laws.specs.WrittenOut.{WrittenOut}
 use Rattle.rewritten_laws.proofs.Accepting.{lists-accepted}

@@ -8,7 +8,7 @@ use mathlib.Core.List.{List}
 use lib.ListN.{take}
 use Rattle.basics.specs.declared.Outcome.the-variants.{Done}
 use Rattle.alternatives.specs.InMemory.{sum}
-use Rattle.rewriting.specs.Calls.{Rewrites}
+use Rattle.rewriting_calls.specs.Calls.{Rewrites}
 
 pub record Lists : Type 0 where
   pub steps : List ℕ

@@ -14,12 +14,16 @@ use Rattle.basics.specs.Words.{listed}
 use Rattle.alf.specs.Values.{stateAt}
 use Rattle.alf.specs.Windows.{rowAnswer}
 use Rattle.alf.specs.Answers.{numberOf}
-use Rattle.trees.specs.Parts.{EndsBoolean, EndsVector, vectorAt}
-use Rattle.acceptance.specs.Accepted.{Accepted}
-use Rattle.acceptance.proofs.Acceptance.{accepted-boolean, accepted-vector}
+use Rattle.alf.specs.Decoder.{stackAt}
+use Rattle.trees.specs.Parts.{EndsBoolean, vectorAt}
+use Rattle.acceptance.specs.Accepted.{overSize, Accepted, Limited}
+use Rattle.acceptance.proofs.Acceptance.{decoded, accepted-decodes, accepted-boolean, accepted-vector}
 use Rattle.evaluator.specs.Rows.{Within, IsState, Filling, stateOf, valueOf}
 use Rattle.basics.proofs.Listed.{listed-whole}
 use Rattle.evaluator.proofs.Traces.{trace-row, trace-filling}
+use Rattle.window_answers.specs.Spans.{Pattern}
+use Rattle.window_answers.proofs.Tops.{top-vector}
+use Rattle.window_answers.proofs.LongestSteps.{longest-limited}
 use Rattle.judging.specs.declared.checks.Verdict.{Verdict}
 use Rattle.judging.specs.declared.checks.Verdict.the-variants.{Good, Refused}
 use Rattle.row_calls.specs.declared.written.Told.the-variants as told
@@ -30,6 +34,23 @@ use Rattle.states.specs.FirstBadCode.{Codes}
 use Rattle.basics.proofs.Deciding.{eqb-decides}
 use Rattle.judging.proofs.Verdicts.{judged-good, judged-not}
 use Rattle.judging.proofs.Checked.{lent-as}
+
+-- an accepted tree is a vector expression within the limits
+module _ (tree : List ℕ) (names : ℕ) (a : Accepted names Vector tree) where
+  limited : Limited tree names
+  unfolding overSize
+  limited =
+      let e = decoded names tree (a .expression) (accepted-decodes a) in
+      let d = top-vector (stackAt tree names (length tree)) (accepted-vector tree names a .whole) in
+      rw (← e, d) at (a .sized)
+
+  accepted-pattern : Pattern tree names (length tree)
+  accepted-pattern =
+      record {
+        ends = accepted-vector tree names a;
+        few = a .tokens;
+        short = longest-limited (vectorAt tree names (length tree)) limited;
+      }
 
 module _ {names n : ℕ} {tree : List ℕ} {sort : Sort} {states : List ℕ} {row : ℕ} {v : Verdict}
     (c : ChecksRow names n tree sort states row v) (e : v ≡ Good) where
@@ -66,8 +87,8 @@ module _ {names n : ℕ} {tree states : List ℕ} {row : ℕ} {v : Verdict}
 
 module _ {names n : ℕ} {tree states : List ℕ} {row : ℕ} {v : Verdict}
     (c : ChecksRow names n tree Vector states row v) where
-  pub vector-ends : v ≡ Good → EndsVector tree names (length tree)
-  vector-ends e = accepted-vector tree names (row-accepted c e)
+  pub pattern-there : v ≡ Good → Pattern tree names (length tree)
+  pattern-there e = accepted-pattern tree names (row-accepted c e)
 
   pub answer-refused : {r : Refusal} → v ≡ Refused r → RowAnswer names n tree states row (told.Refused r)
   unfolding Tells

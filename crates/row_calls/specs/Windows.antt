@@ -9,8 +9,9 @@ use lib.ListN.{length}
 use Rattle.alf.specs.declared.Sort.the-variants.{Vector}
 use Rattle.alf.specs.Values.{stateAt}
 use Rattle.alf.specs.Windows.{Rank, answer, numbered}
-use Rattle.trees.specs.Parts.{EndsVector, vectorAt}
+use Rattle.trees.specs.Parts.{vectorAt}
 use Rattle.evaluator.specs.Rows.{Within}
+use Rattle.window_answers.specs.Spans.{Pattern}
 use Rattle.row_calls.specs.declared.written.Told.{Told}
 use Rattle.judging.specs.Orders.{rowOrder}
 use Rattle.row_calls.specs.Written.{Tells}
@@ -22,7 +23,7 @@ answerOver names tree states = answer (stateAt names states) (vectorAt tree name
 pub record WindowAnswer (names n : ℕ) (tree states : List ℕ) (a b : ℕ) (r : Told) : Type 0 where
   pub comes : Tells (rowOrder names n tree Vector states (max a b)) (numbered (answerOver names tree states a b)) r
 
--- What the function inside asks: a vector expression, and a trace that has row b.
+-- What the function inside asks: a vector expression within the limits, and a trace that has row b.
 pub record TreeWindow (names : ℕ) (tree states : List ℕ) (b : ℕ) : Type 0 where
-  pub ends : EndsVector tree names (length tree)
+  pub ends : Pattern tree names (length tree)
   pub there : Within states names b

@@ -23,8 +23,8 @@ fn answer_tree(names: usize, tree: &[u8], states: &[u8], a: usize, b: usize) -> 
     requires { ⌜ TreeWindow names (now tree) (now states) b ⌝ }
     ensures { λ r. ⌜ numberOf r ≡ numbered (answerOver names (now (tree .entry)) (now (states .entry)) a b) ⌝ }
 {
-    let rank = evaluator::windows::answer(tree, tree.len(), states, names, a, b);
-    evaluator::rows::name_of(rank)
+    let rank = window_answers::rows::answer(tree, tree.len(), states, names, a, b);
+    evaluator::ranks::name_of(rank)
 }
 
 // The answer of a vector expression on the window of rows a to b; a window without an event answers no.

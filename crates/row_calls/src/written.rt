@@ -69,7 +69,7 @@ pub fn row_answer(names: usize, n: usize, tree: &[u8], states: &[u8], row: RowNo
     let v = check_row(names, n, tree, Sort::Vector, states, at);
     match v {
         Verdict::Refused(r) => Told::Refused(r),
-        Verdict::Good => Told::Answered(evaluator::rows::row_answer(
+        Verdict::Good => Told::Answered(window_answers::rows::row_answer(
             tree,
             tree.len(),
             states,

@@ -9,7 +9,7 @@ use Rattle.alf.specs.Values.{chosen, value}
 use Rattle.basics.specs.Text.{bytes, joined}
 use Rattle.figures.specs.Numbers.{digits, widthUpTo, width, decimal}
 use Rattle.listing.specs.Listing.{letter, wordOf, line, lines, valuesListing}
-use Rattle.row_listings.specs.Listings.{valueListing}
+use Rattle.expression_listings.specs.TreeListings.{valueListing}
 
 pub case-8 :
     valueListing T.names T.times T.states (choice T.A T.C (literal Z))

@@ -20,7 +20,8 @@ use Rattle.reader.specs.Reading.{readOrder, Gives}
 use Rattle.reader.proofs.Unique.{gives-unique}
 use Rattle.text_laws.proofs.ReadTrees.{read-sole}
 use Rattle.basics.specs.Memory.{after}
-use Rattle.row_listings.specs.Listings.{OfGiven, rowsOrder, listOrder}
+use Rattle.row_listings.specs.Listings.{OfGiven, listOrder}
+use Rattle.expression_listings.specs.TreeListings.{rowsOrder}
 use Rattle.row_listings.specs.Listings.{Lists, lists, refuses, ListsPattern, ListsValues}
 use Rattle.row_listings.proofs.TextListings.{vector-one, boolean-one}
 

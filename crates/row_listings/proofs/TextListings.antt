@@ -25,10 +25,13 @@ use Rattle.reader.proofs.Unique.{gives-unique}
 use Rattle.text_laws.proofs.ReadTrees.{Found, read-refused, found-decodes, found-vector, vector-given, found-boolean}
 use Rattle.basics.specs.Memory.{after, front}
 use Rattle.tree_listings.specs.TreeTexts.{patternListing}
-use Rattle.row_listings.specs.Listings.{valueListing, OfGiven, rowsOrder}
-use Rattle.row_listings.specs.Listings.{Lists, lists, refuses, ListsPattern, ListsValues, RowsText, listingOf}
-use Rattle.row_listings.specs.Listings.{treeListing, ListsAs}
-use Rattle.row_listings.proofs.RowListings.{text-as}
+use Rattle.row_listings.specs.Listings.{OfGiven}
+use Rattle.expression_listings.specs.TreeListings.{valueListing, rowsOrder}
+use Rattle.row_listings.specs.Listings.{Lists, lists, refuses, ListsPattern, ListsValues}
+use Rattle.expression_listings.specs.TreeListings.{RowsText, listingOf}
+use Rattle.row_listings.specs.Listings.{ListsAs}
+use Rattle.expression_listings.specs.TreeListings.{treeListing}
+use Rattle.expression_listings.proofs.RowListings.{text-as}
 
 found-listing : {names text : List ℕ} {sort : Sort} {r : Read} (f : Found names text sort r)
     (times states : List ℕ)

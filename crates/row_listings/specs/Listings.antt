@@ -1,10 +1,9 @@
 -- Listings of what a text gives, on a trace: a pattern's text comes to the listing of its answers, the text of a
 -- boolean expression to the listing of its values; or refused.
---   valueListing                    the text of a boolean expression; a pattern's is tree_listings' patternListing
---   OfGiven, listingOf              what is listed of what a text gives
---   rowsOrder, listOrder            the refusals in their order
---   ListsPattern, ListsValues       what the calls come to: one contract, Lists, over what the text gives
---   ListsAs, RowsText, treeListing  what the functions inside give
+--   OfGiven                      a row of the order that speaks of what the text gives
+--   listOrder                    the refusals in their order
+--   ListsPattern, ListsValues    what the calls come to: one contract, Lists, over what the text gives
+--   ListsAs                      what the function inside gives
 -- That result and buffer follow from the input is a law.
 use Prim.Native.Nat.{ℕ, _/_}
 use mathlib.Core.Path.{_≡_}
@@ -15,20 +14,12 @@ use Rattle.alf.specs.declared.Sort.the-variants as the-sort
 use Rattle.basics.specs.declared.Refusal.{Refusal}
 use Rattle.basics.specs.declared.Outcome.{Outcome}
 use Rattle.basics.specs.declared.Outcome.the-variants.{Done, Refused}
-use Rattle.basics.specs.Words.{listed}
-use Rattle.alf.specs.Expressions.{Boolean, Vector, Expression, boolean, vector}
-use Rattle.alf.specs.Values.{valueAt}
-use Rattle.alf.specs.Refusals.{Row, Order, check, bad-lists, bad-code, no-room, RefusedBy, Passed, Comes}
-use Rattle.trees.specs.Parts.{expressionAt}
+use Rattle.alf.specs.Expressions.{Expression, boolean, vector}
+use Rattle.alf.specs.Refusals.{Row, Order, check, no-room, RefusedBy, Passed}
 use Rattle.reader.specs.Reading.{readOrder, Gives}
-use Rattle.judging.specs.Orders.{Rows}
 use Rattle.basics.specs.Memory.{after, front}
-use Rattle.listing.specs.Listing.{valuesListing}
 use Rattle.tree_listings.specs.TreeTexts.{patternListing}
-
--- of a boolean expression, its values at all rows of a trace of k names
-unfoldable pub valueListing : ℕ → List ℕ → List ℕ → Boolean → List ℕ
-valueListing k times states c = valuesListing times (listed 0 (length times) (valueAt k states c))
+use Rattle.expression_listings.specs.TreeListings.{valueListing, rowsOrder}
 
 -- a row that speaks of what the text gives, as an expression of the sort
 pub record OfGiven {A : Type 0} (into : A → Expression) (names text : List ℕ) (sort : Sort) (row : A → Row)
@@ -36,11 +27,6 @@ pub record OfGiven {A : Type 0} (into : A → Expression) (names text : List ℕ
   pub it : A
   pub given : Gives names text sort (into it)
   pub holds : row it p
-
--- 18 and 15 of a trace
-abbrev pub rowsOrder : ℕ → List ℕ → List ℕ → Order → Order
-rowsOrder k times states rest =
-    check 18 (bad-lists (Rows k (length times) (length states))) ∷ check 15 (bad-code states) ∷ rest
 
 -- all that reading refuses, then 18 and 15 of the trace, then 9
 abbrev pub listOrder :
@@ -84,18 +70,3 @@ unfoldable pub ListsAs : Sort → List ℕ → List ℕ → List ℕ → List �
     → Type 0
 ListsAs the-sort.Vector = ListsPattern
 ListsAs the-sort.Boolean = ListsValues
-
--- For the functions inside: a text for the rows of a trace; 18, 15, 9.
-pub record RowsText (k : ℕ) (times states text out out′ : List ℕ) (r : Outcome) : Type 0 where
-  pub outcome :
-      Comes (rowsOrder k times states (check 9 (no-room (length text) (length out)) ∷ []))
-      (λ m. m ≡ length text) r
-  pub memory : out′ ≡ after (front text out) out r
-
--- of an expression of either sort; of that which a tree is
-unfoldable pub listingOf : ℕ → List ℕ → List ℕ → Expression → List ℕ
-listingOf k times states (boolean c) = valueListing k times states c
-listingOf k times states (vector p) = patternListing k times states p
-
-abbrev pub treeListing : ℕ → List ℕ → List ℕ → List ℕ → List ℕ
-treeListing k times states tree = listingOf k times states (expressionAt tree k (length tree))

@@ -3,11 +3,11 @@ use crate::answers::matching;
 use alf::RowNo;
 use queue::queues::Queue;
 use queue::queues::empty;
+use queue_calls::pushing::push;
 use run_printing::printing::character;
 use run_printing::printing::number;
 use run_printing::printing::write;
 use run_printing::states::letter;
-use update_calls::pushing::push;
 
 // By the queue, one row after the other.
 pub fn by_queue(names: usize, tree: &[u8], states: &[u8]) {

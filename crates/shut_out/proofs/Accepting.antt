@@ -34,7 +34,7 @@ use Rattle.matching_calls.specs.declared.matching.Matching.{Matching}
 use Rattle.matching_calls.specs.declared.matching.Matching.the-variants as matching
 use Rattle.matching_calls.specs.Matching.{expression, RowMatch, AllMatched}
 use Rattle.update_calls.specs.Correcting.{Correction}
-use Rattle.update_calls.specs.Pushing.{RowFits, Push}
+use Rattle.queue_calls.specs.Pushing.{RowFits, Push}
 use Rattle.judging.specs.Orders.{Rows}
 use Rattle.call_laws.proofs.Routes.{codes-never}
 use Rattle.basics.specs.Refusing.{refusal}

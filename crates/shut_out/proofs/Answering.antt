@@ -34,7 +34,7 @@ use Rattle.alf.specs.Refusals.{Comes}
 use Rattle.alf.specs.TableT.{names, rows, states}
 use Rattle.matcher.specs.declared.answers.Matched.{Matched}
 use Rattle.contradictions.specs.Possible.{flagOf, flagList}
-use Rattle.rewriting.specs.Calls as rewriting
+use Rattle.rewriting_calls.specs.Calls as rewriting
 use Rattle.contradictions.specs.Calls.{ownAt, Contradicts}
 use Rattle.changes.specs.declared.RowChanges.the-variants as row-changes
 use Rattle.changes.specs.Call as changes

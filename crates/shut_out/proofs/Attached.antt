@@ -20,17 +20,17 @@ use Rattle.trace_reader.specs.Reading.{Reads}
 use Rattle.trace_writer.specs.Writing as trace-writing
 use Rattle.changes.specs.declared.RowChanges.{RowChanges}
 use Rattle.changes.specs.Call as changes
-use Rattle.rewriting.specs.Calls.{Rewrites}
+use Rattle.rewriting_calls.specs.Calls.{Rewrites}
 use Rattle.contradictions.specs.Calls.{Contradicts}
 use Rattle.row_calls.specs.declared.written.Told.{Told}
 use Rattle.matching_calls.specs.declared.matching.Matching.{Matching}
 use Rattle.matching_calls.specs.declared.matching.Counting.{Counting}
-use Rattle.update_calls.specs.declared.pushing.Pushing.{Pushing}
+use Rattle.queue_calls.specs.declared.pushing.Pushing.{Pushing}
 use Rattle.row_calls.specs.Written.{RowState, RowValue, AllValues, RowAnswer}
 use Rattle.row_calls.specs.Windows.{WindowAnswer}
 use Rattle.matching_calls.specs.Matching.{RowMatch, AllMatched, RowTotals}
 use Rattle.update_calls.specs.Correcting.{Correction}
-use Rattle.update_calls.specs.Pushing.{Push}
+use Rattle.queue_calls.specs.Pushing.{Push}
 use Rattle.names.proofs.check_names.Reads as check-names-says
 use Rattle.names.proofs.check_names.Kinds as check-names-kinds
 use Rattle.reader.proofs.read_expression.Reads as read-expression-says
@@ -43,8 +43,8 @@ use Rattle.trace_writer.proofs.write.write_trace.Reads as write-trace-says
 use Rattle.trace_writer.proofs.write.write_trace.Kinds as write-trace-kinds
 use Rattle.changes.proofs.changes_at.Reads as changes-at-says
 use Rattle.changes.proofs.changes_at.Kinds as changes-at-kinds
-use Rattle.rewriting.proofs.rewrite.Reads as rewrite-says
-use Rattle.rewriting.proofs.rewrite.Kinds as rewrite-kinds
+use Rattle.rewriting_calls.proofs.rewrite.Reads as rewrite-says
+use Rattle.rewriting_calls.proofs.rewrite.Kinds as rewrite-kinds
 use Rattle.contradictions.proofs.reports.contradictions.Reads as contradictions-says
 use Rattle.contradictions.proofs.reports.contradictions.Kinds as contradictions-kinds
 use Rattle.row_calls.proofs.written.row_state.Reads as row-state-says
@@ -65,8 +65,8 @@ use Rattle.matching_calls.proofs.matching.totals.Reads as totals-says
 use Rattle.matching_calls.proofs.matching.totals.Kinds as totals-kinds
 use Rattle.update_calls.proofs.correcting.correct.Reads as correct-says
 use Rattle.update_calls.proofs.correcting.correct.Kinds as correct-kinds
-use Rattle.update_calls.proofs.pushing.push.Reads as push-says
-use Rattle.update_calls.proofs.pushing.push.Kinds as push-kinds
+use Rattle.queue_calls.proofs.pushing.push.Reads as push-says
+use Rattle.queue_calls.proofs.pushing.push.Kinds as push-kinds
 
 pub check-names : (κs : Lfts 1) (a : Dens κs check-names-kinds.ps) → check-names-says.Pre κs a
     × ((r : Outcome) (e : Dens κs check-names-kinds.ps) → check-names-says.Post κs a r e

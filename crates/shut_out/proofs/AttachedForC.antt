@@ -15,7 +15,7 @@ use Rattle.writer.specs.Writing as writing
 use Rattle.trace_reader.specs.Reading.{Reads}
 use Rattle.trace_writer.specs.Writing as trace-writing
 use Rattle.changes.specs.Call as changes
-use Rattle.rewriting.specs.Calls.{Rewrites}
+use Rattle.rewriting_calls.specs.Calls.{Rewrites}
 use Rattle.contradictions.specs.Calls.{Contradicts}
 use Rattle.row_calls.specs.Written.{RowState, RowValue, AllValues, RowAnswer}
 use Rattle.row_calls.specs.Windows.{WindowAnswer}

@@ -13,18 +13,18 @@ use borrow.Fn.Kinds.{Dens}
 use Rattle.basics.specs.declared.Outcome.{Outcome}
 use Rattle.matching_calls.specs.declared.matching.Counting.{Counting}
 use Rattle.table_lines.specs.declared.lines.Sums.{Sums}
-use Rattle.listing.specs.Calls.{ValuesText}
-use Rattle.alternative_lines.specs.declared.Lines.{Lines}
-use Rattle.alternative_lines.specs.Calls.{WritesAlternatives}
+use Rattle.column_listings.specs.Calls.{ValuesText}
+use Rattle.alternative_listings.specs.declared.Lines.{Lines}
+use Rattle.alternative_listings.specs.Calls.{WritesAlternatives}
 use Rattle.row_listings.specs.Listings.{ListsPattern, ListsValues}
 use Rattle.jobs.specs.declared.table.Line.{Line}
 use Rattle.jobs.specs.declared.sums.Adding.{Adding}
 use Rattle.jobs.specs.Counting.{CountsText}
 use Rattle.jobs.specs.Lines.{TableLine}
 use Rattle.jobs.specs.Sums.{noSums, addedTo}
-use Rattle.jobs.specs.Correcting.{CorrectsLetters}
-use Rattle.jobs.specs.RowNumbers.{rowNumber}
-use Rattle.jobs.specs.AlternativesText.{RewritesText}
+use Rattle.letter_corrections.specs.Correcting.{CorrectsLetters}
+use Rattle.letter_corrections.specs.RowNumbers.{rowNumber}
+use Rattle.alternative_listings.specs.AlternativesText.{RewritesText}
 use Rattle.jobs.proofs.counting.count_text.Reads as count-text-says
 use Rattle.jobs.proofs.counting.count_text.Kinds as count-text-kinds
 use Rattle.jobs.proofs.table.table_line.Reads as table-line-says
@@ -33,20 +33,20 @@ use Rattle.jobs.proofs.sums.add.Reads as add-says
 use Rattle.jobs.proofs.sums.add.Kinds as add-kinds
 use Rattle.jobs.proofs.sums.no_sums.Reads as no-sums-says
 use Rattle.jobs.proofs.sums.no_sums.Kinds as no-sums-kinds
-use Rattle.jobs.proofs.correcting.correct_letters.Reads as correct-letters-says
-use Rattle.jobs.proofs.correcting.correct_letters.Kinds as correct-letters-kinds
-use Rattle.jobs.proofs.correcting.row_number.Reads as row-number-says
-use Rattle.jobs.proofs.correcting.row_number.Kinds as row-number-kinds
-use Rattle.jobs.proofs.alternatives.alternatives_text.Reads as alternatives-text-says
-use Rattle.jobs.proofs.alternatives.alternatives_text.Kinds as alternatives-text-kinds
-use Rattle.alternative_lines.proofs.write_alternatives.Reads as write-alternatives-says
-use Rattle.alternative_lines.proofs.write_alternatives.Kinds as write-alternatives-kinds
+use Rattle.letter_corrections.proofs.correcting.correct_letters.Reads as correct-letters-says
+use Rattle.letter_corrections.proofs.correcting.correct_letters.Kinds as correct-letters-kinds
+use Rattle.letter_corrections.proofs.correcting.row_number.Reads as row-number-says
+use Rattle.letter_corrections.proofs.correcting.row_number.Kinds as row-number-kinds
+use Rattle.alternative_listings.proofs.texts.alternatives_text.Reads as alternatives-text-says
+use Rattle.alternative_listings.proofs.texts.alternatives_text.Kinds as alternatives-text-kinds
+use Rattle.alternative_listings.proofs.write_alternatives.Reads as write-alternatives-says
+use Rattle.alternative_listings.proofs.write_alternatives.Kinds as write-alternatives-kinds
 use Rattle.row_listings.proofs.listings.list_text.Reads as list-text-says
 use Rattle.row_listings.proofs.listings.list_text.Kinds as list-text-kinds
 use Rattle.row_listings.proofs.listings.values_text.Reads as values-text-says
 use Rattle.row_listings.proofs.listings.values_text.Kinds as values-text-kinds
-use Rattle.listing.proofs.listings.list_values.Reads as list-values-says
-use Rattle.listing.proofs.listings.list_values.Kinds as list-values-kinds
+use Rattle.column_listings.proofs.listings.list_values.Reads as list-values-says
+use Rattle.column_listings.proofs.listings.list_values.Kinds as list-values-kinds
 
 pub count-text : (κs : Lfts 3) (a : Dens κs count-text-kinds.ps) → count-text-says.Pre κs a
     × ((r : Counting) (e : Dens κs count-text-kinds.ps) → count-text-says.Post κs a r e

@@ -6,14 +6,14 @@ use borrow.Fn.Kinds.{Dens}
 use Rattle.basics.specs.declared.Outcome.{Outcome}
 use Rattle.matching_calls.specs.declared.matching.Matching.{Matching}
 use Rattle.matching_calls.specs.declared.matching.Counting.{Counting}
-use Rattle.update_calls.specs.declared.pushing.Pushing.{Pushing}
-use Rattle.listed_calls.specs.Fitting.{ListedFits}
+use Rattle.queue_calls.specs.declared.pushing.Pushing.{Pushing}
+use Rattle.listed_acceptance.specs.Fitting.{ListedFits}
 use Rattle.listed_calls.specs.Listed.{ListedMatch, ListedAll, ListedTotals, ListedPush}
 use Rattle.tree_listings.specs.TreeTexts.{ListsTree, LinesTree}
 use Rattle.figures.specs.Delivering.{Delivers}
 use Rattle.table_lines.specs.Table.{headingLine, refusedLine, totalLine}
-use Rattle.listed_calls.proofs.accepting.count_listed.Reads as listed-fits-says
-use Rattle.listed_calls.proofs.accepting.count_listed.Kinds as listed-fits-kinds
+use Rattle.listed_acceptance.proofs.accepting.count_listed.Reads as listed-fits-says
+use Rattle.listed_acceptance.proofs.accepting.count_listed.Kinds as listed-fits-kinds
 use Rattle.listed_calls.proofs.listed.match_row.Reads as listed-match-row-says
 use Rattle.listed_calls.proofs.listed.match_row.Kinds as listed-match-row-kinds
 use Rattle.listed_calls.proofs.listed.match_all.Reads as listed-match-all-says

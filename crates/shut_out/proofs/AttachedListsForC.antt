@@ -2,7 +2,7 @@
 use contract.Lifetimes.{Lfts}
 use denote.Ref.{now}
 use borrow.Fn.Kinds.{Dens}
-use Rattle.listed_calls.specs.Fitting.{ListedFits}
+use Rattle.listed_acceptance.specs.Fitting.{ListedFits}
 use Rattle.listed_calls.specs.Listed.{ListedMatch, ListedAll, ListedTotals}
 use Rattle.tree_listings.specs.TreeTexts.{ListsTree, LinesTree}
 use Rattle.figures.specs.Delivering.{Delivers}

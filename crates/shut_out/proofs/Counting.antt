@@ -34,7 +34,7 @@ use Rattle.matching_calls.specs.declared.matching.Counting.the-variants as coun
 use Rattle.judging.specs.Orders.{Rows}
 use Rattle.row_calls.specs.Written.{Tells}
 use Rattle.matching_calls.specs.Matching.{expression, triesOn, Finds, Counts, RowMatch, RowTotals}
-use Rattle.update_calls.specs.Pushing.{Takes, Push}
+use Rattle.queue_calls.specs.Pushing.{Takes, Push}
 use Rattle.call_laws.proofs.Routes.{matched, pushed-found}
 use Rattle.shut_out.specs.Asked as T
 use Rattle.shut_out.specs.Asked.{rises, one-of}

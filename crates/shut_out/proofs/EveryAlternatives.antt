@@ -26,9 +26,9 @@ use Rattle.figures.specs.Numbers.{digits, widthUpTo, width, decimal}
 use Rattle.alternative_texts.specs.Texts.{readable, shown, expressionOf, testText, behind, between, stepText}
 use Rattle.alternative_texts.specs.Texts.{alternativeText}
 use Rattle.alternative_lines.specs.Listing.{note, lineOf, line, linesFrom, listing}
-use Rattle.alternative_lines.specs.Calls.{listingAt, WritesAlternatives}
+use Rattle.alternative_listings.specs.Calls.{listingAt, WritesAlternatives}
 use Rattle.row_listings.proofs.TextListings.{vector-one}
-use Rattle.jobs.specs.AlternativesText.{RewritesText}
+use Rattle.alternative_listings.specs.AlternativesText.{RewritesText}
 use Rattle.shut_out.specs.Asked.{asked, letters, rises}
 use Rattle.shut_out.proofs.RefusingAlternatives as showing
 use Rattle.shut_out.proofs.OnT.{rises-accepted, rises-is, letters-good, letters-count}

@@ -24,7 +24,7 @@ use Rattle.writer.specs.Trees.{text}
 use Rattle.step_tests.specs.OperandPlaces.{byPlaces}
 use Rattle.rewriting.specs.Lists.{joined, alternativesAt, stepList, testList, edgeList, operandList}
 use Rattle.contradictions.specs.Possible.{flagList}
-use Rattle.rewriting.specs.Calls.{Rewrites}
+use Rattle.rewriting_calls.specs.Calls.{Rewrites}
 use Rattle.contradictions.specs.Calls.{ownAt, Contradicts}
 use Rattle.queue.specs.declared.queues.Queue.{Queue}
 use Rattle.states.specs.FirstBadCode.{Codes}
@@ -35,7 +35,7 @@ use Rattle.row_calls.specs.Written.{RowState, RowValue, AllValues, RowAnswer}
 use Rattle.row_calls.specs.Windows.{WindowAnswer}
 use Rattle.matching_calls.specs.Matching.{expression, RowMatch, AllMatched, RowTotals}
 use Rattle.update_calls.specs.Correcting.{Correction}
-use Rattle.update_calls.specs.Pushing.{Push}
+use Rattle.queue_calls.specs.Pushing.{Push}
 use Rattle.call_laws.proofs.Routes.{holding-first}
 use Rattle.figures.specs.Delivering.{Delivers}
 use Rattle.shut_out.specs.Asked.{asked, rises, just-A}

@@ -48,18 +48,19 @@ use Rattle.table_lines.specs.declared.lines.Sums.{Sums}
 use Rattle.basics.specs.Text.{bytes, joined}
 use Rattle.figures.specs.Numbers.{digits, widthUpTo, width, decimal}
 use Rattle.listing.specs.Listing.{letter, wordOf, line, lines, valuesListing}
-use Rattle.listing.specs.Calls.{ValuesText}
+use Rattle.column_listings.specs.Calls.{ValuesText}
 use Rattle.table_lines.proofs.TableExamples.{case-1-line}
 use Rattle.tree_listings.specs.TreeTexts.{patternListing}
-use Rattle.row_listings.specs.Listings.{valueListing, ListsPattern, ListsValues}
+use Rattle.row_listings.specs.Listings.{ListsPattern, ListsValues}
+use Rattle.expression_listings.specs.TreeListings.{valueListing}
 use Rattle.row_listings.proofs.TextListings.{vector-one, boolean-one}
 use Rattle.tree_listings.proofs.Examples.{case-1}
 use Rattle.jobs.specs.declared.sums.Adding.the-variants.{Added}
 use Rattle.jobs.specs.Counting.{CountsText}
 use Rattle.jobs.specs.Lines.{lineOf, TableLine}
 use Rattle.jobs.specs.Sums.{noSums, addedAll, sumsOf}
-use Rattle.jobs.specs.Letters.{stateOf}
-use Rattle.jobs.specs.Correcting.{CorrectsLetters}
+use Rattle.letter_corrections.specs.Letters.{stateOf}
+use Rattle.letter_corrections.specs.Correcting.{CorrectsLetters}
 use Rattle.jobs.proofs.SumLaws.{sums-exact}
 use Rattle.shut_out.specs.Asked.{letters, rises}
 use Rattle.shut_out.proofs.Refusing as texts

@@ -19,8 +19,8 @@ use Rattle.states.specs.FirstBadCode.{Codes}
 use Rattle.matching_calls.specs.declared.matching.Matching.the-variants as matching
 use Rattle.matching_calls.specs.declared.matching.Counting.the-variants as counting
 use Rattle.call_laws.proofs.Routes.{holding-first}
-use Rattle.listed_calls.specs.Lists.{Operand, AcceptedAlternatives}
-use Rattle.listed_calls.specs.Fitting.{ListedFits}
+use Rattle.listed_acceptance.specs.Lists.{Operand, AcceptedAlternatives}
+use Rattle.listed_acceptance.specs.Fitting.{ListedFits}
 use Rattle.listed_calls.specs.Listed as listed
 use Rattle.shut_out.specs.Asked.{asked, rises}
 use Rattle.shut_out.proofs.RefusingLists as over-lists

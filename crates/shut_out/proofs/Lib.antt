@@ -35,6 +35,8 @@
 --     `other-listing`, `other-line` (EveryTreeText); `no-other-listing`, `no-other-totals-line` (NothingElse)
 -- an activity listing refused on T, or with another text
 --     `activity`, `activity-on-T`, `no-other-activity`, `activity-attached` (Activity)
+-- a part of it refused on T or in a block of the program, or with another text
+--     `activity-part`, `part-on-T`, `blocks-shown`, `no-other-part`, `part-attached` (Activity)
 -- a line of the table for a pattern that is counted otherwise, or for a good one that is said to be refused
 --     `counted-in-line`, `table-line` (RefusingJobs)
 -- a queue right at its first event only; one that keeps nothing

@@ -32,7 +32,7 @@ use Rattle.changes.specs.declared.RowChanges.the-variants.{Changed}
 use Rattle.changes.specs.Call as changes
 use Rattle.rewriting.specs.Lists.{alternativesAt, stepList, testList, edgeList, operandList}
 use Rattle.contradictions.specs.Possible.{flagList}
-use Rattle.rewriting.specs.Calls as rewriting
+use Rattle.rewriting_calls.specs.Calls as rewriting
 use Rattle.contradictions.specs.Calls as flagging
 use Rattle.matcher.specs.declared.answers.Matched.{Matched}
 use Rattle.matcher.specs.declared.tables.Total.{Total}
@@ -51,8 +51,8 @@ use Rattle.row_calls.specs.Windows.{WindowAnswer, answerOver}
 use Rattle.matching_calls.specs.Matching.{Finds, Counts, RowMatch, AllMatched, RowTotals, MatchesTree, TotalsTree}
 use Rattle.matching_calls.specs.Matching.{expression, answersOn, triesOn}
 use Rattle.update_calls.specs.Correcting.{Correction, rewritten}
-use Rattle.update_calls.specs.Pushing.{Takes, Push, PushesTree}
-use Rattle.listed_calls.specs.Fitting.{ListedFits}
+use Rattle.queue_calls.specs.Pushing.{Takes, Push, PushesTree}
+use Rattle.listed_acceptance.specs.Fitting.{ListedFits}
 use Rattle.listed_calls.specs.Listed as listed-calls
 use Rattle.listed_calls.specs.Listed.{alternativesIn}
 use Rattle.tree_listings.specs.TreeTexts.{patternListing, totalsLine, ListsTree, LinesTree}

@@ -21,12 +21,12 @@ use Rattle.trace_laws.proofs.RoundTrips.{writing-passes}
 use Rattle.acceptance.specs.Accepted.{Accepted}
 use Rattle.rewriting.specs.Lists.{alternativesAt, stepList, testList, edgeList, operandList}
 use Rattle.contradictions.specs.Possible.{flagList}
-use Rattle.rewriting.specs.Calls as rewriting
+use Rattle.rewriting_calls.specs.Calls as rewriting
 use Rattle.contradictions.specs.Calls as flagging
-use Rattle.listing.specs.Listing.{valuesListing}
+use Rattle.listing.specs.Listing.{valuesListing, Lists}
 use Rattle.figures.specs.Delivering as delivering
-use Rattle.listing.specs.Calls as lines
-use Rattle.listing.proofs.Theorems.{values-unique}
+use Rattle.column_listings.specs.Calls as lines
+use Rattle.column_listings.proofs.Theorems.{values-unique}
 use Rattle.demands.proofs.Demand1.{demand-1}
 use Rattle.shut_out.specs.Reasons.{Exactly}
 use Rattle.shut_out.proofs.Reasons.{exactly, comes-parts, None, Four, both}
@@ -183,7 +183,7 @@ module _ (names : ℕ) (tree : List ℕ) where
 module _ (out : List ℕ) where
   module _ (times values : List ℕ) where
     pub record Listable : Type 0 where
-      pub lists : lines.Lists (length times) (length values)
+      pub lists : Lists (length times) (length values)
       pub known : (i : ℕ) → i < length values → getD values i 0 ≤ 7
       pub room : length (valuesListing times values) ≤ length out
 

@@ -23,14 +23,14 @@ use Rattle.reader.specs.Reading.{readOrder, Gives}
 use Rattle.reader.proofs.Unique.{gives-unique}
 use Rattle.basics.specs.Memory.{after}
 use Rattle.figures.specs.Delivering.{lineOrder}
-use Rattle.alternative_lines.specs.declared.Lines.{Lines}
+use Rattle.alternative_listings.specs.declared.Lines.{Lines}
 use Rattle.alternative_lines.specs.Listing.{listing}
-use Rattle.alternative_lines.specs.Calls.{listingAt, order, tally, WritesAlternatives}
-use Rattle.alternative_lines.proofs.Theorems.{alternatives-unique}
+use Rattle.alternative_listings.specs.Calls.{listingAt, order, tally, WritesAlternatives}
+use Rattle.alternative_listings.proofs.Theorems.{alternatives-unique}
 use Rattle.row_listings.specs.Listings.{OfGiven}
 use Rattle.row_listings.proofs.TextListings.{vector-one}
-use Rattle.jobs.specs.AlternativesText.{RewritesText, refused, rewritten}
-use Rattle.jobs.proofs.AlternativesLaws.{text-unique}
+use Rattle.alternative_listings.specs.AlternativesText.{RewritesText, refused, rewritten}
+use Rattle.alternative_listings.proofs.AlternativesLaws.{text-unique}
 use Rattle.basics.specs.Refusing.{refusal}
 use Rattle.shut_out.specs.Reasons.{IsRefusal, Exactly}
 use Rattle.shut_out.proofs.Reasons.{exactly}

@@ -28,16 +28,17 @@ use Rattle.matching_calls.specs.Matching.{Counts}
 use Rattle.call_laws.proofs.Routes.{codes-never}
 use Rattle.figures.specs.Delivering.{lineOrder}
 use Rattle.tree_listings.specs.TreeTexts.{patternListing}
-use Rattle.row_listings.specs.Listings.{valueListing, listOrder}
+use Rattle.row_listings.specs.Listings.{listOrder}
+use Rattle.expression_listings.specs.TreeListings.{valueListing}
 use Rattle.row_listings.specs.Listings.{Lists, lists, refuses, ListsPattern, ListsValues}
 use Rattle.row_listings.proofs.TextListings.{vector-one, boolean-one}
 use Rattle.row_listings.proofs.ListingTheorems.{lists-unique}
 use Rattle.jobs.specs.Counting.{countOrder, CountsText}
 use Rattle.jobs.specs.Lines.{lineOf, TableLine}
-use Rattle.jobs.specs.Letters.{stateOf}
-use Rattle.jobs.specs.Correcting.{lettersOrder, CorrectsLetters}
+use Rattle.letter_corrections.specs.Letters.{stateOf}
+use Rattle.letter_corrections.specs.Correcting.{lettersOrder, CorrectsLetters}
 use Rattle.jobs.proofs.TextCounts.{counts-unique}
-use Rattle.jobs.proofs.LetterCorrections.{letters-unique}
+use Rattle.letter_corrections.proofs.LetterCorrections.{letters-unique}
 use Rattle.shut_out.specs.Reasons.{Exactly}
 use Rattle.shut_out.proofs.Reasons.{exactly, narrowed, comes-parts, None, both}
 use Rattle.shut_out.proofs.Refusing.{line}

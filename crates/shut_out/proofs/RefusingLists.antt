@@ -14,12 +14,12 @@ use Rattle.matching_calls.specs.declared.matching.Counting.the-variants as coun
 use Rattle.judging.specs.Orders.{Rows}
 use Rattle.basics.specs.Memory.{after}
 use Rattle.matching_calls.specs.Matching.{Finds, Counts}
-use Rattle.update_calls.specs.Pushing.{RowFits}
+use Rattle.queue_calls.specs.Pushing.{RowFits}
 use Rattle.call_laws.proofs.Routes.{row-passed, codes-passed}
-use Rattle.listed_calls.specs.Lists.{AcceptedAlternatives}
-use Rattle.listed_calls.specs.Fitting.{fitsOrder, ListedFits}
+use Rattle.listed_acceptance.specs.Lists.{AcceptedAlternatives}
+use Rattle.listed_acceptance.specs.Fitting.{fitsOrder, ListedFits}
 use Rattle.listed_calls.specs.Listed as listed
-use Rattle.listed_calls.proofs.Fitting.{listed-fits-unique}
+use Rattle.listed_acceptance.proofs.Fitting.{listed-fits-unique}
 use Rattle.demands.proofs.Demand1.{demand-1}
 use Rattle.shut_out.specs.Reasons.{IsRefusal, Exactly}
 use Rattle.shut_out.proofs.Reasons.{exactly, comes-parts, None, Two, both}

@@ -17,7 +17,7 @@ use Rattle.matching_calls.specs.declared.matching.Matching.{Matching}
 use Rattle.matching_calls.specs.declared.matching.Matching.the-variants as matching
 use Rattle.basics.specs.Memory.{after}
 use Rattle.update_calls.specs.Correcting.{correctionOrder, Correction}
-use Rattle.update_calls.specs.Pushing.{RowFits, Handed, pushOrder, Takes, Push}
+use Rattle.queue_calls.specs.Pushing.{RowFits, Handed, pushOrder, Takes, Push}
 use Rattle.call_laws.proofs.Routes.{codes-never, codes-passed}
 use Rattle.demands.proofs.Demand1.{demand-1}
 use Rattle.shut_out.specs.Reasons.{IsRefusal, Exactly}

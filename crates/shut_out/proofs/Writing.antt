@@ -21,11 +21,11 @@ use Rattle.trace_reader.specs.declared.Reading.the-variants as file
 use Rattle.trace_format.specs.Format.{Trace, fileOf}
 use Rattle.trace_reader.specs.Reading.{Reads}
 use Rattle.trace_laws.proofs.RoundTrips.{read-write}
-use Rattle.rewriting.specs.Calls.{Rewrites}
+use Rattle.rewriting_calls.specs.Calls.{Rewrites}
 use Rattle.queue.specs.declared.queues.Queue.{Queue}
 use Rattle.matching_calls.specs.declared.matching.Matching.the-variants as matching
 use Rattle.matching_calls.specs.Matching.{AllMatched}
-use Rattle.update_calls.specs.Pushing.{Push}
+use Rattle.queue_calls.specs.Pushing.{Push}
 use Rattle.update_calls.specs.Correcting.{Correction}
 use Rattle.tree_listings.specs.TreeTexts.{ListsTree}
 use Rattle.demands.proofs.Demand1.{demand-1}

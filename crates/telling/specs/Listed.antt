@@ -2,7 +2,7 @@
 use Prim.Native.Nat.{ℕ}
 use mathlib.Core.List.{List}
 use Rattle.queue.specs.declared.queues.Queue.{Queue}
-use Rattle.update_calls.specs.declared.pushing.Pushing.{Pushing}
+use Rattle.queue_calls.specs.declared.pushing.Pushing.{Pushing}
 use Rattle.listed_calls.specs.Listed.{ListedPush}
 
 -- what came of the push, refused or not, and the queue then

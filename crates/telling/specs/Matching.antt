@@ -10,8 +10,8 @@ use Rattle.matching_calls.specs.declared.matching.Matching.{Matching}
 use Rattle.matching_calls.specs.declared.matching.Matching.the-variants as the-match
 use Rattle.matching_calls.specs.declared.matching.Counting.{Counting}
 use Rattle.matching_calls.specs.declared.matching.Counting.the-variants as the-counts
-use Rattle.update_calls.specs.declared.pushing.Pushing.{Pushing}
-use Rattle.update_calls.specs.Pushing.{Push}
+use Rattle.queue_calls.specs.declared.pushing.Pushing.{Pushing}
+use Rattle.queue_calls.specs.Pushing.{Push}
 use Rattle.telling.specs.declared.Matched.{Matched}
 use Rattle.telling.specs.declared.Counted.{Counted}
 use Rattle.telling.specs.declared.Queue.{Queue}

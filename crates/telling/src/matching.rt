@@ -9,7 +9,7 @@ use alf::RowNo;
 use matcher::tables::number_of;
 use matching_calls::matching::Counting;
 use matching_calls::matching::Matching;
-use update_calls::pushing::Pushing;
+use queue_calls::pushing::Pushing;
 
 pub fn tell_match(o: Matching) -> Matched
     ensures { λ r. ⌜ r ≡ toldMatch o ⌝ }

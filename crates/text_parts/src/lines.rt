@@ -1,4 +1,5 @@
-// The lines of a text one after the other, each by where it starts, and a table of words, one a line.
+// The lines of a text one after the other, each by where it starts; a table of words, one a line; whether a line is
+// blank, and how much of it is kept.
 ghost use Prim.Native.Nat.{_≤_, _<_};
 ghost use lib.ListN.{length};
 use crate::parts::find;
@@ -31,4 +32,40 @@ pub fn line_of(text: &[u8], word: &[u8]) -> usize {
         i += 1;
     }
     i
+}
+
+fn is_space(b: u8) -> bool {
+    match b {
+        9 | 13 | 32 => true,
+        _ => false,
+    }
+}
+
+// Whether a line is blank.
+pub fn is_blank(text: &[u8]) -> bool {
+    let mut i: usize = 0;
+    while i < text.len() {
+        let b = text[i];
+        if !is_space(b) {
+            return false;
+        }
+        i += 1;
+    }
+    true
+}
+
+// How long a line is without the CR of a line end in two bytes, and at most as long as an argument can be: a longer one
+// is refused by its front.
+pub fn kept(text: &[u8]) -> usize {
+    let n = text.len();
+    if 65536 < n {
+        return 65536;
+    }
+    if n == 0 {
+        return 0;
+    }
+    if text[n - 1] == b'\r' {
+        return n - 1;
+    }
+    n
 }

@@ -1,14 +1,14 @@
 -- Outcomes are unique, and both ways round give back what was put in.
 --   reads-unique     any two outcomes of a reading coincide, and so does the memory
 --   writes-unique    likewise of a writing
---   checks-unique    likewise of the check of a trace in lists
---   trace-passes     a trace passes that check
+--   checks-unique, lists-unique    likewise of the check of a trace in lists, and of the lists alone
+--   rows-pass, lists-pass, trace-passes     a trace passes that check, in its parts and as a whole
 --   read-write       reading what was written gives the same names, times and states
 --   write-read       writing what was read gives the same bytes
 use mathlib.Core.Path.{_≡_, refl, sym, ap, _∙_}
 use mathlib.Core.List.{List}
 use mathlib.Core.Logic.{_⊎_, inl, inr}
-use Prim.Native.Nat.{ℕ, zero, suc, _-_, _*_, _<_, _≤_}
+use Prim.Native.Nat.{ℕ, zero, suc, _+_, _-_, _*_, _<_, _≤_}
 use native.Mathlib.Omega.{arith}
 use lib.ListN.{length}
 use Rattle.alf.specs.Names.{namesIn}
@@ -16,13 +16,13 @@ use Rattle.basics.specs.declared.Outcome.{Outcome}
 use Rattle.basics.specs.declared.Outcome.the-variants as Outcome
 use Rattle.alf.specs.Refusals.{Passed, Comes}
 use Rattle.basics.proofs.Refusals.{refusal-same}
-use Rattle.alf.proofs.Outcomes.{at-fixed, refused-passed, refused-unique, comes-unique}
+use Rattle.alf.proofs.Outcomes.{at-fixed, first-fixed, refused-passed, refused-unique, comes-unique}
 use Rattle.alf.proofs.Orders.{passed-both, fixed-both}
 use Rattle.trace_reader.specs.declared.Reading.{Reading}
 use Rattle.trace_reader.specs.declared.Reading.the-variants.{Read, Refused}
 use Rattle.trace_format.specs.Format.{fileOf, Trace}
 use Rattle.trace_reader.specs.Reading.{FileRefused, RoomRefused, roomOrder, Got, Reads}
-use Rattle.trace_writer.specs.Writing.{rowsOrder, listsOrder, writeOrder, Writes, BadState}
+use Rattle.trace_writer.specs.Writing.{lentOrder, rowsOrder, listsOrder, writeOrder, Writes, BadState}
 use Rattle.trace_writer.proofs.TraceChecks.{trace-fixed}
 use Rattle.basics.specs.Memory.{after, front}
 use Rattle.trace_format.proofs.RowByRow.{room-for}
@@ -90,6 +90,15 @@ pub checks-unique :
 checks-unique names times states n r s a b =
     comes-unique (listsOrder names times states n) _ (trace-fixed names times states n) (λ j k x y. x ∙ sym y) r s a b
 
+-- and of the check of the lists alone
+pub lists-unique :
+    (names times states : List ℕ) (n : ℕ) (r s : Outcome) →
+    Comes (lentOrder names times states n) (λ k. k ≡ namesIn names) r →
+    Comes (lentOrder names times states n) (λ k. k ≡ namesIn names) s →
+    r ≡ s
+lists-unique names times states n r s a b =
+    comes-unique (lentOrder names times states n) _ (at-fixed _ _, (first-fixed _, tt)) (λ j k x y. x ∙ sym y) r s a b
+
 pub record OneWriting (r : Outcome) (out : List ℕ) (r′ : Outcome) (out′ : List ℕ) : Type 0 where
   pub answer : r ≡ r′
   pub memory : out ≡ out′
@@ -113,34 +122,38 @@ module _ {names times states : List ℕ} {n : ℕ} {out : List ℕ} where
 
 -- a trace passes the checks of writing
 module _ {names times states : List ℕ} {n : ℕ} (t : Trace names times states n) where
-  rows-pass : (r : ℕ) → r ≤ n → Passed (rowsOrder (namesIn names) times states r)
+  pub rows-pass : (first r : ℕ) → first + r ≤ n → Passed (rowsOrder (namesIn names) times states first r)
   unfolding rowsOrder Passed
-  rows-pass zero h = tt
-  rows-pass (suc r) h =
-      passed-both (rowsOrder (namesIn names) times states r) _ (rows-pass r (omega arith)) (
+  rows-pass first zero h = tt
+  rows-pass first (suc j) h =
+      let inside : first + j < n = omega arith in
+      passed-both (rowsOrder (namesIn names) times states first j) _ (rows-pass first j (omega arith)) (
         (λ p a.
-            let l : 0 < r = a .given .0 in
-            let e : suc (r - 1) ≡ r = omega arith in
-            omega (arith, rw e at (t .rising (r - 1) (omega arith)), a .given .1)),
+            let l : 0 < first + j = a .given .0 in
+            let e : suc (first + j - 1) ≡ first + j = omega arith in
+            omega (arith, rw e at (t .rising (first + j - 1) (omega arith)), a .given .1)),
         (
           (λ p a.
-              let b : BadState (namesIn names) states r p = a .given in
+              let b : BadState (namesIn names) states (first + j) p = a .given in
               omega (
                 arith,
                 b .above,
                 t .codes p (omega
-                    (arith, b .to, room-for r n (namesIn names) h, t .lists .states-all)),
+                    (arith, b .to, room-for (first + j) n (namesIn names) inside, t .lists .states-all)),
               )),
           tt,
         ),
       )
 
-  pub trace-passes : Passed (listsOrder names times states n)
+  pub lists-pass : Passed (lentOrder names times states n)
   unfolding Passed
-  trace-passes = (
+  lists-pass = (
     (λ p a. a .given (record { slots = t .slots; lists = t .lists })),
-    ((λ p a. a .given .1 (t .good p (a .given .0))), rows-pass n (omega arith)),
+    ((λ p a. a .given .1 (t .good p (a .given .0))), tt),
   )
+
+  pub trace-passes : Passed (listsOrder names times states n)
+  trace-passes = passed-both (lentOrder names times states n) _ lists-pass (rows-pass 0 n (omega arith))
 
   pub writing-passes : {room : ℕ} → length (fileOf names times states n) ≤ room → Passed
       (writeOrder names times states n room)

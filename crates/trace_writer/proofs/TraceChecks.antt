@@ -1,14 +1,17 @@
 -- What the check of a trace in lists comes to: 18, 12, 13 or 15, or passed; and what is known of one that passes.
---   checked-18, checked-12, checked-rows   what `check_trace` returns
---   names-good, rows-lent                  lists that pass 18 and 12
---   trace-good, codes-good                 a trace that passes is good, and its codes are states
---   trace-fixed                            each row of the order fixes its place
-use mathlib.Core.Path.{_≡_, refl, _∙_}
+--   checked-18, checked-12, checked-rows   what `check_lists` and `check_trace` return
+--   comes-first, comes-then   refused by the first part of an order; past it
+--   names-good, rows-lent, lists-pass, some-rows          lists that pass 18 and 12
+--   trace-good, rows-good                                 a trace that passes is good, and its codes are states
+--   rows-fixed, trace-fixed                               each row of the order fixes its place
+--   rows-split                                            the rows' order, of the first ones and of those behind them
+use mathlib.Core.Path.{_≡_, refl, sym, _∙_}
 use mathlib.Core.Bool.{Bool, false}
-use mathlib.Core.List.{List}
+use mathlib.Core.List.{List, _++_, append-nil, append-assoc}
 use mathlib.Core.Logic.{_⊎_, inl, inr}
 use Prim.Native.Nat.{ℕ, zero, suc, _+_, _%_, _*_, _≤_, _<_}
 use native.Mathlib.Omega.{arith}
+use native.Mathlib.Nat.{add-zero, mul-le-mul-right}
 use lib.ListN.{length, getD}
 use Rattle.basics.specs.Deciding.{Decides}
 use Rattle.basics.proofs.Bools.{below?}
@@ -18,12 +21,13 @@ use Rattle.basics.specs.declared.Refusal.{Refusal}
 use Rattle.basics.specs.declared.Outcome.{Outcome}
 use Rattle.basics.specs.declared.Outcome.the-variants.{Done, Refused}
 use Rattle.alf.specs.Names.{namesIn, GoodSlot}
-use Rattle.alf.specs.Refusals.{bad-slot, At, RefusedWith, Passed, Comes}
-use Rattle.alf.proofs.Orders.{Is, none-first, passed-left, passed-right, fixed-both}
+use Rattle.alf.specs.Refusals.{Order, bad-slot, RefusedWith, Passed, Comes}
+use Rattle.alf.proofs.Orders.{Is, none-first, refused-first, refused-then, passed-both, passed-left, passed-right}
+use Rattle.alf.proofs.Orders.{fixed-both}
 use Rattle.alf.proofs.Outcomes.{AllFixed, at-fixed, first-fixed}
 use Rattle.names.specs.Check.{namesOrder}
-use Rattle.trace_writer.specs.Writing.{AllLists, BadState, rowsOrder, listsOrder}
-use Rattle.trace_writer.specs.Putting.{RowsLent, NamesGood, Good}
+use Rattle.trace_writer.specs.Writing.{AllLists, BadState, lentOrder, rowsOrder, listsOrder}
+use Rattle.trace_writer.specs.Putting.{RowsLent, SomeRows, NamesGood, Good}
 use Rattle.trace_writer.proofs.StableNames.{slot-stable}
 
 slots-good : (names : List ℕ) → ((p : ℕ) → bad-slot names p → ⊥) → (j : ℕ) → j < namesIn names → GoodSlot names j
@@ -35,31 +39,32 @@ pub checked-18 :
     Decides b (AllLists names times states n) →
     b ≡ false →
     Is o 18 0 →
-    Comes (listsOrder names times states n) made o
+    Comes (lentOrder names times states n) made o
 unfolding Comes RefusedWith
 checked-18 names times states n made t f e = rw e (inl (refl, record { given = not-told _ t f; there = refl }))
 
 module _ {names times states : List ℕ} {n : ℕ} where
-  module _ (all : AllLists names times states n) {o : Outcome}
-      (c : Comes (namesOrder names) (λ m. m ≡ namesIn names) o) where
-    -- a list of names that is refused is refused with 12
-    pub checked-12 : {r : Refusal} (made : ℕ → Type 0) → o ≡ Refused r
-        → Comes (listsOrder names times states n) made (Refused r)
-    unfolding Comes RefusedWith
-    checked-12 {r} made e = go (rw e at c)
-      where
-        go :
-            RefusedWith (namesOrder names) (r .number) (r .place) →
-            RefusedWith (listsOrder names times states n) (r .number) (r .place)
-        go (inl h) = absurd (h .1 .given (all .slots))
-        go (inr (h, inl i)) = inr ((λ p a. a .given all), inl i)
-        go (inr (h, inr i)) = absurd (i .1)
+  -- lists that fit: a list of names that is refused is refused with 12
+  pub checked-12 : AllLists names times states n → (o : Outcome) → Comes (namesOrder names) (λ m. m ≡ namesIn names) o
+      → Comes (lentOrder names times states n) (λ m. m ≡ namesIn names) o
+  unfolding Comes RefusedWith Passed
+  checked-12 all (Done k) c = (((λ p a. a .given all), (c .0 .1 .0, tt)), c .1)
+  checked-12 all (Refused r) (inl h) = absurd (h .1 .given (all .slots))
+  checked-12 all (Refused r) (inr (h, inl i)) = inr ((λ p a. a .given all), inl i)
+  checked-12 all (Refused r) (inr (h, inr i)) = absurd (i .1)
 
-    pub names-good : {k : ℕ} → o ≡ Done k → NamesGood names times states n k
-    unfolding Comes Passed
-    names-good {k} e =
-        let d : Comes (namesOrder names) (λ m. m ≡ namesIn names) (Done k) = rw e at c in
-        record { all = all; good = slots-good names (d .0 .1 .0); counted = d .1 }
+-- refused by the first part of an order, whatever is asked afterwards
+pub comes-first : (o rest : Order) (made made′ : ℕ → Type 0) {x : Outcome} {r : Refusal} → Comes o made x → x ≡ Refused r
+    → Comes (o ++ rest) made′ (Refused r)
+unfolding Comes
+comes-first o rest made made′ {r = r} c e = refused-first o rest (r .number) (r .place) (rw e at c)
+
+-- the first part is passed
+pub comes-then : (o rest : Order) (made : ℕ → Type 0) (x : Outcome) → Passed o → Comes rest made x
+    → Comes (o ++ rest) made x
+unfolding Comes
+comes-then o rest made (Done k) h c = (passed-both o rest h (c .0), c .1)
+comes-then o rest made (Refused r) h c = refused-then o rest (r .number) (r .place) h c
 
 -- the lists that pass 18 and 12
 module _ {names times states : List ℕ} {n k : ℕ} (g : NamesGood names times states n k) where
@@ -67,17 +72,21 @@ module _ {names times states : List ℕ} {n k : ℕ} (g : NamesGood names times 
   rows-lent =
       record { times-all = g .all .lists .times-all; states-all = rw (g .counted) (g .all .lists .states-all) }
 
-  no-18 : (p : ℕ) → At 0 (AllLists names times states n → ⊥) p → ⊥
-  no-18 p a = a .given (g .all)
+  pub lists-pass : Passed (lentOrder names times states n)
+  unfolding Passed
+  lists-pass = ((λ p a. a .given (g .all)), ((λ p a. a .given .1 (g .good p (a .given .0))), tt))
 
-  no-12 : (p : ℕ) → bad-slot names p → ⊥
-  no-12 p a = a .given .1 (g .good p (a .given .0))
+  -- some of the rows
+  pub some-rows : (first many : ℕ) → first + many ≤ n → SomeRows k times states first many
+  some-rows first many h =
+      record {
+        times-all = omega (arith, rows-lent .times-all);
+        states-all = rw (rows-lent .states-all) (mul-le-mul-right k h);
+      }
 
-  pub checked-rows : (o : Outcome) → Comes (rowsOrder k times states n) (λ m. m ≡ k) o
+  pub checked-rows : (o : Outcome) → Comes (rowsOrder k times states 0 n) (λ m. m ≡ k) o
       → Comes (listsOrder names times states n) (λ m. m ≡ namesIn names) o
-  unfolding Comes RefusedWith Passed
-  checked-rows (Done m) c = ((no-18, (no-12, rw (g .counted) at (c .0))), c .1 ∙ g .counted)
-  checked-rows (Refused r) c = inr (no-18, inr (no-12, rw (g .counted) at c))
+  checked-rows o c = comes-then (lentOrder names times states n) _ _ o lists-pass (rw (g .counted) at c)
 
 lists-stable : (names times states : List ℕ) (n : ℕ) → ((AllLists names times states n → ⊥) → ⊥)
     → AllLists names times states n
@@ -98,58 +107,76 @@ lists-stable names times states n h =
           };
     }
 
+passed-good : {names times states : List ℕ} {n k : ℕ} → Passed (lentOrder names times states n) → k ≡ namesIn names
+    → NamesGood names times states n k
+unfolding Passed
+passed-good {names} {times} {states} {n} p e =
+    record {
+      all = lists-stable names times states n (λ h. p .0 0 (record { given = h; there = refl }));
+      good = slots-good names (p .1 .0);
+      counted = e;
+    }
+
+pub names-good :
+    {names times states : List ℕ} {n k : ℕ} {o : Outcome} →
+    Comes (lentOrder names times states n) (λ m. m ≡ namesIn names) o →
+    o ≡ Done k →
+    NamesGood names times states n k
+unfolding Comes
+names-good {names} {times} {states} {n} {k} c e =
+    let d : Comes (lentOrder names times states n) (λ m. m ≡ namesIn names) (Done k) = rw e at c in
+    passed-good (d .0) (d .1)
+
 pub trace-good :
     {names times states : List ℕ} {n k : ℕ} {o : Outcome} →
     Comes (listsOrder names times states n) (λ m. m ≡ namesIn names) o →
     o ≡ Done k →
     Good names times states n k
-unfolding Comes Passed
+unfolding Comes
 trace-good {names} {times} {states} {n} {k} c e =
     let d : Comes (listsOrder names times states n) (λ m. m ≡ namesIn names) (Done k) = rw e at c in
-    record {
-      named =
-          record {
-            all =
-                lists-stable names times states n (λ h. d .0 .0 0 (record { given = h; there = refl }));
-            good = slots-good names (d .0 .1 .0);
-            counted = d .1;
-          };
-      passed = d .0;
-    }
+    record { named = passed-good (passed-left (lentOrder names times states n) _ (d .0)) (d .1); passed = d .0 }
 
 -- rows that pass have states alone for codes
-module _ (k : ℕ) (times states : List ℕ) where
-  last-good : (r i : ℕ) → Passed (rowsOrder k times states (suc r)) → i < k → getD states (r * k + i) 0 ≤ 7
+module _ (k : ℕ) (times states : List ℕ) (first : ℕ) where
+  last-good : (r i : ℕ) → Passed (rowsOrder k times states first (suc r)) → i < k
+      → getD states ((first + r) * k + i) 0 ≤ 7
   unfolding Passed rowsOrder
   last-good r i h l =
-      let p = passed-right (rowsOrder k times states r) _ h in
+      let p = passed-right (rowsOrder k times states first r) _ h in
       le-stable _ 7
       (λ b.
-      none-first (BadState k states r) (p .1 .0) (r * k + i)
+      none-first (BadState k states (first + r)) (p .1 .0) ((first + r) * k + i)
       (record { from = omega arith; to = omega arith; above = omega (arith, b) }))
 
-  rows-good : (n r i : ℕ) → Passed (rowsOrder k times states n) → r < n → i < k
-      → getD states (r * k + i) 0 ≤ 7
+  pub rows-good : (n r i : ℕ) → Passed (rowsOrder k times states first n) → r < n → i < k
+      → getD states ((first + r) * k + i) 0 ≤ 7
   unfolding rowsOrder
   rows-good zero r i h l m = absurd (omega arith)
-  rows-good (suc n) r i h l m = go (below? r n) (rows-good n r i (passed-left (rowsOrder k times states n) _ h))
+  rows-good (suc n) r i h l m =
+      go (below? r n) (rows-good n r i (passed-left (rowsOrder k times states first n) _ h))
     where
-      go : (r < n) ⊎ (n ≤ r) → (r < n → i < k → getD states (r * k + i) 0 ≤ 7) → getD states (r * k + i) 0 ≤ 7
+      go : (r < n) ⊎ (n ≤ r) → (r < n → i < k → getD states ((first + r) * k + i) 0 ≤ 7)
+          → getD states ((first + r) * k + i) 0 ≤ 7
       go (inl b) ih = ih b m
       go (inr b) ih = let e : r ≡ n = omega arith in rw e (last-good n i h m)
 
-pub codes-good : {names times states : List ℕ} {n k : ℕ} → Good names times states n k → (r i : ℕ) → r < n
-    → i < k
-    → getD states (r * k + i) 0 ≤ 7
-unfolding Passed
-codes-good {names} {times} {states} {n} {k} g r i =
-    rows-good k times states n r i (rw (g .named .counted) (g .passed .1 .1))
-
-rows-fixed : (k : ℕ) (times states : List ℕ) (n : ℕ) → AllFixed (rowsOrder k times states n)
-unfolding rowsOrder
-rows-fixed k times states zero = tt
-rows-fixed k times states (suc n) =
-    fixed-both (rowsOrder k times states n) _ (rows-fixed k times states n) (at-fixed _ _, (first-fixed _, tt))
+  pub rows-fixed : (n : ℕ) → AllFixed (rowsOrder k times states first n)
+  unfolding rowsOrder
+  rows-fixed zero = tt
+  rows-fixed (suc n) =
+      fixed-both (rowsOrder k times states first n) _ (rows-fixed n) (at-fixed _ _, (first-fixed _, tt))
 
 pub trace-fixed : (names times states : List ℕ) (n : ℕ) → AllFixed (listsOrder names times states n)
-trace-fixed names times states n = (at-fixed _ _, (first-fixed _, rows-fixed (namesIn names) times states n))
+trace-fixed names times states n = (at-fixed _ _, (first-fixed _, rows-fixed (namesIn names) times states 0 n))
+
+-- rows checked one after the other: the first ones, then those behind them
+pub rows-split : (k : ℕ) (times states : List ℕ) (first a b : ℕ)
+    → rowsOrder k times states first (a + b)
+    ≡ rowsOrder k times states first a ++ rowsOrder k times states (first + a) b
+unfolding rowsOrder
+rows-split k times states first a zero = rw add-zero (sym (append-nil _))
+rows-split k times states first a (suc b) =
+    let e : a + suc b ≡ suc (a + b) = omega arith in
+    let f : first + (a + b) ≡ first + a + b = omega arith in
+    rw (e, f, rows-split k times states first a b, append-assoc) refl

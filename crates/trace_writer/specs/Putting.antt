@@ -1,6 +1,6 @@
 -- What the steps of writing need and hand on: lists of the right lengths, and room.
 --   NameFits, SlotsFit, RowsFit    room for the record of a name, of k names, of n rows
---   SlotsLent, RowsLent            lists of k slots, of n rows
+--   SlotsLent, RowsLent, SomeRows  lists of k slots, of n rows; some of the rows
 --   Later                          the time of a row is above the last row's
 --   NamesSize                      how many bytes the records of k names have
 --   NamesGood, Good                lists that pass 18 and 12; 13 and 15 too
@@ -26,6 +26,11 @@ Later times r = 0 < r → getD times (r - 1) 0 < getD times r 0
 pub record RowsLent (k : ℕ) (times states : List ℕ) (n : ℕ) : Type 0 where
   pub times-all : length times ≡ n
   pub states-all : length states ≡ n * k
+
+-- so many of the rows from one on are rows of the trace
+pub record SomeRows (k : ℕ) (times states : List ℕ) (first many : ℕ) : Type 0 where
+  pub times-all : first + many ≤ length times
+  pub states-all : (first + many) * k ≤ length states
 
 -- k slots, no more than 32
 pub record SlotsLent (names : List ℕ) (k : ℕ) : Type 0 where

@@ -1,7 +1,8 @@
 -- Document 01, "Trace writing: 18, 12, then 13 and 15 row by row, 9", and what writing leaves in memory.
 --   AllLists, BadState      what 18 and 15 look at
---   rowsOrder, listsOrder   the order of the rows, and of a trace in lists, whatever is made of it
---   ChecksTrace             what the check of a trace in lists comes to
+--   lentOrder, rowsOrder    the order of the lists as they are lent, and of some of the rows
+--   listsOrder              the order of a trace in lists, whatever is made of it
+--   ChecksLists, ChecksTrace   what the checks of the lists, and of a trace in lists, come to
 --   writeOrder              the order of the whole call
 --   Writes                  what the call comes to, and the buffer afterwards
 use Prim.Native.Nat.{ℕ, zero, suc, _+_, _-_, _*_, _<_, _≤_}
@@ -26,21 +27,27 @@ pub record BadState (k : ℕ) (states : List ℕ) (r i : ℕ) : Type 0 where
   pub to : i < r * k + k
   pub above : 7 < getD states i 0
 
--- 13 and 15 row by row, of the first r rows
-unfoldable pub rowsOrder : ℕ → List ℕ → List ℕ → ℕ → Order
-rowsOrder k times states zero = []
-rowsOrder k times states (suc r) =
-    rowsOrder k times states r
-    ++ (check 13 (not-above times r) ∷ check 15 (First (BadState k states r)) ∷ [])
+-- 18, 12
+abbrev pub lentOrder : List ℕ → List ℕ → List ℕ → ℕ → Order
+lentOrder names times states n =
+    check 18 (bad-lists (AllLists names times states n)) ∷ check 12 (bad-slot names) ∷ []
+
+-- 13 and 15 row by row, of r rows from row `first` on
+unfoldable pub rowsOrder : ℕ → List ℕ → List ℕ → ℕ → ℕ → Order
+rowsOrder k times states first zero = []
+rowsOrder k times states first (suc r) =
+    rowsOrder k times states first r
+    ++ (check 13 (not-above times (first + r)) ∷ check 15 (First (BadState k states (first + r))) ∷ [])
 
 -- 18, 12, then 13 and 15 row by row: what every call asks first that is handed a trace in lists
 abbrev pub listsOrder : List ℕ → List ℕ → List ℕ → ℕ → Order
 listsOrder names times states n =
-    check 18 (bad-lists (AllLists names times states n))
-    ∷ check 12 (bad-slot names)
-    ∷ rowsOrder (namesIn names) times states n
+    lentOrder names times states n ++ rowsOrder (namesIn names) times states 0 n
 
--- what the check of a trace in lists comes to: how many names
+-- what the checks of the lists, and of a trace in lists, come to: how many names
+abbrev pub ChecksLists : List ℕ → List ℕ → List ℕ → ℕ → Outcome → Type 0
+ChecksLists names times states n = Comes (lentOrder names times states n) (λ k. k ≡ namesIn names)
+
 abbrev pub ChecksTrace : List ℕ → List ℕ → List ℕ → ℕ → Outcome → Type 0
 ChecksTrace names times states n = Comes (listsOrder names times states n) (λ k. k ≡ namesIn names)
 

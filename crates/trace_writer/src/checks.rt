@@ -4,8 +4,8 @@ ghost use Prim.Native.Nat.{_<_};
 ghost use lib.ListN.{length};
 ghost use Rattle.alf.specs.Refusals.{Comes};
 ghost use Rattle.basics.specs.Deciding.{Decides};
-ghost use Rattle.trace_writer.specs.Writing.{AllLists, rowsOrder, ChecksTrace};
-ghost use Rattle.trace_writer.specs.Putting.{Later, RowsLent};
+ghost use Rattle.trace_writer.specs.Writing.{AllLists, rowsOrder, ChecksLists, ChecksTrace};
+ghost use Rattle.trace_writer.specs.Putting.{Later, SomeRows};
 use basics::Outcome;
 use basics::refusing::refuse;
 use names::check_names;
@@ -54,14 +54,15 @@ fn is_later(times: &[u32], r: usize) -> bool
     false
 }
 
-// The rows of k codes, one by one: 13, then 15; done, k.
-fn check_rows(k: usize, times: &[u32], states: &[u8], n: usize) -> Outcome
-    requires { ⌜ RowsLent k (now times) (now states) n ⌝ }
-    ensures { λ r. ⌜ Comes (rowsOrder k (now (times .entry)) (now (states .entry)) n) (λ m. m ≡ k) r ⌝ }
+// Some of the rows of k codes, from row `first` on, one by one: 13, then 15; done, k.
+pub fn check_rows(k: usize, times: &[u32], states: &[u8], first: usize, many: usize) -> Outcome
+    requires { ⌜ SomeRows k (now times) (now states) first many ⌝ }
+    ensures { λ r. ⌜ Comes (rowsOrder k (now (times .entry)) (now (states .entry)) first many) (λ m. m ≡ k) r ⌝ }
 {
-    let mut from = 0;
-    let mut r = 0;
-    while r < n {
+    let mut from = first * k;
+    let mut i = 0;
+    while i < many {
+        let r = first + i;
         if !is_later(times, r) {
             return refuse(13, r);
         }
@@ -71,20 +72,27 @@ fn check_rows(k: usize, times: &[u32], states: &[u8], n: usize) -> Outcome
             return refuse(15, bad);
         }
         from = to;
-        r += 1;
+        i += 1;
     }
     Outcome::Done(k)
+}
+
+// The lists as they are lent: 18, 12; done, how many names.
+pub fn check_lists(names: &[u8], times: &[u32], states: &[u8], n: usize) -> Outcome
+    ensures { λ r. ⌜ ChecksLists (now (names .entry)) (now (times .entry)) (now (states .entry)) n r ⌝ }
+{
+    if !lists_fit(names, times, states, n) {
+        return refuse(18, 0);
+    }
+    check_names(names)
 }
 
 // A trace in lists: names in slots, n times, and states row by row; done, how many names.
 pub fn check_trace(names: &[u8], times: &[u32], states: &[u8], n: usize) -> Outcome
     ensures { λ r. ⌜ ChecksTrace (now (names .entry)) (now (times .entry)) (now (states .entry)) n r ⌝ }
 {
-    if !lists_fit(names, times, states, n) {
-        return refuse(18, 0);
-    }
-    match check_names(names) {
+    match check_lists(names, times, states, n) {
         Outcome::Refused(r) => Outcome::Refused(r),
-        Outcome::Done(k) => check_rows(k, times, states, n),
+        Outcome::Done(k) => check_rows(k, times, states, 0, n),
     }
 }

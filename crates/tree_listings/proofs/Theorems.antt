@@ -19,7 +19,7 @@ use Rattle.alf.proofs.Outcomes.{AllFixed, at-fixed, first-fixed, comes-unique}
 use Rattle.matching_calls.specs.Matching.{expression}
 use Rattle.listing.specs.declared.lines.Column.the-variants.{Answers}
 use Rattle.listing.specs.Listing.{lines, lastLine, listing}
-use Rattle.listing.proofs.Theorems.{listed-totals}
+use Rattle.column_listings.proofs.Theorems.{listed-totals}
 use Rattle.tree_listings.specs.TreeTexts.{patternListing, totalsLine, textOrder, ListsTree, LinesTree}
 
 -- an outcome by such an order is one

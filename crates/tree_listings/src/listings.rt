@@ -8,10 +8,10 @@ ghost use Rattle.matching_calls.specs.Matching.{expression, answersOn};
 ghost use Rattle.tree_listings.specs.TreeTexts.{patternListing, ListsTree, Answered, Filling, Holding};
 use alf::Sort;
 use basics::Outcome;
+use column_listings::listings::write_listing;
 use correction::corrections::rewrite;
 use judging::checks::Verdict;
 use judging::checks::check_rows;
-use listing::listings::write_listing;
 use rewriting::lists::alternatives_of;
 
 // The answers of an accepted tree at n rows, into a list of n.

@@ -1,4 +1,3 @@
--- The laws of corrections and pushes for trees.
+-- The laws of corrections for trees.
 pub mod ByAlternatives
 pub mod Corrects
-pub mod Pushes

@@ -1,3 +1,2 @@
--- The definitions of this crate.
+-- What the correction of a row comes to, for a tree.
 pub mod Correcting
-pub mod Pushing

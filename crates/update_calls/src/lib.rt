@@ -1,3 +1,2 @@
-// The calls that correct a row or push one.
+// The call that corrects a row.
 pub mod correcting;
-pub mod pushing;

@@ -1,7 +1,7 @@
 -- `read_all` reads an expression and sees that nothing is left.
 use borrow.Author.Needs.{needs}
 use mathlib.Core.Path.{refl}
-use Rattle.parser.specs.Inner.{view}
+use Rattle.parser_steps.specs.Inner.{view}
 use Rattle.parser.proofs.LastState.{finished-end, finished-more}
 use Rattle.parser.proofs.read_all.Statement.{statement}
 use Rattle.parser.proofs.read_all.Tie as tie

@@ -1,15 +1,14 @@
 -- `activity` meets its contract.
 use borrow.Author.Needs.{needs}
-use Rattle.trace_writer.specs.Putting.{Good}
 use Rattle.trace_writer.proofs.TraceChecks.{trace-good}
-use Rattle.activity.proofs.WholeText.{tells-refused, tells-delivered}
+use Rattle.activity.proofs.WholeText.{whole-good, tells-refused, tells-delivered}
 use Rattle.activity.proofs.texts.activity.Statement.{statement}
 use Rattle.activity.proofs.texts.activity.Tie as tie
 
-write-activity-requires : tie.Need-write-activity-requires
-write-activity-requires c κs =
+write-part-requires : tie.Need-write-part-requires
+write-part-requires c κs =
     let passed = c .before .before in
-    trace-good (passed .before .before .check-trace .ensures) (passed .k .given .1)
+    whole-good (trace-good (passed .before .before .check-trace .ensures) (passed .k .given .1))
 
 returns : tie.Need-returns
 returns c =
@@ -21,7 +20,7 @@ returns-2 c =
     let told = c .before .before in
     let passed = told .before .before .before in
     tells-delivered (trace-good (passed .before .before .check-trace .ensures) (passed .k .given .1))
-    (told .write-activity .ensures)
+    (told .write-part .ensures)
 
 pub activity-spec : {M : Type 1} → statement M
 activity-spec =
@@ -30,7 +29,7 @@ activity-spec =
     (λ c κs. search needs)  -- check-trace-requires
     (λ c. search needs)  -- enum-known-r
     (λ c. search needs)  -- enum-known-k
-    write-activity-requires
+    write-part-requires
     returns
     (λ c. search needs)  -- same-length
     returns-2)

@@ -4,8 +4,9 @@ use Prim.Native.Nat.{ℕ}
 use mathlib.Core.List.{List, [], _∷_}
 use Rattle.basics.proofs.PartByPart.{Going, going-room, going-on, going-end}
 use Rattle.basics.specs.Text.{bytes}
-use Rattle.activity.specs.Activity.{members, headLine}
-use Rattle.activity.specs.Inner.{marked}
+use Rattle.row_lines.specs.Lines.{members}
+use Rattle.activity.specs.Activity.{headLine}
+use Rattle.row_lines.specs.Inner.{marked}
 use Rattle.activity.proofs.WholeText.{head-start}
 use Rattle.activity.proofs.texts.put_head.Statement.{statement}
 use Rattle.activity.proofs.texts.put_head.Tie as tie

@@ -1,7 +1,7 @@
 -- `listed::queue_good` meets its contract.
 use native.Mathlib.Omega.{arith}
 use Rattle.basics.proofs.Deciding.{said, decided-no, told}
-use Rattle.listed_calls.proofs.Acceptance.{accepted-short}
+use Rattle.listed_acceptance.proofs.Acceptance.{accepted-short}
 use Rattle.listed_calls.proofs.Calls.{queue-many, queue-lists, longest-here, queue-kept}
 use borrow.Author.Needs.{needs}
 use Rattle.listed_calls.proofs.listed.queue_good.Statement.{statement}

@@ -1,6 +1,6 @@
 -- `written::row_answer` meets its contract.
 use borrow.Author.Needs.{needs}
-use Rattle.row_calls.proofs.AsWritten.{row-there, vector-ends, answer-refused, answer-told}
+use Rattle.row_calls.proofs.AsWritten.{row-there, pattern-there, answer-refused, answer-told}
 use Rattle.row_calls.proofs.written.row_answer.Statement.{statement}
 use Rattle.row_calls.proofs.written.row_answer.Tie as tie
 
@@ -11,7 +11,7 @@ row-answer-requires : tie.Need-row-answer-requires
 row-answer-requires c κs =
     let k = c .before .before .check-row .ensures in
     let g = c .enum-told .given .1 in
-    (vector-ends k g, row-there k g)
+    (pattern-there k g, row-there k g)
 
 returns : tie.Need-returns
 returns c = answer-refused (c .before .before .before .check-row .ensures) (c .before .v .given .1)

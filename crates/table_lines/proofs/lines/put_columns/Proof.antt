@@ -73,9 +73,6 @@ at-noes c =
     let earlier = c .before .before .before .before .before in
     going-on (going-two (at-unknowns earlier)) (c .put-decimal-then2 .ensures)
 
-slice-aggregate-put-decimal-then : tie.Need-slice-aggregate-put-decimal-then
-slice-aggregate-put-decimal-then c = search needs
-
 put-decimal-then-requires : tie.Need-put-decimal-then-requires
 unfolding bytes
 put-decimal-then-requires c κs = going-room (going-two (begun (c .before .before .before)))
@@ -87,26 +84,17 @@ push-requires : tie.Need-push-requires
 unfolding bytes
 push-requires c κs = going-byte (at-tab (c .before .before .before))
 
-slice-aggregate-put-decimal-then-2 : tie.Need-slice-aggregate-put-decimal-then-2
-slice-aggregate-put-decimal-then-2 c = search needs
-
 put-decimal-then-requires-2 : tie.Need-put-decimal-then-requires-2
 unfolding bytes
 put-decimal-then-requires-2 c κs =
     let earlier = c .before .before .before .before in
     going-room (going-two (at-unknowns earlier))
 
-slice-aggregate-put-decimal-then-3 : tie.Need-slice-aggregate-put-decimal-then-3
-slice-aggregate-put-decimal-then-3 c = search needs
-
 put-decimal-then-requires-3 : tie.Need-put-decimal-then-requires-3
 unfolding bytes
 put-decimal-then-requires-3 c κs =
     let earlier = c .before .before .before .before in
     going-room (going-two (at-noes earlier))
-
-same-length : tie.Need-same-length
-same-length c = search needs
 
 returns : tie.Need-returns
 unfolding bytes
@@ -120,13 +108,13 @@ pub put-columns-spec : {M : Type 1} → statement M
 put-columns-spec =
     tie.close
     (tie.spec
-    slice-aggregate-put-decimal-then
+    (λ c. search needs)  -- slice-aggregate-put-decimal-then
     put-decimal-then-requires
     put-share-requires
     push-requires
-    slice-aggregate-put-decimal-then-2
+    (λ c. search needs)  -- slice-aggregate-put-decimal-then-2
     put-decimal-then-requires-2
-    slice-aggregate-put-decimal-then-3
+    (λ c. search needs)  -- slice-aggregate-put-decimal-then-3
     put-decimal-then-requires-3
-    same-length
+    (λ c. search needs)  -- same-length
     returns)

@@ -43,15 +43,9 @@ at-place c =
     let earlier = c .before .before .before .before .before in
     going-on (going-two (at-number earlier)) (c .put-decimal-then .ensures)
 
-slice-aggregate-put : tie.Need-slice-aggregate-put
-slice-aggregate-put c = search needs
-
 put-requires : tie.Need-put-requires
 unfolding bytes
 put-requires c κs = going-room (begun (c .before .before .before))
-
-slice-aggregate-put-decimal-then : tie.Need-slice-aggregate-put-decimal-then
-slice-aggregate-put-decimal-then c = search needs
 
 put-decimal-then-requires : tie.Need-put-decimal-then-requires
 unfolding bytes
@@ -59,17 +53,11 @@ put-decimal-then-requires c κs =
     let earlier = c .before .before .before .before in
     going-room (going-two (at-number earlier))
 
-slice-aggregate-put-decimal-then-2 : tie.Need-slice-aggregate-put-decimal-then-2
-slice-aggregate-put-decimal-then-2 c = search needs
-
 put-decimal-then-requires-2 : tie.Need-put-decimal-then-requires-2
 unfolding bytes
 put-decimal-then-requires-2 c κs =
     let earlier = c .before .before .before .before in
     going-room (going-two (at-place earlier))
-
-same-length : tie.Need-same-length
-same-length c = search needs
 
 returns : tie.Need-returns
 unfolding bytes
@@ -83,11 +71,11 @@ pub put-refused-spec : {M : Type 1} → statement M
 put-refused-spec =
     tie.close
     (tie.spec
-    slice-aggregate-put
+    (λ c. search needs)  -- slice-aggregate-put
     put-requires
-    slice-aggregate-put-decimal-then
+    (λ c. search needs)  -- slice-aggregate-put-decimal-then
     put-decimal-then-requires
-    slice-aggregate-put-decimal-then-2
+    (λ c. search needs)  -- slice-aggregate-put-decimal-then-2
     put-decimal-then-requires-2
-    same-length
+    (λ c. search needs)  -- same-length
     returns)

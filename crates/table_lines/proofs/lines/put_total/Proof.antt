@@ -79,15 +79,9 @@ at-events c =
     let earlier = c .before .before .before .before .before in
     going-on (going-two (at-patterns earlier)) (c .put-decimal-then4 .ensures)
 
-slice-aggregate-put-decimal-then : tie.Need-slice-aggregate-put-decimal-then
-slice-aggregate-put-decimal-then c = search needs
-
 put-decimal-then-requires : tie.Need-put-decimal-then-requires
 unfolding bytes
 put-decimal-then-requires c κs = going-room (going-two (begun (c .before .before .before)))
-
-slice-aggregate-put-decimal-then-2 : tie.Need-slice-aggregate-put-decimal-then-2
-slice-aggregate-put-decimal-then-2 c = search needs
 
 put-decimal-then-requires-2 : tie.Need-put-decimal-then-requires-2
 unfolding bytes
@@ -95,17 +89,11 @@ put-decimal-then-requires-2 c κs =
     let earlier = c .before .before .before .before in
     going-room (going-two (at-unknowns earlier))
 
-slice-aggregate-put-decimal-then-3 : tie.Need-slice-aggregate-put-decimal-then-3
-slice-aggregate-put-decimal-then-3 c = search needs
-
 put-decimal-then-requires-3 : tie.Need-put-decimal-then-requires-3
 unfolding bytes
 put-decimal-then-requires-3 c κs =
     let earlier = c .before .before .before .before in
     going-room (going-two (at-noes earlier))
-
-slice-aggregate-put-decimal-then-4 : tie.Need-slice-aggregate-put-decimal-then-4
-slice-aggregate-put-decimal-then-4 c = search needs
 
 put-decimal-then-requires-4 : tie.Need-put-decimal-then-requires-4
 unfolding bytes
@@ -115,9 +103,6 @@ put-decimal-then-requires-4 c κs =
 
 put-decimal-requires : tie.Need-put-decimal-requires
 put-decimal-requires c κs = going-room (at-events (c .before .before .before))
-
-same-length : tie.Need-same-length
-same-length c = search needs
 
 returns : tie.Need-returns
 returns c =
@@ -129,14 +114,14 @@ pub put-total-spec : {M : Type 1} → statement M
 put-total-spec =
     tie.close
     (tie.spec
-    slice-aggregate-put-decimal-then
+    (λ c. search needs)  -- slice-aggregate-put-decimal-then
     put-decimal-then-requires
-    slice-aggregate-put-decimal-then-2
+    (λ c. search needs)  -- slice-aggregate-put-decimal-then-2
     put-decimal-then-requires-2
-    slice-aggregate-put-decimal-then-3
+    (λ c. search needs)  -- slice-aggregate-put-decimal-then-3
     put-decimal-then-requires-3
-    slice-aggregate-put-decimal-then-4
+    (λ c. search needs)  -- slice-aggregate-put-decimal-then-4
     put-decimal-then-requires-4
     put-decimal-requires
-    same-length
+    (λ c. search needs)  -- same-length
     returns)

@@ -2,30 +2,49 @@
 use native.Mathlib.Omega.{arith}
 use borrow.Author.Needs.{needs}
 use borrow.Author.Tests.{not-true, not-false}
-use mathlib.Core.Path.{_≡_, sym}
-use Prim.Native.Nat.{_-_, _*_, _≤_}
-use native.Mathlib.Nat.{zero-mul}
+use mathlib.Core.Path.{_≡_, refl}
+use Prim.Native.Nat.{_+_, _-_, _*_, _<_, _≤_}
+use native.Mathlib.Nat.{add-zero, mul-le-mul-right}
+use lib.ListN.{length}
 use Rattle.alf.specs.Refusals.{Passed}
 use Rattle.trace_writer.specs.Writing.{rowsOrder}
-use Rattle.trace_format.proofs.RowByRow.{next-to, room-for}
+use Rattle.trace_format.proofs.RowByRow.{room-for}
 use Rattle.trace_writer.proofs.RowOrders.{row-late, row-bad, row-passes, rows-none, rows-passed}
+use Rattle.trace_writer.proofs.RowOrders.{next-place}
 use Rattle.trace_writer.proofs.checks.check_rows.Statement.{statement}
 use Rattle.trace_writer.proofs.checks.check_rows.Tie as tie
 
 abbrev Inv-loop : tie.InvT-loop
-Inv-loop k times states n from₀ r₀ from r = (r ≤ n) × (from ≡ r * k) × Passed (rowsOrder k times states r)
+Inv-loop k times states first many from₀ i₀ from i =
+    (i ≤ many) × (from ≡ (first + i) * k) × Passed (rowsOrder k times states first i)
 
 abbrev μ-loop : tie.MeasureT-loop
-μ-loop k times states n from₀ r₀ from r = n - r
+μ-loop k times states first many from₀ i₀ from i = many - i
 
 loop-holds : tie.Need-loop-holds Inv-loop μ-loop
 loop-holds c =
-    (search needs, sym (zero-mul _), rows-none _ _ _)
+    (search needs, rw add-zero refl, rows-none _ _ _ _)
+
+abbrev entry : tie.At-loop Inv-loop μ-loop → tie.Start Inv-loop μ-loop
+entry c = c .before .before .before
+
+mul-from : tie.Need-mul-from Inv-loop μ-loop
+mul-from c =
+    let start = c .before .before in
+    let fits : start .args .first ≤ start .args .first + start .args .many = omega arith in
+    omega (arith, mul-le-mul-right (start .args .k) fits, start .pre .states-all)
 
 is-later-requires : tie.Need-is-later-requires Inv-loop μ-loop
-is-later-requires c κs =
-    let start = c .before .before .before .before in
-    omega (arith, start .pre .times-all)
+is-later-requires c κs = omega (arith, c .loop-test .taken, entry (c .before) .pre .times-all)
+
+-- the codes of the row are there
+codes-there : (c : tie.In-loop Inv-loop μ-loop)
+    → c .before .loop .from + entry (c .before) .args .k ≤ length (entry (c .before) .args .states .now)
+codes-there c =
+    let start = entry (c .before) in
+    let inside : start .args .first + c .before .loop .i < start .args .first + start .args .many =
+    omega (arith, c .loop-test .taken) in
+    omega (arith, room-for _ _ (start .args .k) inside, c .before .loop .inv .1, start .pre .states-all)
 
 returns : tie.Need-returns Inv-loop μ-loop
 returns c =
@@ -33,37 +52,15 @@ returns c =
     let after-is-later = after-if1 .before in
     let entered = after-is-later .before in
     let turn = entered .before in
-    row-late _ _ _ _ (entered .loop-test .taken) (turn .loop .inv .2)
+    row-late _ _ _ _ _ (entered .loop-test .taken) (turn .loop .inv .2)
     (after-is-later .is-later .ensures) (c .refuse .ensures)
     (not-true _ (after-if1 .if1 .taken))
 
 add-to : tie.Need-add-to Inv-loop μ-loop
-add-to c =
-    let entered = c .before .before in
-    let turn = entered .before in
-    let start = turn .before .before .before in
-    omega (
-      arith,
-      room-for _ _ (start .args .k)
-          (entered .loop-test .taken),
-      turn .loop .inv .1,
-      start .pre .states-all,
-    )
+add-to c = omega (arith, codes-there (c .before .before))
 
 codes-to-requires : tie.Need-codes-to-requires Inv-loop μ-loop
-codes-to-requires c κs =
-    let entered = c .before .before in
-    let turn = entered .before in
-    let start = turn .before .before .before in (
-      search needs,
-      omega (
-        arith,
-        room-for _ _ (start .args .k)
-            (entered .loop-test .taken),
-        turn .loop .inv .1,
-        start .pre .states-all,
-      ),
-    )
+codes-to-requires c κs = (search needs, codes-there (c .before .before))
 
 returns-2 : tie.Need-returns-2 Inv-loop μ-loop
 returns-2 c =
@@ -73,7 +70,7 @@ returns-2 c =
     let after-is-later = after-if1 .before in
     let entered = after-is-later .before in
     let turn = entered .before in
-    row-bad _ _ _ _ (entered .loop-test .taken)
+    row-bad _ _ _ _ _ (entered .loop-test .taken)
     (turn .loop .inv .2)
     (after-is-later .is-later .ensures)
     (not-false _ (after-if1 .if1 .left))
@@ -89,8 +86,8 @@ loop-again c =
     let entered = after-is-later .before in
     let turn = entered .before in (
       search needs,
-      rw (turn .loop .inv .1) (next-to _ _),
-      row-passes _ _ _ (λ m. m ≡ m) (entered .loop-test .taken)
+      next-place _ _ _ (turn .loop .inv .1),
+      row-passes _ _ _ _ (λ m. m ≡ m) (entered .loop-test .taken)
           (turn .loop .inv .2) (after-is-later .is-later .ensures)
           (not-false _ (after-if1 .if1 .left)) (turn .loop .inv .1)
           (after-codes-to .codes-to .ensures) (c .if2 .left),
@@ -98,7 +95,7 @@ loop-again c =
 
 returns-3 : tie.Need-returns-3 Inv-loop μ-loop
 returns-3 c =
-    rows-passed _ _ _ (omega arith) (c .before .loop .inv .2)
+    rows-passed _ _ _ _ (omega arith) (c .before .loop .inv .2)
 
 pub check-rows-spec : {M : Type 1} → statement M
 check-rows-spec =
@@ -106,7 +103,9 @@ check-rows-spec =
     (tie.spec
     Inv-loop
     μ-loop
+    mul-from
     loop-holds
+    (λ c. omega (arith, c .loop-test .taken, entry (c .before) .pre .times-all))  -- add-r
     is-later-requires
     (λ c κs. search needs)  -- refuse-requires
     returns
@@ -114,7 +113,7 @@ check-rows-spec =
     codes-to-requires
     (λ c κs. search needs)  -- refuse-requires-2
     returns-2
-    (λ c. search needs)  -- add-r
+    (λ c. search needs)  -- add-i
     (λ c. search needs)  -- loop-less
     loop-again
     returns-3)

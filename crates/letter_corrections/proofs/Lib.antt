@@ -1,0 +1,5 @@
+-- The laws of letters and of row numbers.
+pub mod LetterCodes
+pub mod LetterCorrections
+pub mod Decimals
+pub mod LetterExamples

@@ -1,0 +1,2 @@
+-- The laws of the parser's levels.
+pub mod LevelReturns

@@ -1,0 +1,2 @@
+-- The levels of the parser: what their functions tell.
+pub mod Inner

@@ -1,0 +1,2 @@
+// The parser, a function for each level of the operators.
+pub mod level;

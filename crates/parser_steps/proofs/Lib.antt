@@ -1,0 +1,3 @@
+-- The laws of the parser's single steps.
+pub mod CodeTokens
+pub mod SingleSteps

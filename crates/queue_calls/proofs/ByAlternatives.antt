@@ -1,0 +1,43 @@
+-- What is pushed by the lists of an accepted tree is what document 01 defines for the tree's expression.
+--   tree-pushes, tree-pushed
+use Prim.Native.Nat.{ℕ}
+use mathlib.Core.Path.{_∙_}
+use mathlib.Core.List.{List}
+use Rattle.alf.specs.declared.Answer.{Answer}
+use Rattle.alf.specs.Values.{stateAt}
+use Rattle.alf.specs.Alternatives.{alternatives, stepsOf}
+use Rattle.alf.proofs.RowsAreAlternatives.{same-answer}
+use Rattle.rewriting.specs.declared.lists.Alternatives.{Alternatives}
+use Rattle.rewriting.specs.Lists.{Holds}
+use Rattle.queue.specs.declared.queues.Queue.{Queue}
+use Rattle.queue.specs.Queues.{traceOf, Pushes}
+use Rattle.matching_calls.specs.Matching.{expression}
+use Rattle.matching_calls.proofs.ByAlternatives.{xs, steps-are, tree-matches}
+use Rattle.queue_calls.specs.Pushing.{PushesTree}
+
+module _ {names : ℕ} {tree : List ℕ} {a : Alternatives} (h : Holds tree names a) where
+  pub tree-pushes : {q q′ : Queue} {row : List ℕ} {t : ℕ} {answer : Answer}
+      → Pushes names (xs h) q row answer t q′
+      → PushesTree names tree q row answer t q′
+  tree-pushes p =
+      record {
+        matched = tree-matches h (p .matched);
+        kept = rw (steps-are h) at (p .kept);
+        states = rw (steps-are h) at (p .states);
+      }
+
+-- and the other way: what is pushed for a tree is pushed for its alternatives
+pub tree-pushed : {names : ℕ} {tree : List ℕ} {q q′ : Queue} {row : List ℕ} {t : ℕ} {answer : Answer}
+    → PushesTree names tree q row answer t q′ → Pushes names (alternatives (expression tree names)) q row answer t q′
+unfolding stepsOf
+tree-pushed {names} {tree} {q} {q′} {row} p =
+    let st = stateAt names (traceOf names q row) in
+    record {
+      matched =
+          record {
+            is = p .matched .is ∙ same-answer st (expression tree names) (q .kept .0);
+            count = p .matched .count;
+          };
+      kept = p .kept;
+      states = p .states;
+    }

@@ -1,0 +1,3 @@
+-- The laws of pushes for trees.
+pub mod ByAlternatives
+pub mod Pushes

@@ -1,0 +1,2 @@
+-- What a push for a tree comes to.
+pub mod Pushing

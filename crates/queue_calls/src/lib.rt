@@ -1,0 +1,2 @@
+// The call that pushes a row to the queue.
+pub mod pushing;

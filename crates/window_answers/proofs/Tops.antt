@@ -1,0 +1,58 @@
+-- The expression on top of a stack, by its sort, and what it answers on windows as an operand.
+--   top-vector, top-boolean, boolean-sort, not-vector     which one it is
+--   on-vector, on-boolean                                 a vector expression's answer; a condition
+use Prim.Native.Nat.{ℕ}
+use mathlib.Core.Path.{_≡_, refl, sym}
+use mathlib.Core.Bool.{true, false}
+use mathlib.Core.List.{List}
+use Rattle.alf.specs.Expressions.{boolean, vector}
+use Rattle.alf.specs.Values.{stateAt}
+use Rattle.alf.specs.Windows.{Window, held}
+use Rattle.alf.specs.Decoder.{Stack, empty, broken, push, isBoolean, isVector, topBoolean, topVector, stackAt}
+use Rattle.basics.proofs.Bools.{never}
+use Rattle.trees.specs.Parts.{isWhole, top, expressionAt}
+use Rattle.evaluator.specs.Rows.{stateOf}
+use Rattle.window_answers.specs.Spans.{answerOn}
+use Rattle.window_answers.specs.Filling.{partOn}
+
+pub top-vector : (s : Stack) → isVector s ≡ true → top s ≡ vector (topVector s)
+unfolding isVector top topVector
+top-vector empty h = never h
+top-vector broken h = never h
+top-vector (push (boolean c) s) h = never h
+top-vector (push (vector p) s) h = refl
+
+pub top-boolean : (s : Stack) → isBoolean s ≡ true → top s ≡ boolean (topBoolean s)
+unfolding isBoolean top topBoolean
+top-boolean empty h = never h
+top-boolean broken h = never h
+top-boolean (push (boolean c) s) h = refl
+top-boolean (push (vector p) s) h = never h
+
+pub boolean-sort : (s : Stack) → isBoolean s ≡ true → isVector s ≡ false
+unfolding isBoolean isVector
+boolean-sort empty h = refl
+boolean-sort broken h = refl
+boolean-sort (push (boolean c) s) h = refl
+boolean-sort (push (vector p) s) h = never h
+
+pub not-vector : (s : Stack) → isWhole s ≡ true → isVector s ≡ false → isBoolean s ≡ true
+unfolding isWhole isVector isBoolean
+not-vector empty w h = w
+not-vector broken w h = w
+not-vector (push (boolean c) s) w h = refl
+not-vector (push (vector p) s) w h = never (sym h)
+
+-- what the expression that ends at a place answers, as an operand
+abbrev pub On : List ℕ → ℕ → List ℕ → ℕ → Window
+On t names states end = partOn (stateAt names states) (expressionAt t names end)
+
+module _ (t : List ℕ) (names : ℕ) (states : List ℕ) (end : ℕ) where
+  pub on-vector : isVector (stackAt t names end) ≡ true → On t names states end ≡ answerOn t names states end
+  unfolding partOn
+  on-vector h = rw (top-vector (stackAt t names end) h) refl
+
+  pub on-boolean : isBoolean (stackAt t names end) ≡ true
+      → On t names states end ≡ held (stateOf t names states end)
+  unfolding partOn
+  on-boolean h = rw (top-boolean (stackAt t names end) h) refl

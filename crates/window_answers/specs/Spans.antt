@@ -1,0 +1,21 @@
+-- What a vector expression in a tree answers on windows and at rows, and what is asked of it.
+--   Pattern              a vector expression of at most 256 bytes, with windows of at most 16 events
+--   answerOn, bestAt     its answer on a window and at a row
+use Prim.Native.Nat.{ℕ, _≤_}
+use mathlib.Core.List.{List}
+use Rattle.alf.specs.Values.{stateAt}
+use Rattle.alf.specs.Windows.{Window, answer, best}
+use Rattle.trees.specs.Parts.{EndsVector, vectorAt}
+use Rattle.window_answers.specs.Lengths.{longest}
+
+pub record Pattern (tree : List ℕ) (names end : ℕ) : Type 0 where
+  pub ends : EndsVector tree names end
+  pub few : end ≤ 256
+  pub short : longest (vectorAt tree names end) ≤ 16
+
+-- the answer on each window, and at each row, of the vector expression that ends at `end`
+abbrev pub answerOn : List ℕ → ℕ → List ℕ → ℕ → Window
+answerOn tree names states end = answer (stateAt names states) (vectorAt tree names end)
+
+abbrev pub bestAt : List ℕ → ℕ → List ℕ → ℕ → ℕ → ℕ
+bestAt tree names states end = best (stateAt names states) (vectorAt tree names end)

@@ -1,0 +1,85 @@
+// The answer of a vector expression on a window, and at a row: the greatest over the windows that end there. The table
+// of its parts' answers is made for each call.
+ghost use mathlib.Core.Path.{_≡_};
+ghost use lib.ListN.{length};
+ghost use Rattle.basics.specs.Words.{greatest};
+ghost use Rattle.alf.specs.Values.{stateAt};
+ghost use Rattle.alf.specs.Windows.{rowAnswer};
+ghost use Rattle.alf.specs.Answers.{numberOf};
+ghost use Rattle.trees.specs.Parts.{vectorAt};
+ghost use Rattle.evaluator.specs.Rows.{Within};
+ghost use Rattle.window_answers.specs.Spans.{Pattern, answerOn, bestAt};
+ghost use Rattle.answer_table.specs.Tables.{Ending, stored};
+use crate::filling::fill;
+use crate::lengths::longest;
+use crate::lengths::smaller;
+use alf::Answer;
+use answer_table::cuts::read;
+use evaluator::ranks::name_of;
+use states::edges::greater;
+
+// A table with nothing worked out.
+fn blank() -> [u8; 65536]
+    ensures { λ r. ⌜ length r ≡ 65536 ⌝ }
+{
+    [0u8; 65536]
+}
+
+// The answer of the expression that ends at `end`, on the rows from `a` to `b`: 0 no, 1 unknown, 2 yes. A window of
+// more events than its longest answers no.
+pub fn answer(tree: &[u8], end: usize, states: &[u8], names: usize, a: usize, b: usize) -> u8
+    requires { ⌜ Pattern (now tree) names end ⌝ }
+    requires { ⌜ Within (now states) names b ⌝ }
+    ensures { λ r. ⌜ r ≡ answerOn (now (tree .entry)) names (now (states .entry)) end a b ⌝ }
+{
+    if b <= a {
+        return 0;
+    }
+    let n = b - a;
+    if longest(tree, end, names) < n {
+        return 0;
+    }
+    let mut table = blank();
+    fill(true, tree, end, states, names, a, n, &mut table);
+    read(&table, (end - 1) * 256, 0, n)
+}
+
+// The greatest over the windows that end at row `n` of the table, in the part that starts at `base`.
+fn best_of(table: &[u8; 65536], base: usize, n: usize) -> u8
+    requires { ⌜ Ending (now table) base n ⌝ }
+    ensures { λ r. ⌜ r ≡ greatest n (λ a. stored (now (table .entry)) base a n) ⌝ }
+{
+    let mut best: u8 = 0;
+    let mut a = 0;
+    while a < n {
+        best = greater(best, read(table, base, a, n));
+        a += 1;
+    }
+    best
+}
+
+// The greatest answer of the expression that ends at `end`, over the windows that end at `row`. Windows without an
+// event answer no, and so do those of more events than its longest.
+pub fn best_at(tree: &[u8], end: usize, states: &[u8], names: usize, row: usize) -> u8
+    requires { ⌜ Pattern (now tree) names end ⌝ }
+    requires { ⌜ Within (now states) names row ⌝ }
+    ensures { λ r. ⌜ r ≡ bestAt (now (tree .entry)) names (now (states .entry)) end row ⌝ }
+{
+    let n = smaller(row, longest(tree, end, names));
+    let mut table = blank();
+    fill(true, tree, end, states, names, row - n, n, &mut table);
+    best_of(&table, (end - 1) * 256, n)
+}
+
+// Row `row`'s answer; row 0 has no event.
+pub fn row_answer(tree: &[u8], end: usize, states: &[u8], names: usize, row: usize) -> Answer
+    requires { ⌜ Pattern (now tree) names end ⌝ }
+    requires { ⌜ Within (now states) names row ⌝ }
+    ensures { λ r. ⌜ numberOf r ≡ rowAnswer (stateAt names (now (states .entry)))
+        (vectorAt (now (tree .entry)) names end) row ⌝ }
+{
+    if row == 0 {
+        return Answer::NoEvent;
+    }
+    name_of(best_at(tree, end, states, names, row))
+}
