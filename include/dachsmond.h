@@ -11,7 +11,7 @@
 
    A call takes less than 256 KB of stack. The proofs say nothing of that: tests/stack measures each call on the inputs
    that recurse deepest (145,904 bytes at most, for a listing, which holds an answer for each row) and reckons from the
-   object code how much any input can take (242,608 bytes at most). Nothing is allocated and nothing is kept. */
+   object code how much any input can take (237,872 bytes at most). Nothing is allocated and nothing is kept. */
 #ifndef DACHSMOND_H
 #define DACHSMOND_H
 #include <stdbool.h>
@@ -29,10 +29,13 @@ typedef struct {
     size_t count;
 } dachsmond_told;
 
-/* The first `len` entries of `tree`, with zeros behind them, or refused. */
+/* The first `len` entries of `tree`, with zeros behind them, or refused. `extent` is how many bytes are refused from the
+   place on: for 5, 6 and 7 the token's, for 2 those up to the next blank or the text's end. It is 0 where the place is the
+   text's end, for every other number, and where nothing is refused. */
 typedef struct {
     uint8_t number;
     size_t place;
+    size_t extent;
     size_t len;
     uint8_t tree[256];
 } dachsmond_expression;

@@ -18,12 +18,15 @@ pub struct Told {
     pub count: usize,
 }
 
-/// The first `len` entries of `tree`, with zeros behind them, or refused.
+/// The first `len` entries of `tree`, with zeros behind them, or refused. `extent` is how many bytes are refused from the
+/// place on: for 5, 6 and 7 the token's, for 2 those up to the next blank or the text's end. It is 0 where the place is the
+/// text's end, for every other number, and where nothing is refused.
 #[repr(C)]
 #[derive(Clone, Copy, Debug)]
 pub struct Expression {
     pub number: u8,
     pub place: usize,
+    pub extent: usize,
     pub len: usize,
     pub tree: [u8; 256],
 }

@@ -32,6 +32,7 @@ void do_read(void)
         printf("tree");
         say_bytes(bytes, tree_bytes(tree, bytes, 0));
     }
+    printf(" of %ld", extent_of(text.at, text.length, r));
     end_line(sum_of(0, bytes, MAX_NODES));
 }
 

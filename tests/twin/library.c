@@ -28,6 +28,7 @@ void do_read(void)
         printf("tree");
         say_bytes(r.tree, r.len);
     }
+    printf(" of %zu", r.extent);
     end_line(sum_of(0, r.tree, sizeof r.tree));
 }
 

@@ -23,7 +23,8 @@
      I NAMES N TREE STATES PATTERN ROOM   its line of a pattern
      J PATTERN NUMBER PLACE ROOM     its line of a pattern that was refused
      K YES UNKNOWN NO PATTERNS EVENTS ROOM   its last line
-   An answer is a line too: `refused NUMBER PLACE` or what the call gave, then a sum over all lent memory. */
+   An answer is a line too: `refused NUMBER PLACE` or what the call gave, for a text `of` and how many bytes are refused,
+   then a sum over all lent memory. */
 #ifndef LINES_H
 #define LINES_H
 #include <stdint.h>

@@ -1,4 +1,4 @@
-/* Chapter "Text": bytes into tokens, the longest first; refusal 2. */
+/* Chapter "Text": bytes into tokens, the longest first; refusal 2; how many bytes a refusal is of. */
 #include "twin.h"
 #include <string.h>
 
@@ -124,4 +124,20 @@ Refusal take_tokens(const byte *text, long length, Token *tokens, int *count)
         i += n;
     }
     return (Refusal){0, 0};
+}
+
+/* How many bytes of the text a refusal is of: for 2 up to the next blank or the end, for 5, 6 and 7 the token's that is
+   refused, of which there is none at the end; 0 for any other. */
+long extent_of(const byte *text, long length, Refusal r)
+{
+    static Token tokens[4096];
+    int count;
+    long n = 0;
+    if (r.number == 2)
+        while (r.place + n < length && !is_blank(text[r.place + n])) n++;
+    if (r.number < 5 || r.number > 7) return n;
+    take_tokens(text, length, tokens, &count);
+    for (int i = 0; i < count; i++)
+        if (tokens[i].place == r.place) n = tokens[i].length;
+    return n;
 }

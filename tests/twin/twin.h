@@ -45,6 +45,7 @@ int is_name_byte(int b);
 int starts_name(int b);
 int level_of(Kind kind);
 Refusal take_tokens(const byte *text, long length, Token *tokens, int *count);
+long extent_of(const byte *text, long length, Refusal r);
 
 /* grammar.c: refusals 18 and 12, then 1 to 8; `names` are slots of 32 bytes */
 Refusal check_names(const byte *names, long length);

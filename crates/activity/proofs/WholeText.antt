@@ -20,7 +20,7 @@ use Rattle.basics.specs.Memory.{Put, Room, after}
 use Rattle.basics.proofs.PartByPart.{flat, Going, going-start, put-none}
 use Rattle.alf.specs.Names.{namesIn}
 use Rattle.alf.specs.Refusals.{check, At, RefusedWith, Passed, Comes}
-use Rattle.alf.proofs.Orders.{Is, refused-first, passed-right}
+use Rattle.alf.proofs.Orders.{Is, by-first, passed-right}
 use Rattle.basics.specs.Text.{bytes, joined}
 use Rattle.figures.specs.Delivering.{Delivers}
 use Rattle.listing.specs.Inner.{Sized}
@@ -173,7 +173,12 @@ module _ {names : List ℕ} {k : ℕ} {times states : List ℕ} {n from to : ℕ
   pub no-part : {o : Outcome} → (PartOf n from to → ⊥) → Is o 19 0
       → WritesPart names k times states n from to out out o
   unfolding Comes RefusedWith after
-  no-part h e = rw e (record { outcome = inl (refl, record { given = h; there = refl }); memory = refl })
+  no-part h e =
+      rw e
+      (record {
+        outcome = record { by = inl (refl, record { given = h; there = refl }); bare = refl };
+        memory = refl;
+      })
 
   module _ (p : PartOf n from to) where
     pub rows-refused : {o : Outcome} {r : Refusal} (made : ℕ → Type 0)
@@ -181,12 +186,9 @@ module _ {names : List ℕ} {k : ℕ} {times states : List ℕ} {n from to : ℕ
         → WritesPart names k times states n from to out out (Refused r)
     unfolding Comes RefusedWith after
     rows-refused {r = r} made c e =
+        let h = by-first (rowsOrder k times states from (to - from)) _ (rw e at c) in
         record {
-          outcome =
-              inr (
-                (λ q a. a .given p),
-                refused-first (rowsOrder k times states from (to - from)) _ (r .number) (r .place) (rw e at c),
-              );
+          outcome = record { by = inr ((λ q a. a .given p), h .by); bare = h .bare };
           memory = refl;
         }
 

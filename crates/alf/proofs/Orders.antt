@@ -1,11 +1,12 @@
 -- Laws of a call's order that is put together of two: refused by the first, or by the second once the first is passed.
 --   refused-first, refused-then, refused-either    refused, from the parts and to the parts
+--   plainly, by-first, by-then                     the same of a refusal that tells no bytes
 --   passed-both, passed-left, passed-right         passed, likewise
 --   fixed-both                                     each row fixes its place
 --   Sole, sole-both, sole-fixed                    an order refuses with one number at one place
 --   none-first                                     what is so nowhere first is so nowhere
 --   Is                                             an outcome that is this refusal
-use mathlib.Core.Path.{_≡_}
+use mathlib.Core.Path.{_≡_, refl}
 use mathlib.Core.List.{List, [], _∷_, _++_}
 use mathlib.Core.Logic.{_⊎_, inl, inr, ⊎-elim}
 use Prim.Native.Nat.{ℕ, zero, suc, _<_}
@@ -13,7 +14,8 @@ use native.Mathlib.Omega.{arith}
 use Rattle.basics.specs.declared.Outcome.{Outcome}
 use Rattle.basics.specs.declared.Outcome.the-variants.{Refused}
 use Rattle.basics.specs.Refusing.{refusal}
-use Rattle.alf.specs.Refusals.{Order, RefusedWith, Passed, First}
+use Rattle.basics.specs.declared.Refusal.{Refusal}
+use Rattle.alf.specs.Refusals.{Order, RefusedWith, RefusedBy, Passed, First}
 use Rattle.alf.proofs.Outcomes.{AllFixed, refused-passed, refused-unique}
 
 pub refused-first : (o o′ : Order) (n p : ℕ) → RefusedWith o n p → RefusedWith (o ++ o′) n p
@@ -26,6 +28,15 @@ pub refused-then : (o o′ : Order) (n p : ℕ) → Passed o → RefusedWith o�
 unfolding RefusedWith Passed
 refused-then [] o′ n p h r = r
 refused-then (c ∷ o) o′ n p h r = inr (h .0, refused-then o o′ n p (h .1) r)
+
+pub plainly : (o : Order) (n p : ℕ) → RefusedWith o n p → RefusedBy o (refusal n p)
+plainly o n p h = record { by = h; bare = refl }
+
+pub by-first : (o o′ : Order) {r : Refusal} → RefusedBy o r → RefusedBy (o ++ o′) r
+by-first o o′ h = record { by = refused-first o o′ _ _ (h .by); bare = h .bare }
+
+pub by-then : (o o′ : Order) {r : Refusal} → Passed o → RefusedBy o′ r → RefusedBy (o ++ o′) r
+by-then o o′ g h = record { by = refused-then o o′ _ _ g (h .by); bare = h .bare }
 
 pub passed-both : (o o′ : Order) → Passed o → Passed o′ → Passed (o ++ o′)
 unfolding Passed

@@ -63,7 +63,7 @@ refused-unique (c ∷ cs) f {n} {m} {p} {q} (inr r) (inl s) = absurd (r .0 q (s 
 refused-unique (c ∷ cs) f (inr r) (inr s) = refused-unique cs (f .1) (r .1) (s .1)
 
 pub refused-by-unique : (o : Order) → AllFixed o → {r s : Refusal} → RefusedBy o r → RefusedBy o s → r ≡ s
-refused-by-unique o f x y = refusal-same (refused-unique o f x y)
+refused-by-unique o f x y = refusal-same (refused-unique o f (x .by) (y .by)) (x .bare ∙ sym (y .bare))
 
 -- the number of a refusal is one of its order's
 pub refused-among : (o : Order) (n p : ℕ) → RefusedWith o n p → among n (numbersOf o) ≡ true
@@ -82,7 +82,7 @@ pub comes-unique :
     a ≡ b
 unfolding Comes
 comes-unique o made f one (Done j) (Done k) x y = ap Done (one j k (x .1) (y .1))
-comes-unique o made f one (Done j) (Refused s) x y = absurd (refused-passed o _ _ (x .0) y)
-comes-unique o made f one (Refused r) (Done k) x y = absurd (refused-passed o _ _ (y .0) x)
+comes-unique o made f one (Done j) (Refused s) x y = absurd (refused-passed o _ _ (x .0) (y .by))
+comes-unique o made f one (Refused r) (Done k) x y = absurd (refused-passed o _ _ (y .0) (x .by))
 comes-unique o made f one (Refused r) (Refused s) x y =
     ap Refused (refused-by-unique o f x y)

@@ -8,7 +8,8 @@
 --   bad-lists (18), no-such-row (19)
 --   Check, Order, check                  a call's order of rows
 --   numbersOf                            the numbers of an order, as document 01 has them in one sentence
---   Never, RefusedWith, RefusedBy, Passed, Comes   refused by the first row that holds; passed; the outcome of a call
+--   Never, RefusedWith, Bare, RefusedBy    refused by the first row that holds, and no bytes shown
+--   Passed, Comes                        passed; the outcome of a call
 use Prim.Native.Nat.{ℕ, _-_, _/_, _<_, _≤_}
 use mathlib.Core.Bool.{true}
 use mathlib.Core.Logic.{_⊎_}
@@ -78,13 +79,13 @@ over-limits xs = At 0 (overLimit xs ≡ true)
 
 -- 9: output longer than the lent buffer; length needed. Of several outputs, the first short one.
 -- Filled by each call that is lent a list to write to: writer/specs/Writing, trace_reader/specs/Reading,
--- trace_writer/specs/Writing, rewriting_calls/specs/Calls, contradictions/specs/Calls; for texts
--- figures/specs/Delivering.
+-- trace_writer/specs/Writing, rewriting_calls/specs/Calls, contradictions/specs/Calls; for texts figures/specs/
+-- Delivering.
 abbrev pub no-room : ℕ → ℕ → Row
 no-room needed room = At needed (room < needed)
 
 -- 10: handed-in tree that no text gives, alternatives or a queue that cannot be; 0. A tree: acceptance/specs/Accepted;
--- alternatives: listed_acceptance/specs/Lists; a queue: queue_calls/specs/Pushing. Filled in judging/specs/Orders,
+-- alternatives: listed_acceptance/specs; a queue: queue_calls/specs/Pushing. Filled in judging/specs/Orders,
 -- writer/specs/Writing and rewriting_calls/specs/Calls.
 abbrev pub cannot-be : Type 0 → Row
 cannot-be bad = At 0 bad
@@ -167,8 +168,14 @@ unfoldable pub RefusedWith : Order → ℕ → ℕ → Type 0
 RefusedWith [] n p = ⊥
 RefusedWith (c ∷ cs) n p = ((n ≡ c .number) × c .row p) ⊎ (Never c × RefusedWith cs n p)
 
-abbrev pub RefusedBy : Order → Refusal → Type 0
-RefusedBy order r = RefusedWith order (r .number) (r .place)
+-- it shows no bytes. This holds for every call but those that read a text: what these show is in tokens/specs/Extents.
+abbrev pub Bare : Refusal → Type 0
+Bare r = r .extent ≡ 0
+
+-- a refusal of a call: its number and its place are these
+pub record RefusedBy (order : Order) (r : Refusal) : Type 0 where
+  pub by : RefusedWith order (r .number) (r .place)
+  pub bare : Bare r
 
 -- not refused
 unfoldable pub Passed : Order → Type 0

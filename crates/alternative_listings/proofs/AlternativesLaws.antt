@@ -10,8 +10,6 @@ use mathlib.Core.List.{List}
 use lib.ListN.{length, take}
 use Rattle.alf.specs.Names.{namesIn}
 use Rattle.basics.specs.declared.Refusal.{Refusal}
-use Rattle.basics.proofs.Refusals.{refusal-same}
-use Rattle.basics.specs.Refusing.{refusal}
 use Rattle.basics.specs.declared.Outcome.{Outcome}
 use Rattle.basics.specs.declared.Outcome.the-variants.{Done, Refused}
 use Rattle.alf.specs.declared.Sort.the-variants as sort
@@ -23,8 +21,9 @@ use Rattle.alf.proofs.Outcomes.{refused-passed}
 use Rattle.names.specs.Check.{namesOrder}
 use Rattle.alf.proofs.Orders.{passed-left}
 use Rattle.acceptance.specs.Accepted.{Accepted}
+use Rattle.tokens.proofs.ShownBytes.{refused-in-unique}
 use Rattle.reader.specs.declared.Read.{Read}
-use Rattle.reader.specs.Reading.{ReadsText}
+use Rattle.reader.specs.Reading.{readOrder, ReadsText}
 use Rattle.reader.proofs.Unique.{gives-unique}
 use Rattle.text_laws.proofs.ReadTrees.{Found, read-refused, read-sole, found-accepted, found-vector}
 use Rattle.text_laws.proofs.ReadTrees.{vector-given, vector-decodes}
@@ -38,7 +37,7 @@ use Rattle.alternative_listings.specs.AlternativesText.{RewritesText, re
 
 pub refused-text : {names text out : List ℕ} {r : Read} → ReadsText names text sort.Vector r → r .refused ≡ true
     → RewritesText names text out out (record { written = Refused (r .refusal); untold = 0 })
-refused-text h e = refused _ _ (read-refused h e)
+refused-text h e = refused (read-refused h e)
 
 -- the names and the tree of a text are good, so 9 is left
 module _ (names tree : List ℕ) (room : ℕ) (good : Passed (namesOrder names))
@@ -46,14 +45,19 @@ module _ (names tree : List ℕ) (room : ℕ) (good : Passed (namesOrder names))
   abbrev done : ℕ → Type 0
   done k = k ≡ length (listingAt names tree)
 
+  only-nine : (n p : ℕ) → RefusedWith (order names tree room) n p
+      → RefusedWith (lineOrder (listingAt names tree) room) n p
+  unfolding RefusedWith Passed order
+  only-nine n p (inl x) = absurd (good .0 _ (x .1))
+  only-nine n p (inr (m, inl x)) = absurd (good .1 .0 _ (x .1))
+  only-nine n p (inr (m, inr (l, inl x))) = absurd (x .1 .given a)
+  only-nine n p (inr (m, inr (l, inr (k, x)))) = x
+
   nine-left : (o : Outcome) → Comes (order names tree room) done o
       → Comes (lineOrder (listingAt names tree) room) done o
-  unfolding Comes RefusedWith Passed order
+  unfolding Comes Passed order
   nine-left (Done k) x = (x .0 .1 .1 .1, x .1)
-  nine-left (Refused q) (inl x) = absurd (good .0 _ (x .1))
-  nine-left (Refused q) (inr (m, inl x)) = absurd (good .1 .0 _ (x .1))
-  nine-left (Refused q) (inr (m, inr (l, inl x))) = absurd (x .1 .given a)
-  nine-left (Refused q) (inr (m, inr (l, inr (k, x)))) = x
+  nine-left (Refused q) x = record { by = only-nine _ _ (x .by); bare = x .bare }
 
 module _ {names text : List ℕ} {q : Read} (f : Found names text sort.Vector q) where
   abbrev tree : List ℕ
@@ -97,11 +101,11 @@ patternOf (vector p) d = p
 pub text-unique : {names text out a b : List ℕ} {r s : Lines} → RewritesText names text out a r
     → RewritesText names text out b s → Same r s a b
 unfolding patternOf
-text-unique {names} {text} (refused n p x) (refused m q y) =
-    let e = read-sole names text sort.Vector n m p q x y in
-    (ap (λ (r : Refusal). record { written = Refused r; untold = 0 }) (refusal-same e), refl)
-text-unique (refused n p x) (rewritten h g d) = absurd (refused-passed _ n p h x)
-text-unique (rewritten h g d) (refused n p x) = absurd (refused-passed _ n p h x)
+text-unique {names} {text} (refused x) (refused y) =
+    let e = refused-in-unique text (readOrder names text sort.Vector) (read-sole names text sort.Vector) x y in
+    (ap (λ (r : Refusal). record { written = Refused r; untold = 0 }) e, refl)
+text-unique (refused x) (rewritten h g d) = absurd (refused-passed _ _ _ h (x .by))
+text-unique (rewritten h g d) (refused x) = absurd (refused-passed _ _ _ h (x .by))
 text-unique {names} {out = out} (rewritten {p = p} h g d) (rewritten {p = q} k f c) =
     let e : p ≡ q = ap (λ (x : Expression). patternOf x p) (gives-unique g f) in
     same-lines (listing names (alternatives q)) (untold names (alternatives q)) out (rw e at d) c

@@ -160,23 +160,35 @@ module _ (names tree : List ℕ) (room : ℕ) where
   abbrev done : ℕ → Type 0
   done k = k ≡ length (listingAt names tree)
 
+  names-refused : (n p : ℕ) → RefusedWith (namesOrder names) n p → RefusedWith (order names tree room) n p
+  unfolding RefusedWith order
+  names-refused n p (inl x) = inl x
+  names-refused n p (inr (m, inl x)) = inr (m, inl x)
+  names-refused n p (inr (m, inr (l, x))) = absurd x
+
   comes-names : (made : ℕ → Type 0) (r : Refusal) → Comes (namesOrder names) made (Refused r)
       → Comes (order names tree room) done (Refused r)
-  unfolding Comes RefusedWith order
-  comes-names made r (inl x) = inl x
-  comes-names made r (inr (m, inl x)) = inr (m, inl x)
-  comes-names made r (inr (m, inr (l, x))) = absurd x
+  unfolding Comes
+  comes-names made r x = record { by = names-refused _ _ (x .by); bare = x .bare }
 
   comes-ten : Named names → (Accepted (namesIn names) Vector tree → ⊥)
       → Comes (order names tree room) done (Refused (refusal 10 0))
   unfolding Comes RefusedWith Passed order
-  comes-ten h f = inr (h .passed .0, inr (h .passed .1 .0, inl (refl, record { given = f; there = refl })))
+  comes-ten h f =
+      record {
+        by = inr (h .passed .0, inr (h .passed .1 .0, inl (refl, record { given = f; there = refl })));
+        bare = refl;
+      }
 
   comes-end : Named names → Accepted (namesIn names) Vector tree → (o : Outcome)
       → Comes (lineOrder (listingAt names tree) room) done o → Comes (order names tree room) done o
   unfolding Comes RefusedWith Passed order
   comes-end h a (Done k) x = ((h .passed .0, (h .passed .1 .0, ((λ p y. y .given a), x .0))), x .1)
-  comes-end h a (Refused q) x = inr (h .passed .0, inr (h .passed .1 .0, inr ((λ p y. y .given a), x)))
+  comes-end h a (Refused q) x =
+      record {
+        by = inr (h .passed .0, inr (h .passed .1 .0, inr ((λ p y. y .given a), x .by)));
+        bare = x .bare;
+      }
 
 pub refused-names : {names tree out : List ℕ} (made : ℕ → Type 0) {r : Refusal} {o : Outcome}
     → Comes (namesOrder names) made o → o ≡ Refused r

@@ -4,12 +4,13 @@
 --   RewritesText    what the call comes to
 use Prim.Native.Nat.{ℕ}
 use mathlib.Core.List.{List}
-use Rattle.basics.specs.Refusing.{refusal}
+use Rattle.basics.specs.declared.Refusal.{Refusal}
 use Rattle.basics.specs.declared.Outcome.the-variants.{Refused}
 use Rattle.alf.specs.declared.Sort.the-variants as sort
 use Rattle.alf.specs.Expressions.{Vector, vector}
 use Rattle.alf.specs.Alternatives.{alternatives}
-use Rattle.alf.specs.Refusals.{RefusedWith, Passed}
+use Rattle.alf.specs.Refusals.{Passed}
+use Rattle.tokens.specs.Extents.{RefusedIn}
 use Rattle.reader.specs.Reading.{readOrder, Gives}
 use Rattle.alternative_listings.specs.declared.Lines.{Lines}
 use Rattle.alternative_texts.specs.Texts.{untold}
@@ -19,9 +20,8 @@ use Rattle.alternative_listings.specs.Calls.{DeliversLines}
 -- refused as the text is read, and the buffer stays; or the text gives the pattern p, and what comes is that of p's
 -- alternatives: 9, or their lines
 pub data RewritesText (names text out : List ℕ) : List ℕ → Lines → Type 0 where
-  refused : (n p : ℕ) → RefusedWith (readOrder names text sort.Vector) n p
-      → RewritesText names text out out
-      (record { written = Refused (refusal n p); untold = 0 })
+  refused : {r : Refusal} → RefusedIn text (readOrder names text sort.Vector) r
+      → RewritesText names text out out (record { written = Refused r; untold = 0 })
   rewritten : {p : Vector} {out′ : List ℕ} {r : Lines} → Passed (readOrder names text sort.Vector)
       → Gives names text sort.Vector (vector p)
       → DeliversLines (listing names (alternatives p)) (untold names (alternatives p)) out out′ r

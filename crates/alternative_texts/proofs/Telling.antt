@@ -161,7 +161,7 @@ module _ {names tree list : List ℕ} (h : Tellable names tree list) where
       where
         go : (q : Bool) → readable names x ≡ q → readable names x ≡ false
         go true d = absurd (refused-passed (order names tree Vector (length list)) (r .number) (r .place)
-            (readable-passed d) (rw e at (w .outcome)))
+            (readable-passed d) ((rw e at (w .outcome)) .by))
         go false d = d
 
     pub untold : {r : Refusal} {list″ : List ℕ} {n : ℕ} → o ≡ Refused r → Holds list″ n (bytes "...")

@@ -60,7 +60,7 @@ module _ {names n : ℕ} {tree states : List ℕ} {row : ℕ} (l : Rows names n 
       → AnsweredAs (answersOn names tree states row) x
   unfolding Tells
   answered (told.Answered b) w = record { answer = b; is = refl; numbered = w .comes .1 }
-  answered (told.Refused r) w = absurd (refused-passed _ _ _ (row-passed states n row l a s h) (w .comes))
+  answered (told.Refused r) w = absurd (refused-passed _ _ _ (row-passed states n row l a s h) (w .comes .by))
 
   pub matched : (y : Matching) → RowMatch names n tree states row y
       → FoundAt names tree states row y
@@ -72,7 +72,7 @@ module _ {names n : ℕ} {tree states : List ℕ} {row : ℕ} (l : Rows names n 
         is = λ i. Found (record { answer = m .answer; tries = d i });
         numbered = w .comes .1 .is;
       }
-  matched (Refused r) w = absurd (refused-passed _ _ _ (row-passed states n row l a s h) (w .comes))
+  matched (Refused r) w = absurd (refused-passed _ _ _ (row-passed states n row l a s h) (w .comes .by))
 
 taken : {names : ℕ} {tree : List ℕ} {q : Queue} {row : List ℕ} {q′ : Queue} → Handed names tree q
     → RowFits names (length row) → Codes row → (z : Matching) → Push names tree q row z q′
@@ -80,7 +80,7 @@ taken : {names : ℕ} {tree : List ℕ} {q : Queue} {row : List ℕ} {q′ : Que
 unfolding Takes
 taken h f s (Found m) w = (m, (refl, w .comes .1))
 taken {names} {tree} {q} {row} h f s (Refused r) w =
-    absurd (refused-passed (pushOrder names tree q row) _ _ (codes-passed row f h s) (w .comes .0))
+    absurd (refused-passed (pushOrder names tree q row) _ _ (codes-passed row f h s) (w .comes .0 .by))
 
 -- K: the steps of the longest alternative
 abbrev pub K : List ℕ → ℕ → ℕ

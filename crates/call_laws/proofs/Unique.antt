@@ -60,8 +60,8 @@ pub verdict-unique : (o : Order) {facts : Type 0} → AllFixed o → {a b : Verd
     → Judged o facts b
     → a ≡ b
 verdict-unique o f (passes p x) (passes q y) = refl
-verdict-unique o f (passes p x) (refuses s) = absurd (refused-passed o _ _ p s)
-verdict-unique o f (refuses r) (passes q y) = absurd (refused-passed o _ _ q r)
+verdict-unique o f (passes p x) (refuses s) = absurd (refused-passed o _ _ p (s .by))
+verdict-unique o f (refuses r) (passes q y) = absurd (refused-passed o _ _ q (r .by))
 verdict-unique o f (refuses r) (refuses s) =
     ap verdict.Refused (refused-by-unique o f r s)
 
@@ -88,8 +88,8 @@ pub tells-unique : (o : Order) (a : ℕ) → AllFixed o → (x y : Told) → Tel
 unfolding Tells
 tells-unique o a f (told.Answered b) (told.Answered c) x y =
     ap told.Answered (number-same b c (x .1 ∙ sym (y .1)))
-tells-unique o a f (told.Answered b) (told.Refused s) x y = absurd (refused-passed o _ _ (x .0) y)
-tells-unique o a f (told.Refused r) (told.Answered c) x y = absurd (refused-passed o _ _ (y .0) x)
+tells-unique o a f (told.Answered b) (told.Refused s) x y = absurd (refused-passed o _ _ (x .0) (y .by))
+tells-unique o a f (told.Refused r) (told.Answered c) x y = absurd (refused-passed o _ _ (y .0) (x .by))
 tells-unique o a f (told.Refused r) (told.Refused s) x y =
     ap told.Refused (refused-by-unique o f x y)
 
@@ -99,8 +99,8 @@ pub finds-unique : (o : Order) (right : Answer → ℕ → Type 0) → AllFixed 
 unfolding Finds
 finds-unique o right f one (Found m) (Found k) x y =
     let e = one _ _ _ _ (x .1) (y .1) in λ i. Found (record { answer = e .0 i; tries = e .1 i })
-finds-unique o right f one (Found m) (Refused s) x y = absurd (refused-passed o _ _ (x .0) y)
-finds-unique o right f one (Refused r) (Found k) x y = absurd (refused-passed o _ _ (y .0) x)
+finds-unique o right f one (Found m) (Refused s) x y = absurd (refused-passed o _ _ (x .0) (y .by))
+finds-unique o right f one (Refused r) (Found k) x y = absurd (refused-passed o _ _ (y .0) (x .by))
 finds-unique o right f one (Refused r) (Refused s) x y =
     ap Refused (refused-by-unique o f x y)
 
@@ -111,8 +111,8 @@ unfolding Counts
 counts-unique o right f one (counting.Counted t) (counting.Counted u) x y =
     let e = one _ _ _ _ _ _ (x .1) (y .1) in
     λ i. counting.Counted (record { yes = e .0 i; no = e .1 i; unknown = e .2 i })
-counts-unique o right f one (counting.Counted t) (counting.Refused s) x y = absurd (refused-passed o _ _ (x .0) y)
-counts-unique o right f one (counting.Refused r) (counting.Counted u) x y = absurd (refused-passed o _ _ (y .0) x)
+counts-unique o right f one (counting.Counted t) (counting.Refused s) x y = absurd (refused-passed o _ _ (x .0) (y .by))
+counts-unique o right f one (counting.Refused r) (counting.Counted u) x y = absurd (refused-passed o _ _ (y .0) (x .by))
 counts-unique o right f one (counting.Refused r) (counting.Refused s) x y =
     ap counting.Refused (refused-by-unique o f x y)
 
@@ -166,9 +166,9 @@ takes-unique names tree q row (Found m) (Found k) p r a b =
     let e = pushes-unique (tree-pushed (a .1)) (tree-pushed (b .1)) in
     (λ i. Found (record { answer = e .0 i; tries = e .1 i }), e .2)
 takes-unique names tree q row (Found m) (Refused s) p r a b =
-    absurd (refused-passed (pushOrder names tree q row) _ _ (a .0) (b .0))
+    absurd (refused-passed (pushOrder names tree q row) _ _ (a .0) (b .0 .by))
 takes-unique names tree q row (Refused s) (Found k) p r a b =
-    absurd (refused-passed (pushOrder names tree q row) _ _ (b .0) (a .0))
+    absurd (refused-passed (pushOrder names tree q row) _ _ (b .0) (a .0 .by))
 takes-unique names tree q row (Refused s) (Refused t) p r a b =
     let e = refused-by-unique (pushOrder names tree q row) (codes-fixed _ _ row) (a .0) (b .0) in
     (ap Refused e, a .1 ∙ sym (b .1))

@@ -10,6 +10,7 @@ use lib.ListN.{length}
 use Rattle.basics.specs.declared.Refusal.{Refusal}
 use Rattle.basics.specs.Refusing.{refusal}
 use Rattle.alf.specs.Refusals.{RefusedWith, Passed, bad-code}
+use Rattle.alf.proofs.Orders.{plainly}
 use Rattle.states.specs.declared.changes.Changes.{Changes}
 use Rattle.states.specs.FirstBadCode.{FirstBad}
 use Rattle.states.proofs.BadCodes.{bad-given, bad-never}
@@ -24,7 +25,7 @@ module _ (names n : ℕ) (states : List ℕ) (row : ℕ) where
   pub refused-18 : {r : Refusal} → (Lists names n (length states) → ⊥)
       → r ≡ refusal 18 0 → Result (Refused r)
   unfolding RowChanged RefusedWith
-  refused-18 h e = rw e (inl (refl, record { given = h; there = refl }))
+  refused-18 h e = rw e (plainly _ 18 0 (inl (refl, record { given = h; there = refl })))
 
   module _ (l : Lists names n (length states)) where
     pub inside : row < n → Inside names states row
@@ -41,10 +42,11 @@ module _ (names n : ℕ) (states : List ℕ) (row : ℕ) where
       unfolding RowChanged RefusedWith
       refused-15 h e =
           rw e
+          (plainly _ 15 bad
           (inr (
             λ p a. a .given l,
             inl (refl, bad-given c h),
-          ))
+          )))
 
       -- no code is above 7
       none-bad : length states ≤ bad → (p : ℕ) → bad-code states p → ⊥
@@ -55,13 +57,14 @@ module _ (names n : ℕ) (states : List ℕ) (row : ℕ) where
       unfolding RowChanged RefusedWith
       refused-19 h k e =
           rw e
+          (plainly _ 19 0
           (inr (
             λ p a. a .given l,
             inr (
               none-bad h,
               inl (refl, record { given = k; there = refl }),
             ),
-          ))
+          )))
 
       pub changed-row : (m : Changes) → length states ≤ bad → row < n
           → RowSet names states row (m .mask) (m .many) → Result (Changed m)

@@ -18,8 +18,8 @@ changes-unique names n states row (Changed c) (Changed d) x y =
     let q = x .1 .number ∙ sym (y .1 .number) in
     λ i. Changed (record { mask = p i; many = q i })
 changes-unique names n states row (Changed c) (Refused s) x y =
-    absurd (refused-passed (order names n states row) _ _ (x .0) y)
+    absurd (refused-passed (order names n states row) _ _ (x .0) (y .by))
 changes-unique names n states row (Refused r) (Changed d) x y =
-    absurd (refused-passed (order names n states row) _ _ (y .0) x)
+    absurd (refused-passed (order names n states row) _ _ (y .0) (x .by))
 changes-unique names n states row (Refused r) (Refused s) x y =
     ap Refused (refused-by-unique (order names n states row) (order-fixed names n states row) x y)

@@ -33,7 +33,11 @@ module _ {times values : List ℕ} where
       → r ≡ Refused (refusal 18 0) → ValuesText times values out out r
   unfolding Comes RefusedWith after
   refused-18 h e =
-      rw e (record { outcome = inl (refl, record { given = h; there = refl }); memory = refl })
+      rw e
+      (record {
+        outcome = record { by = inl (refl, record { given = h; there = refl }); bare = refl };
+        memory = refl;
+      })
 
   pub refused-15 : {out : List ℕ} {bad : ℕ} {r : Outcome} → Lists (length times) (length values)
       → FirstBad values bad
@@ -42,7 +46,11 @@ module _ {times values : List ℕ} where
       → ValuesText times values out out r
   unfolding Comes RefusedWith after
   refused-15 l c h e =
-      rw e (record { outcome = inr (λ p a. a .given l, inl (refl, bad-given c h)); memory = refl })
+      rw e
+      (record {
+        outcome = record { by = inr (λ p a. a .given l, inl (refl, bad-given c h)); bare = refl };
+        memory = refl;
+      })
 
 -- once 18 and 15 are passed
 module _ (times values : List ℕ) (g : Listable 7 times values) where
@@ -55,7 +63,10 @@ module _ (times values : List ℕ) (g : Listable 7 times values) where
     x .1,
   )
   comes room (Refused q) x =
-      inr (λ p a. a .given (g .lists), inr (λ p a. omega (arith, g .good p (a .given .0), a .given .1), x))
+      record {
+        by = inr (λ p a. a .given (g .lists), inr (λ p a. omega (arith, g .good p (a .given .0), a .given .1), x .by));
+        bare = x .bare;
+      }
 
 pub listed : {times values out out′ : List ℕ} {r : Outcome} → Listable 7 times values
     → Delivers (valuesListing times values) out out′ r

@@ -69,52 +69,85 @@ pub fn refused_for(what: &[u8], why: &[u8], r: Refusal) {
     end_refused(r);
 }
 
-// A byte as a line shows it, or a blank in its place.
-fn shown(b: u8, blank: bool) -> u8 {
-    if blank {
-        return b' ';
-    }
-    if b < b' ' {
-        return b' ';
-    }
-    b
-}
-
 fn note_byte(b: u8) {
     note(&[b]);
 }
 
-// A text in one line, in which a control byte is a space; or as many blanks.
-fn note_text(text: &[u8], blank: bool) {
+// A byte in a line: a control byte is a space, but for a tab where tabs stay.
+fn note_shown(b: u8, tabs: bool) {
+    if tabs {
+        if b == b'\t' {
+            return note_byte(b);
+        }
+    }
+    if b < b' ' {
+        return note_byte(b' ');
+    }
+    note_byte(b);
+}
+
+// Below a byte: a tab below a tab, and nothing below a byte that goes on a character; else the mark.
+fn note_below(b: u8, mark: u8) {
+    if b == b'\t' {
+        return note_byte(b);
+    }
+    match b {
+        128..=191 => {}
+        _ => note_byte(mark),
+    }
+}
+
+// A text in one line.
+fn note_text(text: &[u8], tabs: bool) {
     let mut i: usize = 0;
     while i < text.len() {
-        note_byte(shown(text[i], blank));
+        note_shown(text[i], tabs);
         i += 1;
     }
 }
 
-// A caret under a byte of the text, or behind its end.
-fn note_caret(text: &[u8], place: usize) {
-    if place <= text.len() {
-        note_text(&text[0..place], true);
-        note(b"^");
+// The same mark below each character of a text.
+fn mark_below(text: &[u8], mark: u8) {
+    let mut i: usize = 0;
+    while i < text.len() {
+        note_below(text[i], mark);
+        i += 1;
     }
 }
 
-// A text, and the caret below it.
-fn note_marked(text: &[u8], place: usize) {
+// Below the bytes refused, the first of which has its caret already.
+fn mark_rest(behind: &[u8], extent: usize) {
+    if extent == 0 {
+        return;
+    }
+    if extent <= behind.len() {
+        mark_below(&behind[1..extent], b'~');
+    }
+}
+
+// A caret below a byte of the text, or behind its end, and the bytes refused underlined.
+fn note_caret(text: &[u8], place: usize, extent: usize) {
+    if place <= text.len() {
+        mark_below(&text[0..place], b' ');
+        note(b"^");
+        mark_rest(&text[place..], extent);
+    }
+}
+
+// A text, and below it what is refused.
+fn note_marked(text: &[u8], place: usize, extent: usize) {
     note(b"  ");
-    note_text(text, false);
+    note_text(text, true);
     note(b"\n  ");
-    note_caret(text, place);
+    note_caret(text, place, extent);
     note(b"\n");
 }
 
-// A text's refusal, with the text and a caret under the byte, where a line can hold it.
+// A text's refusal, with the text and what is refused underlined, where a line can hold it.
 pub fn refused_text(what: &[u8], text: &[u8], r: Refusal) {
     refused(what, r);
     if text.len() <= 4096 {
-        note_marked(text, r.place);
+        note_marked(text, r.place, r.extent);
     }
 }
 

@@ -61,7 +61,11 @@ module _ {names : ℕ} {tree : List ℕ} {a : Alternatives} (h : Holds tree name
   unfolding Comes RefusedWith flagOrder after
   short-flags l e =
       let f = count-needed in
-      rw e (record { outcome = inl (refl, record { given = omega arith; there = f }); memory = refl })
+      rw e
+      (record {
+        outcome = record { by = inl (refl, record { given = omega arith; there = f }); bare = refl };
+        memory = refl;
+      })
 
   pub flags-delivered : {flags flags′ : List ℕ} → a .count ≤ length flags
       → Flagged names (ownAt tree names) flags flags′ → Reports names tree flags flags′ (Done (a .count))

@@ -1,6 +1,5 @@
 // Dachsmond, the program: counts patterns of pin events in a trace. Here stand the commands with the words that they
-// expect. What a command prints of an answer is made by one call of the library; here are arguments, files and
-// complaints.
+// expect. What a command prints of an answer is made by a call of `jobs`; here are arguments, files and complaints.
 mod texts;
 
 use complaints::unfit;

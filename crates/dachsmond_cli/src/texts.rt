@@ -1,5 +1,4 @@
-// What is asked of one text: `list`, `values`, `rewrite`. Each text that is printed is made by a call
-// of `row_listings` or `alternative_listings`.
+// What is asked of one text: `list`, `values`, `rewrite`. Each text that is printed is made by a call of `jobs`.
 use crate::LIST;
 use crate::VALUES;
 use alternative_listings::texts::alternatives_text;

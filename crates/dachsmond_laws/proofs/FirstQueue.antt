@@ -49,7 +49,7 @@ module _ (q : Queue) (e : EmptyQueue q) where
       push-reliable names tree q row .done-zero h
       (λ g d.
       refused-passed (pushOrder names tree (queueOf q) row) _ _ (codes-passed row f handed s)
-      (subst (Pushes names tree (queueOf q) row) d (h .is-allowed) .comes .0))
+      (subst (Pushes names tree (queueOf q) row) d (h .is-allowed) .comes .0 .by))
 
   pub empty-queue-listed : (names : ℕ) (tree steps tests edges operands row : List ℕ) (r : Pushed)
       → AcceptedAlternatives names tree steps tests edges operands → RowFits names (length row) → Codes row
@@ -62,4 +62,4 @@ module _ (q : Queue) (e : EmptyQueue q) where
       (λ g d.
       refused-passed (listed.pushOrder names tree steps tests edges operands (queueOf q) row) _ _
       (codes-passed row f handed s)
-      (subst (ListedPushes names tree steps tests edges operands (queueOf q) row) d (h .is-allowed) .comes .0))
+      (subst (ListedPushes names tree steps tests edges operands (queueOf q) row) d (h .is-allowed) .comes .0 .by))

@@ -104,7 +104,7 @@ of-expression {names} {text} {sort} n =
     reliable kinds.expressions _ _ (λ a x. parts x) (λ f. refl) (n .in-table) (λ f x. tt)
   where
     parts : {a : Read} → texts.ReadsText names text sort a → Parts kinds.expressions a
-    parts (texts.refused m p h) = inl (refusal m p, refl)
+    parts (texts.refused f h) = inl (f, refl)
     parts (texts.read a g) = inr refl
 
 reading-parts : (a : Reading) → Parts kinds.readings a

@@ -55,7 +55,7 @@ pub read-trace-reliable : (file names times states names′ times′ states′ :
 unfolding Reads
 read-trace-reliable file names times states names′ times′ states′ =
     of-reading (refused-numbers .read-trace file names times states names′ times′ states′)
-    (λ f x. (x .1 .names-kept, x .1 .times-kept, x .1 .states-kept))
+    (λ f x. (x .2 .names-kept, x .2 .times-kept, x .2 .states-kept))
 
 pub write-trace-reliable : (names times states : List ℕ) (n : ℕ) (out out′ : List ℕ)
     → Reliable outcomes (traces.Writes names times states n out out′) (λ r. out′ ≡ out)

@@ -1,6 +1,7 @@
 -- Demand 1 holds: each public call's promise, by the uniqueness of its contract. Main name: demand-1.
 use Rattle.names.proofs.Unique.{names-unique}
 use Rattle.reader.proofs.Unique.{read-unique}
+use Rattle.text_laws.proofs.ShownTexts.{refusal-shows}
 use Rattle.writer.proofs.Theorems as writing-laws
 use Rattle.trace_reader.specs.Reading.{Reads}
 use Rattle.trace_laws.proofs.RoundTrips as file-laws
@@ -27,6 +28,7 @@ demand-1 =
     record {
       check-names = λ names a b x y. names-unique names a b x y;
       read-expression = λ names text sort a b x y. read-unique x y;
+      read-shows = λ names text sort r h e. refusal-shows h e;
       write-expression = λ names tree sort out.
           record { one = λ a b m n x y. writing-laws.writes-unique x y; stays = λ r m x. x .memory };
       read-trace = λ file names times states.
@@ -34,7 +36,7 @@ demand-1 =
             one = λ a b m n x y.
                 let e = file-laws.reads-unique file names times states a b x y in
                 (e .answer, λ i. (e .names-now i, e .times-now i, e .states-now i));
-            stays = λ r m x. λ i. (x .1 .names-kept i, x .1 .times-kept i, x .1 .states-kept i);
+            stays = λ r m x. λ i. (x .2 .names-kept i, x .2 .times-kept i, x .2 .states-kept i);
           };
       write-trace = λ names times states n out.
           record {

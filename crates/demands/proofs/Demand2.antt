@@ -82,7 +82,8 @@ module _ {file text : List ℕ} (q : Question file text) where
   on-window a b l (told.Refused r) w =
       absurd
       (refused-passed _ _ _
-      (row-passed (q .states) (q .rows) (max a b) (lists-fit q) (tree-accepted q) (codes-good q) l) (w .comes))
+      (row-passed (q .states) (q .rows) (max a b) (lists-fit q) (tree-accepted q) (codes-good q) l)
+      (w .comes .by))
 
   -- By alternatives.
   by-alternatives : (i : ℕ) → i < q .rows → (y : Matching) → RowMatch k (q .rows) (treeOf q) (q .states) i y
@@ -106,7 +107,7 @@ module _ {file text : List ℕ} (q : Question file text) where
   all-rows (outcome.Refused r) a t w =
       absurd
       (refused-passed _ _ _ (codes-passed (q .states) ((a, t), lists-fit q) (tree-accepted q) (codes-good q))
-      (w .comes))
+      (w .comes .by))
 
   -- The totals.
   totals-right : (z : Counting) → RowTotals k (q .rows) (treeOf q) (q .states) z
@@ -120,7 +121,7 @@ module _ {file text : List ℕ} (q : Question file text) where
       (t, (refl, c, omega (arith, c .yeses, c .noes, c .unknowns, n)))
   totals-right (counting.Refused r) w =
       absurd
-      (refused-passed _ _ _ (codes-passed (q .states) (lists-fit q) (tree-accepted q) (codes-good q)) (w .comes))
+      (refused-passed _ _ _ (codes-passed (q .states) (lists-fit q) (tree-accepted q) (codes-good q)) (w .comes .by))
 
   -- The queue: the rows of the trace are pushed, the first into a queue that keeps nothing.
   rows-full : (i : ℕ) → i < q .rows → length (codesOf k (q .states) i) ≡ k

@@ -47,7 +47,7 @@ module _ {file text : List ℕ} (q : Question file text) where
         → Corrects q answers r new states′ answers′ o → o ≡ Done 1
     unfolding Comes
     correction-done (Done m) w = ap Done (w .comes .1)
-    correction-done (Refused e) w = absurd (refused-passed _ _ _ passed (w .comes))
+    correction-done (Refused e) w = absurd (refused-passed _ _ _ passed (w .comes .by))
 
   steps-is : stepsOf (expression (treeOf q) k) ≡ K q
   steps-is = ap stepsOf (tree-is q)

@@ -73,7 +73,7 @@ module _ {file text : List ℕ} (q : Question file text) where
     λ t h. (rw own-is at (contradicts-flag k (treeOf q) flags w t (rw own-is h))) ∙ flag-is _,
   )
   flagged flags flags′ (outcome.Refused e) l w =
-      absurd (refused-passed _ _ _ (flags-passed flags l) (w .outcome))
+      absurd (refused-passed _ _ _ (flags-passed flags l) (w .outcome .by))
 
   pub never-yes : (t i : ℕ) → contradictory k (getD (alternatives (q .pattern)) t []) ≡ true
       → atRow (stateAt k (q .states)) i (getD (alternatives (q .pattern)) t []) ≡ YES → ⊥

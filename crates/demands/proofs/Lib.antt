@@ -8,5 +8,6 @@ pub mod Flagging
 pub mod Demand2
 pub mod Values
 pub mod Demand3
+pub mod NumberLists
 pub mod Numbers
 pub mod Cases

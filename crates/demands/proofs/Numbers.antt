@@ -1,6 +1,5 @@
 -- The numbers of the public calls (specs/Numbers): their orders have document 01's numbers, and no contract allows a
 -- refusal with another; each is a number of the table, from 1 to 19.
---   one-passes         the law over a list: what each number of it passes, one among them passes
 --   numbers            the orders, by computation; that of trace writing by the number of rows
 --   by-order           a contract that tells a refusal by its order refuses with the order's numbers
 --   refused-numbers    the public calls
@@ -17,7 +16,7 @@ use Rattle.basics.specs.Words.{all}
 use Rattle.basics.proofs.Bools.{never, and-left, and-right}
 use Rattle.alf.specs.declared.Sort.{Sort}
 use Rattle.alf.specs.States.{among}
-use Rattle.alf.specs.Refusals.{Row, Order, check, numbersOf, RefusedBy, Comes}
+use Rattle.alf.specs.Refusals.{Row, Order, check, numbersOf, RefusedWith, RefusedBy, Comes}
 use Rattle.alf.proofs.Outcomes.{refused-among}
 use Rattle.tokens.specs.Texts as tokens
 use Rattle.reader.specs.declared.Read.{Read}
@@ -33,69 +32,15 @@ use Rattle.changes.specs.Call as changes
 use Rattle.rewriting_calls.specs.Calls as rewriting
 use Rattle.contradictions.specs.Calls as flagging
 use Rattle.row_calls.specs.Written.{Tells}
-use Rattle.matching_calls.specs.Matching.{Finds, Counts}
 use Rattle.queue_calls.specs.Pushing as pushing
 use Rattle.listed_calls.specs.Listed as listed
-use Rattle.matching_calls.specs.Matching.{expression}
+use Rattle.matching_calls.specs.Matching.{expression, Finds, Counts}
 use Rattle.tree_listings.specs.TreeTexts.{patternListing, totalsLine}
 use Rattle.activity.specs.Activity.{partOrder}
 use Rattle.demands.specs.Numbers.{traceNumbers, recordNumbers, roomNumbers, fileNumbers, rowByRow, inTable}
 use Rattle.demands.specs.Numbers.{partNumbers, Numbers, Refuses, RefusedNumbers}
-
--- Lists of numbers.
-pub one-passes : (p : ℕ → Bool) (ns : List ℕ) (n : ℕ) → all p ns ≡ true → among n ns ≡ true → p n ≡ true
-unfolding all among
-one-passes p [] n a m = never m
-one-passes p (k ∷ ns) n a m =
-    go (eqb n k) refl (one-passes p ns n (and-right (p k) (all p ns) a)) m
-  where
-    go : (q : Bool) → eqb n k ≡ q → (among n ns ≡ true → p n ≡ true) → (q || among n ns) ≡ true → p n ≡ true
-    go true e f h = rw (eqb-true n k e) (and-left (p k) (all p ns) a)
-    go false e f h = f h
-
-numbers-both : (o o′ : Order) → numbersOf (o ++ o′) ≡ numbersOf o ++ numbersOf o′
-unfolding numbersOf
-numbers-both [] o′ = refl
-numbers-both (c ∷ o) o′ = ap (λ ns. c .number ∷ ns) (numbers-both o o′)
-
--- Trace writing: row by row.
-one-more-row : (n : ℕ) → rowByRow n ++ (13 ∷ 15 ∷ []) ≡ rowByRow (suc n)
-unfolding rowByRow
-one-more-row zero = refl
-one-more-row (suc n) = ap (λ ns. 13 ∷ 15 ∷ ns) (one-more-row n)
-
-rows-numbers : (k : ℕ) (times states : List ℕ) (first n : ℕ)
-    → numbersOf (files.rowsOrder k times states first n) ≡ rowByRow n
-unfolding numbersOf files.rowsOrder rowByRow
-rows-numbers k times states first zero = refl
-rows-numbers k times states first (suc n) =
-    numbers-both (files.rowsOrder k times states first n) _
-    ∙ ap (λ ns. ns ++ (13 ∷ 15 ∷ [])) (rows-numbers k times states first n)
-    ∙ one-more-row n
-
-rows-in-table : (n : ℕ) → all inTable (rowByRow n ++ (9 ∷ [])) ≡ true
-unfolding all inTable rowByRow
-rows-in-table zero = refl
-rows-in-table (suc n) = rows-in-table n
-
--- A file's record, by its mark.
-record-numbers : (file : List ℕ) (k r : ℕ) (m : Mark) → numbersOf (markedOrder file k r m) ≡ recordNumbers m
-unfolding numbersOf contents recordNumbers
-record-numbers file k r mark.Name = refl
-record-numbers file k r mark.Row = refl
-record-numbers file k r mark.End = refl
-record-numbers file k r mark.Other = refl
-
-of-a-file : (m : Mark) → all (λ n. among n fileNumbers) (recordNumbers m) ≡ true
-unfolding all among recordNumbers
-of-a-file mark.Name = refl
-of-a-file mark.Row = refl
-of-a-file mark.End = refl
-of-a-file mark.Other = refl
-
-of-its-room : all (λ n. among n fileNumbers) roomNumbers ≡ true
-unfolding all among
-of-its-room = refl
+use Rattle.demands.proofs.NumberLists.{one-passes, numbers-both, rows-numbers, rows-in-table}
+use Rattle.demands.proofs.NumberLists.{record-numbers, of-a-file, of-its-room}
 
 -- what is asked of a trace in lists, then 9
 trace-numbers : (names times states : List ℕ) (n : ℕ) (row : Row)
@@ -160,17 +105,22 @@ module _ {R : Type 0} {refused : Refusal → R} {allows : R → Type 0} where
       → ((r : Refusal) → allows (refused r) → among (r .number) ns ≡ true) → Refuses refused allows ns
   refuses ns a m = record { one-of = m; in-table = λ r x. one-in-table ns (r .number) a (m r x) }
 
+  by-rows : (o : Order) {ns : List ℕ} → numbersOf o ≡ ns → all inTable ns ≡ true
+      → ((r : Refusal) → allows (refused r) → RefusedWith o (r .number) (r .place)) → Refuses refused allows ns
+  by-rows o {ns} e a reason =
+      refuses ns a (λ r x. ap (among (r .number)) (sym e) ∙ refused-among o (r .number) (r .place) (reason r x))
+
   pub by-order : (o : Order) {ns : List ℕ} → numbersOf o ≡ ns → all inTable ns ≡ true
       → ((r : Refusal) → allows (refused r) → RefusedBy o r) → Refuses refused allows ns
-  by-order o {ns} e a reason =
-      refuses ns a (λ r x. ap (among (r .number)) (sym e) ∙ refused-among o (r .number) (r .place) (reason r x))
+  by-order o e a reason = by-rows o e a (λ r x. reason r x .by)
 
 -- the two calls that read tell their refusals in their own words
 text-refused : (names text : List ℕ) (sort : Sort) {x : Read} (r : Refusal) → texts.ReadsText names text sort x
-    → x ≡ refusedBy r → RefusedBy (texts.readOrder names text sort) r
+    → x ≡ refusedBy r → RefusedWith (texts.readOrder names text sort) (r .number) (r .place)
 unfolding made refusedBy
-text-refused names text sort r (texts.refused n p h) e =
-    subst (RefusedBy (texts.readOrder names text sort)) (ap (λ (x : Read). x .refusal) e) h
+text-refused names text sort r (texts.refused q h) e =
+    subst (λ (f : Refusal). RefusedWith (texts.readOrder names text sort) (f .number) (f .place))
+    (ap (λ (x : Read). x .refusal) e) (h .by)
 text-refused names text sort r (texts.read a g) e = never (ap (λ (x : Read). x .refused) e)
 
 file-refused : {file names times states : List ℕ} (n p : ℕ)
@@ -191,7 +141,7 @@ refused-numbers =
     record {
       check-names = λ names. by-order _ (numbers .check-names names) refl (λ r x. x);
       read-expression = λ names text sort.
-          by-order _ (numbers .read-expression names text sort) refl (λ r x. text-refused names text sort r x refl);
+          by-rows _ (numbers .read-expression names text sort) refl (λ r x. text-refused names text sort r x refl);
       write-expression = λ names tree sort out out′.
           by-order _ (numbers .write-expression names tree sort _) refl (λ r x. x .outcome);
       read-trace = λ file names times states names′ times′ states′.

@@ -30,7 +30,7 @@ module _ {file text : List ℕ} (q : Formula file text) where
   value-at i (Refused e) l w =
       absurd
       (refused-passed _ _ _ (row-passed (q .states) (q .rows) i (lists-fit q) (tree-accepted q) (codes-good q) l)
-      (w .comes))
+      (w .comes .by))
 
   state-at : (i : ℕ) (r : Outcome) → i < q .rows → RowState k (q .rows) (treeOf q) (q .states) i r
       → r ≡ Done (stateOf q i)
@@ -40,7 +40,7 @@ module _ {file text : List ℕ} (q : Formula file text) where
   state-at i (Refused e) l w =
       absurd
       (refused-passed _ _ _ (row-passed (q .states) (q .rows) i (lists-fit q) (tree-accepted q) (codes-good q) l)
-      (w .comes))
+      (w .comes .by))
 
   all-values : (out out′ : List ℕ) (r : Outcome) → length out ≡ q .rows
       → AllValues k (q .rows) (treeOf q) (q .states) out out′ r
@@ -52,7 +52,7 @@ module _ {file text : List ℕ} (q : Formula file text) where
   )
   all-values out out′ (Refused r) e w =
       absurd
-      (refused-passed _ _ _ (codes-passed (q .states) (e, lists-fit q) (tree-accepted q) (codes-good q)) (w .comes))
+      (refused-passed _ _ _ (codes-passed (q .states) (e, lists-fit q) (tree-accepted q) (codes-good q)) (w .comes .by))
 
   pub demand-2-values : Demand2Values q
   demand-2-values =

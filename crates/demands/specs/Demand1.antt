@@ -4,11 +4,15 @@
 -- contract says, is what the proof of its function says; each contract is here under the name that the function has it.
 --   Demand1      what is promised of every public call
 use Prim.Native.Nat.{ℕ}
+use mathlib.Core.Path.{_≡_}
+use mathlib.Core.Bool.{true}
 use mathlib.Core.List.{List}
 use Rattle.alf.specs.declared.Sort.{Sort}
 use Rattle.basics.specs.declared.Outcome.the-variants.{Refused}
 use Rattle.names.specs.Check.{ChecksNames}
+use Rattle.reader.specs.declared.Read.{Read}
 use Rattle.reader.specs.Reading.{ReadsText}
+use Rattle.text_laws.specs.Shown.{ShownAs}
 use Rattle.writer.specs.Writing as writing
 use Rattle.trace_reader.specs.declared.Reading.the-variants as reading
 use Rattle.trace_reader.specs.Reading.{Reads}
@@ -34,6 +38,9 @@ pub record Demand1 : Type 0 where
   -- texts
   pub check-names : (names : List ℕ) → One (ChecksNames names)
   pub read-expression : (names text : List ℕ) (sort : Sort) → One (ReadsText names text sort)
+  -- document 02, [4]: a text that is refused shows what is refused
+  pub read-shows : (names text : List ℕ) (sort : Sort) (r : Read) → ReadsText names text sort r → r .refused ≡ true
+      → ShownAs text (r .refusal .number) (r .refusal .place) (r .refusal .extent)
   pub write-expression : (names tree : List ℕ) (sort : Sort) (out : List ℕ)
       → Promised Refused (λ r m. writing.Writes names tree sort out m r) out
   -- trace files, and the changes of a row

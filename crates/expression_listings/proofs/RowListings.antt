@@ -20,11 +20,11 @@ use Rattle.basics.specs.Words.{listed}
 use Rattle.alf.specs.Expressions.{boolean, vector, Over, ExpressionOver}
 use Rattle.alf.specs.Decoder.{topBoolean, topVector, Decodes}
 use Rattle.alf.specs.Values.{rowOf, valueAt}
-use Rattle.alf.specs.Refusals.{Order, check, bad-lists, bad-code, no-room, RefusedWith, Passed, Comes}
+use Rattle.alf.specs.Refusals.{Order, check, bad-lists, bad-code, no-room, RefusedWith, RefusedBy, Passed, Comes}
 use Rattle.basics.proofs.Bools.{below?}
 use Rattle.alf.proofs.Decoding.{decode-over}
 use Rattle.basics.proofs.Listed.{listed-length}
-use Rattle.alf.proofs.Orders.{none-first, refused-first}
+use Rattle.alf.proofs.Orders.{none-first, by-first}
 use Rattle.trees.specs.Parts.{booleanAt, vectorAt}
 use Rattle.acceptance.specs.Accepted.{Accepted}
 use Rattle.acceptance.proofs.Acceptance.{decoded, accepted-decodes}
@@ -53,6 +53,9 @@ module _ (lent P Q : Type 0) (l : lent) (q : Q) (rest : Order) where
   lent-refused n p (inr (k, inl (e, h))) = absurd (h .given q)
   lent-refused n p (inr (k, inr (m, h))) = inr (lent-18 lent P k, h)
 
+  lent-by : {r : Refusal} → RefusedBy (order (lent × P) Q rest) r → RefusedBy (check 18 (bad-lists P) ∷ rest) r
+  lent-by h = record { by = lent-refused _ _ (h .by); bare = h .bare }
+
   lent-passed : Passed (order (lent × P) Q rest) → Passed (check 18 (bad-lists P) ∷ rest)
   unfolding Passed
   lent-passed (k, (m, h)) = (lent-18 lent P k, h)
@@ -61,7 +64,7 @@ module _ (lent P Q : Type 0) (l : lent) (q : Q) (rest : Order) where
       → Comes (check 18 (bad-lists P) ∷ rest) made r
   unfolding Comes
   lent-comes made (Done m) (h, e) = (lent-passed h, e)
-  lent-comes made (Refused r) h = lent-refused _ _ h
+  lent-comes made (Refused r) h = lent-by h
 
 -- what an accepted tree is, by its sort
 pub tree-vector : (k : ℕ) (times states tree : List ℕ) → Accepted k the-sort.Vector tree
@@ -127,25 +130,31 @@ recorded states s i = go (below? i (length states))
 module _ (k : ℕ) (tree times states values : List ℕ) (lent : Type 0)
     (e : length values ≡ length times) (good : Codes states → (i : ℕ) → i < length values → getD values i 0 ≤ 7)
   where
+    refused-as : (room : ℕ) → Passed (calls.rowsOrder k (length times) lent tree the-sort.Boolean states)
+        → (i j : ℕ) → RefusedWith (listOrder times values room) i j
+        → RefusedWith (rowsOrder k times states (check 9 (no-room (length (valuesListing times values)) room) ∷ [])) i j
+    unfolding Passed RefusedWith
+    refused-as room (n, (m, (s, u))) i j (inl (x, a)) =
+        absurd
+        (n 0
+        (record { given = λ w. a .given (record { rows = w .1 .row-count; same = e }); there = refl }))
+    refused-as room (n, (m, (s, u))) i j (inr (b, inl (x, a))) =
+        let h = good (codes-good states s) j (a .given .0) in
+        let g = a .given .1 in
+        absurd (omega arith)
+    refused-as room (n, (m, (s, u))) i j (inr (b, inr (c, inl (x, a)))) =
+        inr (lent-18 lent _ n, inr (s, inl (x, a)))
+    refused-as room (n, (m, (s, u))) i j (inr (b, inr (c, inr (d, h)))) = absurd h
+
     listed-as : (room : ℕ) → Passed (calls.rowsOrder k (length times) lent tree the-sort.Boolean states)
         → (o : Outcome)
         → Comes (listOrder times values room) (λ m. m ≡ length (valuesListing times values)) o
         → Comes (rowsOrder k times states (check 9 (no-room (length (valuesListing times values)) room) ∷ []))
         (λ m. m ≡ length (valuesListing times values)) o
-    unfolding Comes Passed RefusedWith
+    unfolding Comes Passed
     listed-as room (n, (m, (s, u))) (Done j) ((a, (b, (c, d))), z) =
         ((lent-18 lent _ n, (s, (c, tt))), z)
-    listed-as room (n, (m, (s, u))) (Refused r) (inl (x, a)) =
-        absurd
-        (n 0
-        (record { given = λ w. a .given (record { rows = w .1 .row-count; same = e }); there = refl }))
-    listed-as room (n, (m, (s, u))) (Refused r) (inr (b, inl (x, a))) =
-        let h = good (codes-good states s) (r .place) (a .given .0) in
-        let g = a .given .1 in
-        absurd (omega arith)
-    listed-as room (n, (m, (s, u))) (Refused r) (inr (b, inr (c, inl (x, a)))) =
-        inr (lent-18 lent _ n, inr (s, inl (x, a)))
-    listed-as room (n, (m, (s, u))) (Refused r) (inr (b, inr (c, inr (d, h)))) = absurd h
+    listed-as room q (Refused r) h = record { by = refused-as room q _ _ (h .by); bare = h .bare }
 
 module _ {k : ℕ} {tree times states codes codes′ : List ℕ} {o : Outcome}
     (accepted : Accepted k the-sort.Boolean tree) (size : length codes ≡ length times)
@@ -156,8 +165,8 @@ module _ {k : ℕ} {tree times states codes codes′ : List ℕ} {o : Outcome}
   states-refused {out} {r} e =
       record {
         outcome =
-            refused-first (rowsOrder k times states []) _ _ _
-            (lent-refused (length codes ≡ length times) _ _ size accepted _ _ _ (rw e at (h .comes)));
+            by-first (rowsOrder k times states []) _
+            (lent-by (length codes ≡ length times) _ _ size accepted _ (rw e at (h .comes)));
         memory = refl;
       }
 
@@ -191,6 +200,10 @@ unfolding Comes RefusedWith after
 too-many lent e l h =
     rw h
     (record {
-      outcome = inl (refl, record { given = λ w. omega (arith, e, l, w .row-count .1); there = refl });
+      outcome =
+          record {
+            by = inl (refl, record { given = λ w. omega (arith, e, l, w .row-count .1); there = refl });
+            bare = refl;
+          };
       memory = refl;
     })

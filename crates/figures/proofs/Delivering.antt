@@ -22,7 +22,11 @@ pub short : {w out : List ℕ} {k : ℕ} {r : Outcome} → k ≡ length w → le
     → r ≡ Refused (refusal 9 k) → Delivers w out out r
 unfolding Comes RefusedWith after
 short h k e =
-    rw e (record { outcome = inl (refl, record { given = omega (arith, h, k); there = h }); memory = refl })
+    rw e
+    (record {
+      outcome = record { by = inl (refl, record { given = omega (arith, h, k); there = h }); bare = refl };
+      memory = refl;
+    })
 
 pub delivered : {w out out′ : List ℕ} {k r : ℕ} → k ≡ length w → k ≤ length out → Put out 0 w out′ r
     → Delivers w out out′ (Done k)

@@ -19,10 +19,9 @@ use Rattle.alf.proofs.Totals.{totals-sum}
 use Rattle.matcher.specs.declared.tables.Total.{Total}
 use Rattle.matching_calls.specs.declared.matching.Counting.{Counting}
 use Rattle.matching_calls.specs.declared.matching.Counting.the-variants.{Counted, Refused}
-use Rattle.matching_calls.specs.Matching.{Counts}
 use Rattle.table_lines.specs.declared.lines.Sums.{Sums}
 use Rattle.jobs.specs.declared.sums.Adding.the-variants.{Added, Full}
-use Rattle.jobs.specs.Counting.{CountsText}
+use Rattle.jobs.specs.Counting.{CountsIn, CountsText}
 use Rattle.jobs.specs.Sums.{word, noSums, grown, fit, addedTo, addedAll, Modest, CountedOn}
 use Rattle.jobs.specs.Sums.{yesOf, unknownOf, noOf, patternOf, sumsOf}
 use Rattle.jobs.proofs.TextCounts.{counted-rows}
@@ -141,7 +140,7 @@ never-full {cs} n l k =
 -- the totals of a text on a trace of n rows are n-1 together
 pub counted-modest : {names : List ℕ} {n : ℕ} {states text : List ℕ} (c : Counting)
     → CountsText names n states text c → Modest c
-unfolding Counts yesOf unknownOf noOf
+unfolding CountsIn yesOf unknownOf noOf
 counted-modest {names} {n} {states} (Counted t) h =
     let (some, few) = counted-rows h in
     let k = h .comes .1 in

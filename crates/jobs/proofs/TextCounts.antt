@@ -9,16 +9,19 @@ use mathlib.Core.Bool.{true}
 use mathlib.Core.List.{List}
 use lib.ListN.{take}
 use Rattle.alf.specs.Names.{namesIn}
-use Rattle.basics.proofs.Refusals.{refusal-same}
-use Rattle.basics.specs.Refusing.{refusal}
+use Rattle.basics.specs.Words.{all}
+use Rattle.basics.specs.declared.Refusal.{Refusal}
 use Rattle.alf.specs.declared.Sort.the-variants as sort
 use Rattle.alf.specs.Decoder.{Decodes, topVector}
-use Rattle.alf.specs.Refusals.{RowCount, Passed}
+use Rattle.alf.specs.States.{among}
+use Rattle.alf.specs.Refusals.{RowCount, RefusedBy, Passed, numbersOf}
 use Rattle.alf.proofs.Outcomes.{at-fixed, first-fixed, refused-passed}
 use Rattle.basics.proofs.Stable.{le-stable}
-use Rattle.alf.proofs.Orders.{refused-first, refused-then, passed-both, passed-right}
+use Rattle.alf.proofs.Orders.{passed-both, passed-right}
 use Rattle.alf.proofs.Orders.{Sole, sole-both, sole-fixed}
 use Rattle.matcher.specs.declared.tables.Total.{Total}
+use Rattle.tokens.specs.Extents.{RefusedIn}
+use Rattle.tokens.proofs.ShownBytes.{in-first, in-then, in-silent, refused-in-unique}
 use Rattle.reader.specs.declared.Read.{Read}
 use Rattle.reader.specs.Reading.{readOrder, ReadsText}
 use Rattle.reader.proofs.Unique.{gives-unique}
@@ -27,7 +30,7 @@ use Rattle.matching_calls.specs.declared.matching.Counting.the-variants.{Counte
 use Rattle.matching_calls.specs.Matching.{expression, Counts, RowTotals}
 use Rattle.text_laws.proofs.ReadTrees.{Found, read-refused, read-sole, found-accepted, found-vector}
 use Rattle.text_laws.proofs.ReadTrees.{vector-given, vector-decodes}
-use Rattle.jobs.specs.Counting.{traceChecks, countOrder, TotalsText, CountsText}
+use Rattle.jobs.specs.Counting.{traceChecks, countOrder, TotalsText, CountsIn, CountsText}
 use Rattle.jobs.proofs.TextOrders.{passed-without-ten, refused-without-ten}
 
 tree-is : {names text : List ℕ} {r : Read} (f : Found names text sort.Vector r)
@@ -35,16 +38,22 @@ tree-is : {names text : List ℕ} {r : Read} (f : Found names text sort.Vector r
 unfolding Decodes topVector
 tree-is f = ap topVector (vector-decodes f)
 
+-- 18 and 15 of the trace show no bytes of the text
+trace-refused : (k n : ℕ) (states text : List ℕ) {q : Refusal} → RefusedBy (traceChecks k n states) q
+    → RefusedIn text (traceChecks k n states) q
+unfolding all numbersOf among
+trace-refused k n states text h = in-silent text (traceChecks k n states) refl h
+
 module _ {names : List ℕ} {n : ℕ} {states text : List ℕ} {r : Read} where
   pub text-refused : ReadsText names text sort.Vector r → r .refused ≡ true
       → CountsText names n states text (Refused (r .refusal))
-  unfolding Counts
-  text-refused h e = record { comes = refused-first (readOrder names text sort.Vector) _ _ _ (read-refused h e) }
+  unfolding CountsIn
+  text-refused h e = record { comes = in-first text (readOrder names text sort.Vector) _ (read-refused h e) }
 
   module _ (f : Found names text sort.Vector r) where
     counted : (c : Counting) → RowTotals (namesIn names) n (take (r .len) (r .tree)) states c
         → CountsText names n states text c
-    unfolding Counts
+    unfolding Counts CountsIn
     counted (Counted t) h =
         let (a, b) = h .comes in
         record {
@@ -57,8 +66,8 @@ module _ {names : List ℕ} {n : ℕ} {states text : List ℕ} {r : Read} where
     counted (Refused q) h =
         record {
           comes =
-              refused-then (readOrder names text sort.Vector) _ _ _ (f .passed)
-              (refused-without-ten _ _ _ (found-accepted f) _ _ (h .comes));
+              in-then text (readOrder names text sort.Vector) _ (f .passed)
+              (trace-refused _ n states text (refused-without-ten _ _ _ (found-accepted f) (h .comes)));
         }
 
     pub tree-counted : {c : Counting} → RowTotals (namesIn names) n (take (r .len) (r .tree)) states c
@@ -68,7 +77,7 @@ module _ {names : List ℕ} {n : ℕ} {states text : List ℕ} {r : Read} where
 -- 18 is not given
 pub counted-rows : {names : List ℕ} {n : ℕ} {states text : List ℕ} {t : Total}
     → CountsText names n states text (Counted t) → RowCount n
-unfolding Counts Passed
+unfolding CountsIn Passed
 counted-rows {names} {n} {states} {text} h =
     let p : Passed (traceChecks (namesIn names) n states) =
     passed-right (readOrder names text sort.Vector) _ (h .comes .0) in (
@@ -94,17 +103,16 @@ module _ (names : List ℕ) (n : ℕ) (states text : List ℕ) where
       (read-sole names text sort.Vector)
       (sole-fixed (traceChecks (namesIn names) n states) (at-fixed _ _, (first-fixed _, tt)))
 
-  counts-one : (a b : Counting) → Counts (countOrder names n states text) (TotalsText names n states text) a
-      → Counts (countOrder names n states text) (TotalsText names n states text) b
+  counts-one : (a b : Counting) → CountsIn text (countOrder names n states text) (TotalsText names n states text) a
+      → CountsIn text (countOrder names n states text) (TotalsText names n states text) b
       → a ≡ b
-  unfolding Counts
+  unfolding CountsIn
   counts-one (Counted t) (Counted u) x y =
       let e = totals-unique (x .1) (y .1) in λ i. Counted (record { yes = e .0 i; no = e .1 i; unknown = e .2 i })
-  counts-one (Counted t) (Refused s) x y = absurd (refused-passed (countOrder names n states text) _ _ (x .0) y)
-  counts-one (Refused r) (Counted u) x y = absurd (refused-passed (countOrder names n states text) _ _ (y .0) x)
+  counts-one (Counted t) (Refused s) x y = absurd (refused-passed (countOrder names n states text) _ _ (x .0) (y .by))
+  counts-one (Refused r) (Counted u) x y = absurd (refused-passed (countOrder names n states text) _ _ (y .0) (x .by))
   counts-one (Refused r) (Refused s) x y =
-      let e = count-sole (r .number) (s .number) (r .place) (s .place) x y in
-      ap Refused (refusal-same e)
+      ap Refused (refused-in-unique text (countOrder names n states text) count-sole x y)
 
 pub counts-unique : {names : List ℕ} {n : ℕ} {states text : List ℕ} {a b : Counting}
     → CountsText names n states text a → CountsText names n states text b → a ≡ b

@@ -3,7 +3,8 @@
 use Prim.Native.Nat.{ℕ}
 use mathlib.Core.Logic.{inl, inr}
 use mathlib.Core.List.{_∷_}
-use Rattle.alf.specs.Refusals.{Order, check, bad-lists, RefusedWith, Passed}
+use Rattle.basics.specs.declared.Refusal.{Refusal}
+use Rattle.alf.specs.Refusals.{Order, check, bad-lists, RefusedWith, RefusedBy, Passed}
 use Rattle.judging.specs.Orders.{order}
 
 -- 18, 10 and what comes then, where what 10 asks for is good
@@ -12,9 +13,11 @@ module _ (P Q : Type 0) (rest : Order) (good : Q) where
   unfolding Passed
   passed-without-ten (a, (b, c)) = (a, c)
 
-  pub refused-without-ten : (n p : ℕ) → RefusedWith (order P Q rest) n p
-      → RefusedWith (check 18 (bad-lists P) ∷ rest) n p
+  without-ten : (n p : ℕ) → RefusedWith (order P Q rest) n p → RefusedWith (check 18 (bad-lists P) ∷ rest) n p
   unfolding RefusedWith
-  refused-without-ten n p (inl x) = inl x
-  refused-without-ten n p (inr (m, inl x)) = absurd (x .1 .given good)
-  refused-without-ten n p (inr (m, inr (l, x))) = inr (m, x)
+  without-ten n p (inl x) = inl x
+  without-ten n p (inr (m, inl x)) = absurd (x .1 .given good)
+  without-ten n p (inr (m, inr (l, x))) = inr (m, x)
+
+  pub refused-without-ten : {r : Refusal} → RefusedBy (order P Q rest) r → RefusedBy (check 18 (bad-lists P) ∷ rest) r
+  refused-without-ten h = record { by = without-ten _ _ (h .by); bare = h .bare }

@@ -4,7 +4,7 @@
 --   countOrder     18 and 12 of the names, 1 to 8 of the text; then 18 and 15 of the trace. 10 is not among them: the
 --                  tree comes from a text, so it is accepted
 --   TotalsText     the totals of the pattern that the text gives
---   CountsText     what the call comes to
+--   CountsIn, CountsText     what the call comes to
 use Prim.Native.Nat.{ℕ}
 use mathlib.Core.List.{List, [], _∷_, _++_}
 use lib.ListN.{length}
@@ -13,11 +13,12 @@ use Rattle.alf.specs.declared.Sort.the-variants as sort
 use Rattle.alf.specs.Expressions.{Vector, vector}
 use Rattle.alf.specs.Values.{stateAt}
 use Rattle.alf.specs.Traces.{Totals}
-use Rattle.alf.specs.Refusals.{Order, check, bad-lists, bad-code}
+use Rattle.alf.specs.Refusals.{Order, check, bad-lists, bad-code, Passed}
+use Rattle.tokens.specs.Extents.{RefusedIn}
 use Rattle.reader.specs.Reading.{readOrder, Gives}
 use Rattle.matching_calls.specs.declared.matching.Counting.{Counting}
+use Rattle.matching_calls.specs.declared.matching.Counting.the-variants.{Counted, Refused}
 use Rattle.judging.specs.Orders.{Rows}
-use Rattle.matching_calls.specs.Matching.{Counts}
 
 -- 18 and 15 of a trace of n rows
 abbrev pub traceChecks : ℕ → ℕ → List ℕ → Order
@@ -32,6 +33,10 @@ pub record TotalsText (names : List ℕ) (n : ℕ) (states text : List ℕ) (yes
   pub given : Gives names text sort.Vector (vector pattern)
   pub totals : Totals (stateAt (namesIn names) states) pattern n yes no unknown
 
--- counted, where no row of the order holds; else refused
+-- counted, where no row of the order holds; else refused, and what is refused of the text is shown
+unfoldable pub CountsIn : List ℕ → Order → (ℕ → ℕ → ℕ → Type 0) → Counting → Type 0
+CountsIn text o right (Counted t) = Passed o × right (t .yes) (t .no) (t .unknown)
+CountsIn text o right (Refused r) = RefusedIn text o r
+
 pub record CountsText (names : List ℕ) (n : ℕ) (states text : List ℕ) (r : Counting) : Type 0 where
-  pub comes : Counts (countOrder names n states text) (TotalsText names n states text) r
+  pub comes : CountsIn text (countOrder names n states text) (TotalsText names n states text) r

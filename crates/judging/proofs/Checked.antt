@@ -16,6 +16,7 @@ use Rattle.basics.specs.declared.Refusal.{Refusal}
 use Rattle.basics.specs.Refusing.{refusal}
 use Rattle.alf.specs.declared.Sort.{Sort}
 use Rattle.alf.specs.Refusals.{RefusedWith, Passed}
+use Rattle.alf.proofs.Orders.{plainly}
 use Rattle.acceptance.specs.Accepted.{Accepted}
 use Rattle.basics.specs.Deciding.{Decides}
 use Rattle.states.specs.FirstBadCode.{FirstBad}
@@ -33,7 +34,7 @@ module _ (number : ℕ) {good : Bool} where
   pub test-fails : {r : Refusal} → (good ≡ true → ⊥) → r ≡ refusal number 0
       → Judged (test number good) (good ≡ true) (Refused r)
   unfolding RefusedWith
-  test-fails h e = rw e (refuses (inl (refl, record { given = h; there = refl })))
+  test-fails h e = rw e (refuses (plainly _ _ 0 (inl (refl, record { given = h; there = refl }))))
 
   pub test-passes : good ≡ true → Judged (test number good) (good ≡ true) Good
   unfolding Passed
@@ -43,7 +44,7 @@ module _ {states : List ℕ} {bad : ℕ} (b : FirstBad states bad) where
   pub codes-15 : {r : Refusal} → bad < length states → r ≡ refusal 15 bad
       → Judged (codes states) (Codes states) (Refused r)
   unfolding RefusedWith
-  codes-15 h e = rw e (refuses (inl (refl, bad-given b h)))
+  codes-15 h e = rw e (refuses (plainly _ 15 bad (inl (refl, bad-given b h))))
 
   pub codes-good : length states ≤ bad → Judged (codes states) (Codes states) Good
   unfolding Passed
@@ -52,7 +53,7 @@ module _ {states : List ℕ} {bad : ℕ} (b : FirstBad states bad) where
 module _ (n row : ℕ) where
   pub place-19 : {r : Refusal} → n ≤ row → r ≡ refusal 19 0 → Judged (place n row) (row < n) (Refused r)
   unfolding RefusedWith
-  place-19 h e = rw e (refuses (inl (refl, record { given = h; there = refl })))
+  place-19 h e = rw e (refuses (plainly _ _ 0 (inl (refl, record { given = h; there = refl }))))
 
   pub place-good : row < n → Judged (place n row) (row < n) Good
   unfolding Passed

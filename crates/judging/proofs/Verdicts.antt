@@ -12,7 +12,7 @@ use Prim.Native.Nat.{ℕ}
 use Rattle.basics.specs.declared.Refusal.{Refusal}
 use Rattle.alf.specs.Refusals.{At, Order, RefusedWith, RefusedBy, Passed}
 use Rattle.basics.specs.Deciding.{Decides}
-use Rattle.alf.proofs.Orders.{refused-first, refused-then, passed-both}
+use Rattle.alf.proofs.Orders.{by-first, by-then, passed-both}
 use Rattle.judging.specs.declared.checks.Verdict.{Verdict}
 use Rattle.judging.specs.declared.checks.Verdict.the-variants.{Good, Refused}
 use Rattle.judging.specs.Orders.{order, Judged, passes, refuses, nextOf, Judges}
@@ -60,7 +60,7 @@ module _ (fits good : Bool) (P Q : Type 0) (p : Decides fits P) (q : P → Decid
       let x = told fits p f in
       let y = told good (q x) g in
       passes (λ k c. c .given x, (λ k c. c .given y, rests)) (x, y, facts)
-  judged-as rest (refuses h) = refuses (refused-as rest _ _ h)
+  judged-as rest (refuses h) = refuses (record { by = refused-as rest _ _ (h .by); bare = h .bare })
 
 -- lists that are good in the same cases
 module _ {P P′ : Type 0} (f : P → P′) (g : P′ → P) where
@@ -76,15 +76,15 @@ module _ {P P′ : Type 0} (f : P → P′) (g : P′ → P) where
   unfolding Passed
   lists-as (passes (n, h) (x, y, z)) =
       passes (λ k c. n k (record { given = λ x. c .given (f x); there = c .there }), h) (f x, y, z)
-  lists-as (refuses h) = refuses (lists-refused _ _ _ _ h)
+  lists-as (refuses h) = refuses (record { by = lists-refused _ _ _ _ (h .by); bare = h .bare })
 
 -- two verdicts, one after the other: their orders are appended
 pub judged-next : {o o′ : Order} {F G : Type 0} {v w : Verdict} → Judged o F v → Judged o′ G w
     → Judged (o ++ o′) (F × G) (nextOf v w)
 unfolding nextOf
 judged-next {o} {o′} (passes p f) (passes q g) = passes (passed-both o o′ p q) (f, g)
-judged-next {o} {o′} (passes p f) (refuses h) = refuses (refused-then o o′ _ _ p h)
-judged-next {o} {o′} (refuses h) w = refuses (refused-first o o′ _ _ h)
+judged-next {o} {o′} (passes p f) (refuses h) = refuses (by-then o o′ p h)
+judged-next {o} {o′} (refuses h) w = refuses (by-first o o′ h)
 
 -- the facts told in other words
 pub judged-facts : {o : Order} {F G : Type 0} {v : Verdict} → (F → G) → Judged o F v → Judged o G v

@@ -45,7 +45,8 @@ module _ {k n : ℕ} {states : List ℕ} {row : ℕ} {new : List ℕ} {v : Verdi
   pub stored-refused : {r : Refusal} → v ≡ Refused r → Stores k n states row new states (outcome.Refused r)
   unfolding Comes after
   stored-refused {r} e =
-      record { comes = only-rest _ (r .number) (r .place) (judged-not (j .is) e); memory = refl }
+      let h = judged-not (j .is) e in
+      record { comes = record { by = only-rest _ _ _ (h .by); bare = h .bare }; memory = refl }
 
   pub row-fits : v ≡ Good → row * k + k ≤ length states
   row-fits e =
@@ -66,7 +67,9 @@ module _ {k n : ℕ} {states : List ℕ} {row : ℕ} {letters : List ℕ} where
   pub letters-18 : {r : Outcome} → (LettersFit k n (length states) (length letters) → ⊥)
       → r ≡ outcome.Refused (refusal 18 0) → CorrectsLetters k n states row letters states r
   unfolding Comes RefusedWith after
-  letters-18 h e = rw e (record { comes = inl (refl, record { given = h; there = refl }); memory = refl })
+  letters-18 h e =
+      rw e
+      (record { comes = record { by = inl (refl, record { given = h; there = refl }); bare = refl }; memory = refl })
 
 comes-all : (k n : ℕ) (states : List ℕ) (row : ℕ) (letters : List ℕ)
     → LettersFit k n (length states) (length letters)
@@ -74,7 +77,8 @@ comes-all : (k n : ℕ) (states : List ℕ) (row : ℕ) (letters : List ℕ)
     → Comes (lettersOrder k n states row letters) (λ m. m ≡ 1) r
 unfolding Comes Passed RefusedWith
 comes-all k n states row letters f (outcome.Done m) x = ((λ p a. a .given f, x .0), x .1)
-comes-all k n states row letters f (outcome.Refused q) x = inr (λ p a. a .given f, x)
+comes-all k n states row letters f (outcome.Refused q) x =
+    record { by = inr (λ p a. a .given f, x .by); bare = x .bare }
 
 -- behind 18
 module _ {k n : ℕ} (states letters : List ℕ) (f : LettersFit k n (length states) (length letters)) where

@@ -18,14 +18,17 @@ module _ {names : ℕ} {tree steps tests edges operands : List ℕ} where
   pub fits-18 : {r : Outcome} → (NameCount names → ⊥) → r ≡ Refused (refusal 18 0)
       → ListedFits names tree steps tests edges operands r
   unfolding Comes RefusedWith
-  fits-18 h e = rw e (record { comes = inl (refl, record { given = h; there = refl }) })
+  fits-18 h e = rw e (record { comes = record { by = inl (refl, record { given = h; there = refl }); bare = refl } })
 
   pub fits-10 : {r : Outcome} → NameCount names → (AcceptedAlternatives names tree steps tests edges operands → ⊥)
       → r ≡ Refused (refusal 10 0)
       → ListedFits names tree steps tests edges operands r
   unfolding Comes RefusedWith
   fits-10 n h e =
-      rw e (record { comes = inr (λ p a. a .given n, inl (refl, record { given = h; there = refl })) })
+      rw e
+      (record {
+        comes = record { by = inr (λ p a. a .given n, inl (refl, record { given = h; there = refl })); bare = refl };
+      })
 
   pub fits-counted : NameCount names → AcceptedAlternatives names tree steps tests edges operands
       → ListedFits names tree steps tests edges operands (Done (length steps))

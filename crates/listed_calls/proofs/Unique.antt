@@ -4,10 +4,9 @@
 use mathlib.Core.Path.{_≡_, sym, ap, _∙_}
 use mathlib.Core.List.{List}
 use Prim.Native.Nat.{ℕ}
-use Rattle.basics.proofs.Refusals.{refusal-same}
 use Rattle.basics.specs.Refusing.{refusal}
 use Rattle.basics.specs.declared.Outcome.{Outcome}
-use Rattle.alf.proofs.Outcomes.{refused-passed, refused-unique}
+use Rattle.alf.proofs.Outcomes.{refused-passed, refused-by-unique}
 use Rattle.matcher.proofs.Unique.{matches-unique, totals-unique}
 use Rattle.queue.specs.declared.queues.Queue.{Queue}
 use Rattle.queue.proofs.Unique.{pushes-unique}
@@ -48,13 +47,12 @@ module _ (names : ℕ) (tree steps tests edges operands : List ℕ) (q : Queue) 
   takes-unique (Found m) (Found k) p r a b =
       let e = pushes-unique (a .1) (b .1) in (λ i. Found (record { answer = e .0 i; tries = e .1 i }), e .2)
   takes-unique (Found m) (Refused s) p r a b =
-      absurd (refused-passed (pushOrder names tree steps tests edges operands q row) _ _ (a .0) (b .0))
+      absurd (refused-passed (pushOrder names tree steps tests edges operands q row) _ _ (a .0) (b .0 .by))
   takes-unique (Refused s) (Found k) p r a b =
-      absurd (refused-passed (pushOrder names tree steps tests edges operands q row) _ _ (b .0) (a .0))
+      absurd (refused-passed (pushOrder names tree steps tests edges operands q row) _ _ (b .0) (a .0 .by))
   takes-unique (Refused s) (Refused t) p r a b =
       let o = pushOrder names tree steps tests edges operands q row in
-      let e = refused-unique o (codes-fixed _ _ row) (a .0) (b .0) in
-      (ap Refused (refusal-same e), a .1 ∙ sym (b .1))
+      (ap Refused (refused-by-unique o (codes-fixed _ _ row) (a .0) (b .0)), a .1 ∙ sym (b .1))
 
 pub listed-push-unique : {names : ℕ} {tree steps tests edges operands : List ℕ} {q : Queue} {row : List ℕ}
     {x y : Matching} {p r : Queue} → ListedPush names tree steps tests edges operands q row x p

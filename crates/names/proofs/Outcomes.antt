@@ -14,7 +14,7 @@ use Rattle.names.specs.Check.{Slots, namesOrder}
 module _ (names : List ℕ) (made : ℕ → Type 0) where
   pub names-18 : (Slots names → ⊥) → Comes (namesOrder names) made (Refused (refusal 18 0))
   unfolding Comes RefusedWith
-  names-18 bad = inl (refl, record { given = bad; there = refl })
+  names-18 bad = record { by = inl (refl, record { given = bad; there = refl }); bare = refl }
 
   module _ (slots : Slots names) where
     pub names-12 :
@@ -25,10 +25,14 @@ module _ (names : List ℕ) (made : ℕ → Type 0) where
         Comes (namesOrder names) made (Refused (refusal 12 i))
     unfolding Comes RefusedWith
     names-12 i l good bad =
-        inr (
-          (λ p r. r .given slots),
-          inl (refl, record { given = (l, bad); before = λ j h b. b .1 (good j h) }),
-        )
+        record {
+          by =
+              inr (
+                (λ p r. r .given slots),
+                inl (refl, record { given = (l, bad); before = λ j h b. b .1 (good j h) }),
+              );
+          bare = refl;
+        }
 
     pub names-done :
         (k : ℕ) →

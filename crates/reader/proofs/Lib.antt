@@ -2,6 +2,7 @@
 pub mod Trees
 pub mod Texts
 pub mod Faults
+pub mod ShownTokens
 pub mod Unknowns
 pub mod Readings
 pub mod TokenedTexts

@@ -132,7 +132,7 @@ pub limit-refused : {names text : List ℕ} {sort : Sort} {r : Read} → Unlimit
     → r .refused ≡ true
     → ReadsText names text sort r
 unfolding made refusedBy
-limit-refused (refused n p h) e = h
+limit-refused (refused f h) e = h
 limit-refused (unlimited k) e = never e
 
 pub record Left (names text : List ℕ) (sort : Sort) (r : Read) : Type 0 where
@@ -144,7 +144,7 @@ pub left-over : {names text : List ℕ} {sort : Sort} {r : Read} → Unlimited n
     → r .refused ≡ false
     → Left names text sort r
 unfolding made refusedBy
-left-over (refused n p h) e = never (sym e)
+left-over (refused f h) e = never (sym e)
 left-over (unlimited {x = x} k) e = record { it = x; clear = k; is-made = refl }
 
 module _ {names text : List ℕ} {sort : Sort} {r : Read} (l : Left names text sort r) where

@@ -28,8 +28,8 @@ pub text-refused :
     t .refused ≡ true →
     r ≡ refusedBy (t .refusal) →
     Unlimited names bytes sort r
-unfolding reading.made reading.refusedWith
-text-refused sort g (reading.refused n p h) o e = rw e (refused n p (tokens-refused _ _ sort g n p h))
+unfolding reading.made reading.refusedBy
+text-refused sort g (reading.refused f h) o e = rw e (refused f (tokens-refused _ _ sort g f h))
 text-refused sort g (reading.read h r) o e = never o
 
 pub tokened :
@@ -38,8 +38,8 @@ pub tokened :
     reading.Tokenized bytes t →
     t .refused ≡ false →
     Tokened names bytes t
-unfolding reading.made reading.refusedWith
-tokened g (reading.refused n p h) o = never (sym o)
+unfolding reading.made reading.refusedBy
+tokened g (reading.refused f h) o = never (sym o)
 tokened g (reading.read {ts = ts} h r) o = record { good = g; clear = h; tokens = ts; read = r; are = refl }
 
 -- the list of names: refused, or good
@@ -52,7 +52,7 @@ pub names-wrong :
 unfolding Comes
 names-wrong names bytes made sort {f = f} h e g =
     let k = rw e at h in subst (ReadsText names bytes sort) (sym g)
-    (names-refused names bytes sort (f .number) (f .place) k)
+    (names-refused names bytes sort f k)
 
 pub names-done :
     (names : List ℕ) (made : ℕ → Type 0) {o : Outcome} {n : ℕ} → Comes (namesOrder names) made o →

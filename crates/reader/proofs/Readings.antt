@@ -8,7 +8,7 @@ use Prim.Native.Nat.{ℕ}
 use lib.ListN.{length}
 use Rattle.alf.specs.declared.Sort.{Sort}
 use Rattle.alf.specs.Expressions.{Expression}
-use Rattle.alf.specs.Refusals.{RefusedWith, Passed}
+use Rattle.alf.specs.Refusals.{RefusedWith, RefusedBy, Passed, numbersOf}
 use Rattle.names.specs.Check.{namesOrder}
 use Rattle.tokens.specs.Texts.{Token, Reads, OfTokens, order}
 use Rattle.tokens.proofs.TextLaws.{reads-unique}
@@ -20,39 +20,58 @@ use Rattle.grammar.proofs.Unique.{parses-unique}
 use Rattle.sorting.specs.Lookup.{numberAt}
 use Rattle.sorting.specs.Sorts.{is, faulty}
 use Rattle.reader.specs.Texts.{tokensOf}
-use Rattle.reader.specs.Reads.{made, refusedWith}
+use Rattle.reader.specs.Reads.{made, refusedBy, refusedWith, refusedAt}
 use Rattle.reader.specs.Reading.{Unknown, unsorted, tooLarge, OfTree, stuck, unknown, sortedIn, faultsIn}
 use Rattle.reader.specs.Reading.{treeOrder, Gives, ReadsText, refused, read}
 use Rattle.reader.proofs.Faults.{call-agree, row-seven, seven-never}
-use Rattle.alf.proofs.Orders.{refused-first, refused-then, passed-both}
+use Rattle.alf.proofs.Orders.{passed-both}
+use Rattle.alf.specs.States.{among}
+use Rattle.basics.specs.Words.{all}
+use Rattle.basics.specs.Refusing.{refusalOver}
+use Rattle.basics.specs.declared.Refusal.{Refusal}
+use Rattle.tokens.specs.Extents.{Extent, other, RefusedIn}
+use Rattle.tokens.proofs.ShownBytes.{in-first, in-then, in-silent}
+use Rattle.reader.proofs.Texts.{nodes-inside}
+use Rattle.reader.proofs.ShownTokens.{At, Held, tokens-held, end-held, stuck-place, unknown-place}
+use Rattle.reader.proofs.ShownTokens.{call-within, within-at}
 
 module _ (names text : List ℕ) (sort : Sort) where
-  pub names-refused : (n p : ℕ) → RefusedWith (namesOrder names) n p → ReadsText names text sort (refusedWith n p)
-  names-refused n p r = refused n p (refused-first (namesOrder names) _ n p r)
+  pub names-refused : (r : Refusal) → RefusedBy (namesOrder names) r → ReadsText names text sort (refusedBy r)
+  unfolding all numbersOf among
+  names-refused r h = refused r (in-first text (namesOrder names) _ (in-silent text (namesOrder names) refl h))
 
   module _ (good : Passed (namesOrder names)) where
-    pub tokens-refused : (n p : ℕ) → RefusedWith (order text) n p → ReadsText names text sort (refusedWith n p)
-    tokens-refused n p r =
-        refused n p (refused-then (namesOrder names) _ n p good (refused-first (order text) _ n p r))
+    pub tokens-refused : (r : Refusal) → RefusedIn text (order text) r → ReadsText names text sort (refusedBy r)
+    tokens-refused r h =
+        refused r (in-then text (namesOrder names) _ good (in-first text (order text) _ h))
 
     module _ {ts : List Token} (clear : Passed (order text)) (r : Reads 0 text ts) where
-      in-tree : (n p : ℕ) → RefusedWith (treeOrder names text sort) n p
-          → ReadsText names text sort (refusedWith n p)
-      in-tree n p k =
-          refused n p (refused-then (namesOrder names) _ n p good (refused-then (order text) _ n p clear k))
+      in-tree : (n p k : ℕ) → Extent text n p k → RefusedWith (treeOrder names text sort) n p
+          → ReadsText names text sort (refusedBy (refusalOver n p k))
+      in-tree n p k x h =
+          refused _
+          (in-then text (namesOrder names) _ good (in-then text (order text) _ clear (record { by = h; shows = x })))
 
-      pub five : (p : ℕ) → stuck text ts p → ReadsText names text sort (refusedWith 5 p)
-      unfolding RefusedWith treeOrder
-      five p h = in-tree 5 p (inl (refl, record { tokens = ts; read = r; holds = h }))
+      -- each token shows its bytes
+      held : At (Held text) (tokensOf ts)
+      held = tokens-held text r refl
+
+      pub five : (p : ℕ) → stuck text ts p → ReadsText names text sort (refusedAt text 5 p)
+      unfolding RefusedWith treeOrder among
+      five p h =
+          in-tree 5 p _ (stuck-place (Held text) held (end-held text) (h .given) 5 refl)
+          (inl (refl, record { tokens = ts; read = r; holds = h }))
 
       module _ {e : Tree} (w : grammar.Expression (tokensOf ts) e) where
         no-five : (p : ℕ) → OfTokens text (stuck text) p → ⊥
         no-five p o =
             row-never {r = accepted (nodes e)} (tree w refl) refl (rw (reads-unique (o .read) r) at (o .holds))
 
-        pub six : (p : ℕ) → unknown names text ts p → ReadsText names text sort (refusedWith 6 p)
-        unfolding RefusedWith treeOrder
-        six p h = in-tree 6 p (inr (no-five, inl (refl, record { tokens = ts; read = r; holds = h })))
+        pub six : (p : ℕ) → unknown names text ts p → ReadsText names text sort (refusedAt text 6 p)
+        unfolding RefusedWith treeOrder among
+        six p h =
+            in-tree 6 p _ (unknown-place (Held text) (h .given .stands) held 6 refl)
+            (inr (no-five, inl (refl, record { tokens = ts; read = r; holds = h })))
 
         module _ (known : (p : ℕ) → Unknown names text ts p → ⊥) where
           no-six : (p : ℕ) → OfTokens text (unknown names text) p → ⊥
@@ -61,11 +80,18 @@ module _ (names text : List ℕ) (sort : Sort) where
           same-tree : {row : Tree → ℕ → Type 0} {p : ℕ} (o : OfTree text row p) → o .tree ≡ e
           same-tree o = parses-unique (rw (reads-unique (o .read) r) at (o .whole)) w
 
+          -- a faulty operator is a token, or the sort asked for is at the text's end
+          faulty-held : (p : ℕ) → sortedIn names text sort e ≡ faulty p → Held text p
+          faulty-held p q =
+              within-at (Held text)
+              (call-within (Held text) sort (length text) (numberAt names text) e (nodes-inside w held)
+              (end-held text)) q
+
           pub seven : (p : ℕ) → sortedIn names text sort e ≡ faulty p
-              → ReadsText names text sort (refusedWith 7 p)
-          unfolding RefusedWith treeOrder
+              → ReadsText names text sort (refusedAt text 7 p)
+          unfolding RefusedWith treeOrder among
           seven p q =
-              in-tree 7 p
+              in-tree 7 p _ (faulty-held p q 7 refl)
               (inr (
                 no-five,
                 inr (
@@ -90,9 +116,9 @@ module _ (names text : List ℕ) (sort : Sort) where
                 (rw (same-tree o) at (o .holds))
 
             pub eight : (p : ℕ) → tooLarge (is x) p → ReadsText names text sort (refusedWith 8 p)
-            unfolding RefusedWith treeOrder
+            unfolding RefusedWith treeOrder among
             eight p h =
-                in-tree 8 p
+                in-tree 8 p 0 (other refl refl)
                 (inr (
                   no-five,
                   inr (

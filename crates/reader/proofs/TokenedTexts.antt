@@ -12,7 +12,7 @@ use lib.ListN.{length, getD}
 use Rattle.alf.specs.Names.{namesIn}
 use Rattle.alf.specs.declared.Sort.{Sort}
 use Rattle.alf.specs.Expressions.{Expression}
-use Rattle.alf.specs.Refusals.{Passed}
+use Rattle.alf.specs.Refusals.{Passed, no-grammar}
 use Rattle.basics.proofs.Bools.{below?}
 use Rattle.names.proofs.Few.{names-few}
 use Rattle.names.specs.Check.{namesOrder}
@@ -39,13 +39,14 @@ use Rattle.sorting.specs.Lookup.{isUnknown, unknownAt}
 use Rattle.sorting.specs.Sorts.{Sorted, is, faulty}
 use Rattle.reader.specs.Texts.{tokensOf}
 use Rattle.sorting.specs.Passes.{Listed}
-use Rattle.reader.specs.Reads.{made, refusedWith, answered, Grown, Answered}
+use Rattle.reader.specs.Reads.{made, refusedAt, answered, Grown, Answered}
 use Rattle.reader.specs.Reading.{sortedIn, Unknown, Unlimited, refused, unlimited}
 use Rattle.reader.specs.Tokened.{Tokened}
 use Rattle.sorting.proofs.SlotNumbers.{first-same}
 use Rattle.reader.proofs.Filled.{place-inside, handed-filled}
 use Rattle.reader.proofs.Texts.{reads-inside, reads-rises, few-counted, nodes-inside}
 use Rattle.reader.proofs.Unknowns.{unknown-here, unknown-never}
+use Rattle.reader.proofs.ShownTokens.{stuck-place}
 use Rattle.reader.proofs.Readings.{five, six, seven}
 use Rattle.tokens.proofs.Handing.{reads-short}
 
@@ -140,22 +141,29 @@ module _ {names bytes : List ℕ} {t : Tokens} (k : Tokened names bytes t) where
     answer : Answer (tokensOf ts) (length bytes) p
     answer = rw tokens-are at a
 
-    pub whole-five : p .ok ≡ false → {r : Read} → r ≡ refusedWith 5 (p .place) → Unlimited names bytes sort r
+    stuck-there : p .ok ≡ false → no-grammar (answers.Stuck (tokensOf ts) (length bytes)) (p .place)
+    stuck-there o = row-sound (reads-rises (length bytes) (k .read) (omega arith)) answer o
+
+    pub five-inside : p .ok ≡ false → p .place ≤ length bytes
+    five-inside o =
+        stuck-place (λ q. q ≤ length bytes) (reads-inside (length bytes) (k .read) (omega arith)) (omega arith)
+        (stuck-there o .given)
+
+    pub whole-five : p .ok ≡ false → {r : Read} → r ≡ refusedAt bytes 5 (p .place) → Unlimited names bytes sort r
     whole-five o e =
         rw e
-        (refused 5 (p .place)
-        (five names bytes sort (k .good) (k .clear) (k .read) (p .place)
-        (row-sound (reads-rises (length bytes) (k .read) (omega arith)) answer o)))
+        (refused _
+        (five names bytes sort (k .good) (k .clear) (k .read) (p .place) (stuck-there o)))
 
     module _ (o : p .ok ≡ true) {u : ℕ} (f : u ≡ unknownAt names bytes (t .codes) (t .places) (t .count)) where
-      pub whole-six : u < t .count → {r : Read} → r ≡ refusedWith 6 (getD (t .places) u 0)
+      pub whole-six : u < t .count → {r : Read} → r ≡ refusedAt bytes 6 (getD (t .places) u 0)
           → Unlimited names bytes sort r
       whole-six l e =
           let (tree, w, q) = parse-sound answer o in
           let g = found-at f in
           let h : u < length ts = omega (arith, count-is) in
           rw (e, place-at u l)
-          (refused 6 _
+          (refused _
           (six names bytes sort (k .good) (k .clear) (k .read) w _
           (rw (sym g) at (unknown-here names bytes ts (reads-rising (k .read)) (rw g at h)))))
 
@@ -185,7 +193,7 @@ module _ {names bytes : List ℕ} {t : Tokens} (k : Tokened names bytes t) where
               ((p : ℕ) → Unknown names bytes ts p → ⊥) →
               (q : Sorted) →
               sortedIn names bytes sort e ≡ q →
-              r ≡ answered q →
+              r ≡ answered bytes q →
               Unlimited names bytes sort r
           by-sort e w known (is x) s d =
               rw d
@@ -201,4 +209,4 @@ module _ {names bytes : List ℕ} {t : Tokens} (k : Tokened names bytes t) where
                 sorts = s;
               }))
           by-sort e w known (faulty v) s d =
-              rw d (refused 7 v (seven names bytes sort (k .good) (k .clear) (k .read) w known v s))
+              rw d (refused _ (seven names bytes sort (k .good) (k .clear) (k .read) w known v s))

@@ -30,7 +30,8 @@ use Rattle.sorting.specs.Lookup.{numberAt}
 use Rattle.sorting.specs.Sorts.{Sorted, is, faulty, given, asked, sorted}
 use Rattle.sorting.specs.Passes.{going, stopped, settled, isNode, isVector, stackBytes}
 use Rattle.sorting.specs.Passes.{Shows, goes, stops, Handed, Shown, sortAt}
-use Rattle.reader.specs.Reads.{made, refusedWith, answered, hasSort, Grown}
+use Rattle.reader.specs.Reads.{made, refusedAt, answered, hasSort, Grown}
+use Rattle.reader.proofs.ShownTokens.{sorted-within, stopped-within}
 use Rattle.sorting.proofs.NodeCodes.{formed-nodes}
 use Rattle.sorting.proofs.NodeRuns.{run-tree}
 use Rattle.sorting.proofs.Stacks.{top-sort, shows-depth, shows-stopped}
@@ -101,6 +102,17 @@ pass-tree {names} {text} e f q h =
     let w = rw q at (h .shows) in
     rw (← run-tree (numberAt names text) f []) (rw (handed-nodes (nodes e)) at w)
 
+-- the place where the pass stops is a node's
+pub stopped-inside :
+    {names text : List ℕ} {p : Parsed} {s : Sorting} →
+    Grown names text p →
+    Shown names text (p .codes) (p .places) (p .len) s →
+    s .ok ≡ false →
+    s .place ≤ length text
+stopped-inside {names} {text} g h e =
+    stopped-within (λ q. q ≤ length text) _ (pass-tree (g .tree) (g .formed) (g .is-tree) h) e
+    (sorted-within (λ q. q ≤ length text) (numberAt names text) (g .tree) (g .inside))
+
 -- the sort asked for
 sort-refused : (o : Sort) (x : Expression) (bytes : ℕ) → hasSort o (isVector x) ≡ false
     → asked o bytes x ≡ faulty bytes
@@ -123,16 +135,16 @@ shown-made : {s : Sorting} (x : Expression) → Shows s (going (x ∷ []))
 unfolding made stackBytes
 shown-made x (goes o d k l t) = rw (l, t)
 
-module _ {s : Sorting} (sort : Sort) (bytes : ℕ) where
+module _ {s : Sorting} (sort : Sort) (text : List ℕ) where
   stopped-at : {p : ℕ} → Shows s (stopped p) → p ≡ s .place
   stopped-at (stops o) = refl
 
   pub answer-stopped :
-      (q : Sorted) → Shows s (settled q []) → s .ok ≡ false → {r : Read} → r ≡ refusedWith 7 (s .place)
-      → r ≡ answered (given q (asked sort bytes))
+      (q : Sorted) → Shows s (settled q []) → s .ok ≡ false → {r : Read} → r ≡ refusedAt text 7 (s .place)
+      → r ≡ answered text (given q (asked sort (length text)))
   unfolding settled given answered
   answer-stopped (is x) (goes o d k l t) e f = never (sym e ∙ o)
-  answer-stopped (faulty p) w e f = f ∙ ap (refusedWith 7) (sym (stopped-at w))
+  answer-stopped (faulty p) w e f = f ∙ ap (refusedAt text 7) (sym (stopped-at w))
 
   top-is : {x : Expression} → Shows s (going (x ∷ [])) → getD (s .sorts) 0 false ≡ isVector x
   unfolding sortAt
@@ -145,10 +157,10 @@ module _ {s : Sorting} (sort : Sort) (bytes : ℕ) where
       s .ok ≡ true →
       hasSort sort (getD (s .sorts) 0 false) ≡ false →
       {r : Read} →
-      r ≡ refusedWith 7 bytes →
-      r ≡ answered (given q (asked sort bytes))
+      r ≡ refusedAt text 7 (length text) →
+      r ≡ answered text (given q (asked sort (length text)))
   unfolding settled given answered
-  answer-wrong (is x) w o e f = f ∙ ap answered (sym (sort-refused sort x bytes (rw (top-is w) at e)))
+  answer-wrong (is x) w o e f = f ∙ ap (answered text) (sym (sort-refused sort x (length text) (rw (top-is w) at e)))
   answer-wrong (faulty p) w o e f = never (sym (shows-stopped w) ∙ o)
 
   pub answer-read :
@@ -157,8 +169,8 @@ module _ {s : Sorting} (sort : Sort) (bytes : ℕ) where
       s .ok ≡ true →
       hasSort sort (getD (s .sorts) 0 false) ≡ true →
       record { refused = false; refusal = refusal 0 0; len = s .len; tree = s .tree }
-      ≡ answered (given q (asked sort bytes))
+      ≡ answered text (given q (asked sort (length text)))
   unfolding settled given answered
   answer-read (is x) w o e =
-      shown-made x w ∙ ap answered (sym (sort-taken sort x bytes (rw (top-is w) at e)))
+      shown-made x w ∙ ap (answered text) (sym (sort-taken sort x (length text) (rw (top-is w) at e)))
   answer-read (faulty p) w o e = never (sym (shows-stopped w) ∙ o)

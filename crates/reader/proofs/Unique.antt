@@ -1,4 +1,5 @@
 -- The answer of `read_expression` is unique, and what it reads is what the text gives.
+--   read-fixed      each row of the order fixes its place
 --   read-unique     any two answers that the contract allows coincide
 --   gives-unique    a text gives one expression
 --   read-sound      what is read is what the text gives; the list of names is good and the text has at most 4,096 bytes
@@ -14,17 +15,18 @@ use Rattle.alf.specs.declared.Sort.{Sort}
 use Rattle.alf.specs.Expressions.{Expression, boolean, vector}
 use Rattle.alf.specs.Refusals.{Row, Passed}
 use Rattle.basics.proofs.Bools.{never}
-use Rattle.alf.proofs.Outcomes.{Fixed, AllFixed, at-fixed, first-fixed, first-of-fixed, refused-passed, refused-unique}
+use Rattle.alf.proofs.Outcomes.{Fixed, AllFixed, at-fixed, first-fixed, first-of-fixed, refused-passed}
 use Rattle.names.specs.Check.{namesOrder}
-use Rattle.alf.proofs.Orders.{fixed-both, passed-left, passed-right}
+use Rattle.alf.proofs.Orders.{fixed-both, sole-fixed, passed-left, passed-right}
 use Rattle.tokens.specs.Texts.{Token, Reads, deep, many, order}
 use Rattle.tokens.proofs.TextLaws.{reads-unique, reads-not-stuck}
 use Rattle.tokens.proofs.ReadingLaws.{of-tokens-fixes, order-fixes}
+use Rattle.tokens.proofs.ShownBytes.{refused-in-unique}
 use Rattle.grammar.specs.Grammar.{Tree}
 use Rattle.grammar.proofs.Unique.{parses-unique}
 use Rattle.reader.specs.declared.Read.{Read}
 use Rattle.sorting.specs.Sorts.{Sorted, is, faulty}
-use Rattle.reader.specs.Reads.{made, refusedBy, refusedWith}
+use Rattle.reader.specs.Reads.{made, refusedBy}
 use Rattle.reader.specs.Reading.{tooLarge, OfTree, stuck, unknown, sortedIn, treeOrder, readOrder}
 use Rattle.reader.specs.Reading.{Gives, ReadsText, refused, read}
 use Rattle.reader.proofs.Readings.{read-clear}
@@ -57,7 +59,7 @@ tree-fixed names text sort = (
   ),
 )
 
-read-fixed : (names text : List ℕ) (sort : Sort) → AllFixed (readOrder names text sort)
+pub read-fixed : (names text : List ℕ) (sort : Sort) → AllFixed (readOrder names text sort)
 read-fixed names text sort =
     fixed-both (namesOrder names) (order text ++ treeOrder names text sort) (at-fixed _ _, (first-fixed _, tt))
     (fixed-both (order text) (treeOrder names text sort) (order-fixes text) (tree-fixed names text sort))
@@ -72,13 +74,13 @@ gives-unique {names} {text} {sort} a b =
 
 pub read-unique : {names text : List ℕ} {sort : Sort} {r s : Read} → ReadsText names text sort r
     → ReadsText names text sort s → r ≡ s
-read-unique {names} {text} {sort} (refused n p a) (refused m q b) =
-    let e = refused-unique (readOrder names text sort) (read-fixed names text sort) a b in
-    ap (λ (k : ℕ). refusedWith k p) (e .0) ∙ ap (refusedWith m) (e .1)
-read-unique {names} {text} {sort} (refused n p a) (read b g) =
-    absurd (refused-passed (readOrder names text sort) n p b a)
-read-unique {names} {text} {sort} (read a g) (refused n p b) =
-    absurd (refused-passed (readOrder names text sort) n p a b)
+read-unique {names} {text} {sort} (refused r a) (refused s b) =
+    let o = readOrder names text sort in
+    ap refusedBy (refused-in-unique text o (sole-fixed o (read-fixed names text sort)) a b)
+read-unique {names} {text} {sort} (refused r a) (read b g) =
+    absurd (refused-passed (readOrder names text sort) _ _ b (a .by))
+read-unique {names} {text} {sort} (read a g) (refused r b) =
+    absurd (refused-passed (readOrder names text sort) _ _ a (b .by))
 read-unique (read a g) (read b h) = ap made (gives-unique g h)
 
 -- what is read is what the text gives
@@ -92,7 +94,7 @@ pub record Read-as (names text : List ℕ) (sort : Sort) (r : Read) : Type 0 whe
 pub read-sound : {names text : List ℕ} {sort : Sort} {r : Read} → ReadsText names text sort r → r .refused ≡ false
     → Read-as names text sort r
 unfolding made refusedBy
-read-sound (refused n p a) e = never (sym e)
+read-sound (refused r a) e = never (sym e)
 read-sound {names} {text} {sort} (read {x = x} a g) e =
     record {
       good = passed-left (namesOrder names) _ a;

@@ -16,10 +16,12 @@ use Rattle.alf.specs.declared.Sort.{Sort}
 use Rattle.alf.specs.Names.{namesIn, nameAt}
 use Rattle.alf.specs.Expressions.{Expression, boolean, vector}
 use Rattle.alf.specs.Alternatives.{alternatives}
-use Rattle.alf.specs.Refusals.{Row, Order, check, RefusedWith, no-grammar, unknown-name, wrong-sort, over-limits}
+use Rattle.basics.specs.declared.Refusal.{Refusal}
+use Rattle.alf.specs.Refusals.{Row, Order, check, no-grammar, unknown-name, wrong-sort, over-limits}
 use Rattle.alf.specs.Refusals as refusals
 use Rattle.names.specs.Check.{namesOrder}
 use Rattle.tokens.specs.Texts.{Token, tokenAt, Reads, OfTokens, deep, many, order}
+use Rattle.tokens.specs.Extents.{RefusedIn}
 use Rattle.grammar.specs.Grammar as grammar
 use Rattle.grammar.specs.Grammar.{Tree, leaf, one, two, three}
 use Rattle.grammar.specs.Answers.{Stuck}
@@ -28,7 +30,7 @@ use Rattle.reader.specs.declared.Read.{Read}
 use Rattle.sorting.specs.Lookup.{word, numberAt}
 use Rattle.sorting.specs.Sorts.{Sorted, is, faulty, ofOne, ofTwo, ofThree, asked, sorted, sortedFor}
 use Rattle.reader.specs.Texts.{tokensOf}
-use Rattle.reader.specs.Reads.{made, refusedWith}
+use Rattle.reader.specs.Reads.{made, refusedBy}
 
 -- 6: a name stands at byte p
 pub data Stands (p : ℕ) : List Token → Type 0 where
@@ -122,7 +124,7 @@ pub record Gives (names text : List ℕ) (sort : Sort) (x : Expression) : Type 0
 
 -- what is read
 pub data ReadsText (names text : List ℕ) (sort : Sort) : Read → Type 0 where
-  refused : (n p : ℕ) → RefusedWith (readOrder names text sort) n p → ReadsText names text sort (refusedWith n p)
+  refused : (r : Refusal) → RefusedIn text (readOrder names text sort) r → ReadsText names text sort (refusedBy r)
   read : {x : Expression} → refusals.Passed (readOrder names text sort) → Gives names text sort x
       → ReadsText names text sort (made x)
 
@@ -138,5 +140,5 @@ pub record Clear (names text : List ℕ) (sort : Sort) (x : Expression) : Type 0
   pub sorts : sortedIn names text sort tree ≡ is x
 
 pub data Unlimited (names text : List ℕ) (sort : Sort) : Read → Type 0 where
-  refused : (n p : ℕ) → ReadsText names text sort (refusedWith n p) → Unlimited names text sort (refusedWith n p)
+  refused : (r : Refusal) → ReadsText names text sort (refusedBy r) → Unlimited names text sort (refusedBy r)
   unlimited : {x : Expression} → Clear names text sort x → Unlimited names text sort (made x)

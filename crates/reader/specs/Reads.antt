@@ -1,20 +1,23 @@
 -- What a call that reads gives back: the bytes of the expression, or a refusal and no bytes.
---   made, refusedBy, refusedWith, answered     read; refused; what the pass over the nodes comes to
+--   made, refusedBy, refusedWith               read; refused; refused, and no bytes shown
+--   shownAt, refusedAt                         the bytes of the token at a place; refused, and these bytes shown
+--   answered                                   what the pass over the nodes comes to
 --   hasSort                                    whether an expression has the sort asked for
 --   Grown, Answered                            a parser's answer, and what is read for it
 use Prim.Native.Nat.{ℕ, _≤_}
 use mathlib.Core.Path.{_≡_}
 use mathlib.Core.Bool.{Bool, true, false, not}
 use mathlib.Core.List.{List, []}
-use lib.ListN.{length}
+use lib.ListN.{length, drop}
 use Rattle.alf.specs.Names.{namesIn}
 use Rattle.basics.specs.declared.Refusal.{Refusal}
-use Rattle.basics.specs.Refusing.{refusal}
+use Rattle.basics.specs.Refusing.{refusal, refusalOver}
 use Rattle.alf.specs.declared.Sort.{Sort}
 use Rattle.alf.specs.declared.Sort.the-variants as the-sort
 use Rattle.alf.specs.Expressions.{Expression}
 use Rattle.alf.specs.Bytes.{bytesOf}
 use Rattle.basics.specs.Words.{All}
+use Rattle.token_steps.specs.Steps.{stepOf}
 use Rattle.grammar.specs.declared.Token.{Token}
 use Rattle.grammar.specs.declared.Parsed.{Parsed}
 use Rattle.grammar.specs.Grammar.{Tree, nodes}
@@ -40,10 +43,17 @@ refusedBy r = record { refused = true; refusal = r; len = 0; tree = padded [] }
 abbrev pub refusedWith : ℕ → ℕ → Read
 refusedWith n p = refusedBy (refusal n p)
 
+-- the bytes of the token at p as the token reader counts them, 0 at the text's end. That they are `Extent` is a law.
+abbrev pub shownAt : List ℕ → ℕ → ℕ
+shownAt text p = stepOf (drop p text) .size
+
+abbrev pub refusedAt : List ℕ → ℕ → ℕ → Read
+refusedAt text n p = refusedBy (refusalOver n p (shownAt text p))
+
 -- the expression, or 7 at the place of the first fault
-unfoldable pub answered : Sorted → Read
-answered (is x) = made x
-answered (faulty p) = refusedWith 7 p
+unfoldable pub answered : List ℕ → Sorted → Read
+answered text (is x) = made x
+answered text (faulty p) = refusedAt text 7 p
 
 -- whether an expression, a vector or not, has the sort
 unfoldable pub hasSort : Sort → Bool → Bool
@@ -65,4 +75,4 @@ pub record Answered (names text : List ℕ) (p : Parsed) (sort : Sort) (r : Read
       (e : Tree) →
       Formed e →
       p ≡ accepted (nodes e) →
-      r ≡ answered (sortedFor sort (length text) (numberAt names text) e)
+      r ≡ answered text (sortedFor sort (length text) (numberAt names text) e)

@@ -5,17 +5,21 @@ use alf::Sort;
 use basics::Outcome;
 use basics::Refusal;
 use basics::refusing::refusal_of;
+use basics::refusing::refusal_over;
 use grammar::Parsed;
 use names::check_names;
 use parser::parse;
 use sorting::lookup::first_unknown;
 use sorting::sorts::sort_nodes;
+use token_steps::steps::take_token;
 use tokens::Tokens;
 use tokens::read_tokens;
 ghost use mathlib.Core.Path.{_≡_};
+ghost use Prim.Native.Nat.{_≤_};
+ghost use lib.ListN.{length};
 ghost use Rattle.alf.specs.Refusals.{Passed};
 ghost use Rattle.names.specs.Check.{namesOrder};
-ghost use Rattle.reader.specs.Reads.{refusedBy, refusedWith, hasSort, Grown, Answered};
+ghost use Rattle.reader.specs.Reads.{refusedBy, refusedWith, refusedAt, hasSort, Grown, Answered};
 ghost use Rattle.alf.specs.Alternatives.{alternatives, overLimit};
 ghost use Rattle.trees.specs.Parts.{EndsVector, vectorAt};
 ghost use Rattle.reader.specs.Reading.{Unlimited, ReadsText};
@@ -48,6 +52,15 @@ fn refuse_text(number: u8, place: usize) -> Read
     hand_on(refusal_of(number, place))
 }
 
+// 5, 6 and 7 show the token at the place; at the text's end there is none.
+fn refuse_token(text: &[u8], number: u8, place: usize) -> Read
+    requires { ⌜ place ≤ length (now text) ⌝ }
+    ensures { λ r. ⌜ r ≡ refusedAt (now (text .entry)) number place ⌝ }
+{
+    let token = take_token(text, place);
+    hand_on(refusal_over(number, place, token.size))
+}
+
 // Whether an expression, a vector or not, has the sort.
 fn has_sort(sort: Sort, vector: bool) -> bool
     ensures { λ r. ⌜ r ≡ hasSort sort vector ⌝ }
@@ -67,10 +80,10 @@ fn read_nodes(names: &[u8], text: &[u8], parsed: Parsed, sort: Sort) -> Read
     let places = parsed.places;
     let s = sort_nodes(names, text, &codes, &places, parsed.len);
     if !s.ok {
-        return refuse_text(7, s.place);
+        return refuse_token(text, 7, s.place);
     }
     if !has_sort(sort, s.sorts[0]) {
-        return refuse_text(7, text.len());
+        return refuse_token(text, 7, text.len());
     }
     let len = s.len;
     let tree = s.tree;
@@ -92,11 +105,11 @@ fn read_tokened(names: &[u8], text: &[u8], t: Tokens, sort: Sort) -> Read
     let places = t.places;
     let parsed = parse(&codes, &places, count, text.len());
     if !parsed.ok {
-        return refuse_text(5, parsed.place);
+        return refuse_token(text, 5, parsed.place);
     }
     let u = first_unknown(names, text, &codes, &places, count);
     if u < count {
-        return refuse_text(6, places[u] as usize);
+        return refuse_token(text, 6, places[u] as usize);
     }
     read_nodes(names, text, parsed, sort)
 }

@@ -67,7 +67,11 @@ module _ {xs : List Alternative} (steps tests edges operands : List ℕ) {n m k 
   unfolding Comes RefusedWith roomOrder
   short-steps h e =
       let f = steps-need l in
-      rw e (record { outcome = inl (refl, record { given = omega arith; there = f }); memory = stay })
+      rw e
+      (record {
+        outcome = record { by = inl (refl, record { given = omega arith; there = f }); bare = refl };
+        memory = stay;
+      })
 
   module _ (a : n ≤ length steps) where
     abbrev first : Never (check 9 (no-room (length (stepList xs)) (length steps)))
@@ -77,7 +81,11 @@ module _ {xs : List Alternative} (steps tests edges operands : List ℕ) {n m k 
     unfolding Comes RefusedWith roomOrder
     short-tests h e =
         let f = tests-need l in
-        rw e (record { outcome = inr (first, inl (refl, record { given = omega arith; there = f })); memory = stay })
+        rw e
+        (record {
+          outcome = record { by = inr (first, inl (refl, record { given = omega arith; there = f })); bare = refl };
+          memory = stay;
+        })
 
     module _ (b : m ≤ length tests) where
       abbrev second : Never (check 9 (no-room (length (testList xs)) (length tests)))
@@ -88,7 +96,11 @@ module _ {xs : List Alternative} (steps tests edges operands : List ℕ) {n m k 
       short-edges h e =
           let f = edges-need l in
           rw e (record {
-            outcome = inr (first, inr (second, inl (refl, record { given = omega arith; there = f })));
+            outcome =
+                record {
+                  by = inr (first, inr (second, inl (refl, record { given = omega arith; there = f })));
+                  bare = refl;
+                };
             memory = stay;
           })
 
@@ -101,7 +113,11 @@ module _ {xs : List Alternative} (steps tests edges operands : List ℕ) {n m k 
         short-operands h e =
             let f = operands-need l in
             rw e (record {
-              outcome = inr (first, inr (second, inr (third, inl (refl, record { given = omega arith; there = f }))));
+              outcome =
+                  record {
+                    by = inr (first, inr (second, inr (third, inl (refl, record { given = omega arith; there = f }))));
+                    bare = refl;
+                  };
               memory = stay;
             })
 
@@ -144,19 +160,21 @@ module _ (names : ℕ) (tree : List ℕ) (others : Order) (made : ℕ → Type 0
   pub comes-18 : (NameCount names → ⊥)
       → Comes (treeOrder names tree others) made (Refused (refusal 18 0))
   unfolding Comes RefusedWith treeOrder
-  comes-18 f = inl (refl, record { given = f; there = refl })
+  comes-18 f = record { by = inl (refl, record { given = f; there = refl }); bare = refl }
 
   module _ (n : NameCount names) where
     pub comes-10 : (Accepted names Vector tree → ⊥)
         → Comes (treeOrder names tree others) made (Refused (refusal 10 0))
     unfolding Comes RefusedWith treeOrder
-    comes-10 f = inr ((λ p r. r .given n), inl (refl, record { given = f; there = refl }))
+    comes-10 f =
+        record { by = inr ((λ p r. r .given n), inl (refl, record { given = f; there = refl })); bare = refl }
 
     pub comes-on : Accepted names Vector tree → (r : Outcome) → Comes others made r
         → Comes (treeOrder names tree others) made r
     unfolding Comes RefusedWith Passed treeOrder
     comes-on a (Done k) x = (((λ p r. r .given n), ((λ p r. r .given a), x .0)), x .1)
-    comes-on a (Refused q) x = inr ((λ p r. r .given n), inr ((λ p r. r .given a), x))
+    comes-on a (Refused q) x =
+        record { by = inr ((λ p r. r .given n), inr ((λ p r. r .given a), x .by)); bare = x .bare }
 
 -- the number that is made, said in another way
 pub comes-made : (o : Order) {made made′ : ℕ → Type 0} → ((k : ℕ) → made k → made′ k) → (r : Outcome)

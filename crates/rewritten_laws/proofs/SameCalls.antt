@@ -41,13 +41,16 @@ module _ (L : Type 0) {P Q : Type 0} (rest : Order) (to : P → Q) (back : Q →
   passed-same (l, (t, r)) =
       (l, ((λ p a. t p (record { given = λ x. a .given (to x); there = a .there })), r))
 
-  refused-same : (r : Refusal) → RefusedBy (order L P rest) r → RefusedBy (order L Q rest) r
+  same-row : (i j : ℕ) → RefusedWith (order L P rest) i j → RefusedWith (order L Q rest) i j
   unfolding RefusedWith
-  refused-same r (inl x) = inl x
-  refused-same r (inr (n, inl (e, a))) =
+  same-row i j (inl x) = inl x
+  same-row i j (inr (n, inl (e, a))) =
       inr (n, inl (e, record { given = λ q. a .given (back q); there = a .there }))
-  refused-same r (inr (n, inr (t, x))) =
+  same-row i j (inr (n, inr (t, x))) =
       inr (n, inr ((λ p a. t p (record { given = λ y. a .given (to y); there = a .there })), x))
+
+  refused-same : (r : Refusal) → RefusedBy (order L P rest) r → RefusedBy (order L Q rest) r
+  refused-same r h = record { by = same-row _ _ (h .by); bare = h .bare }
 
 module _ {names : ℕ} {tree steps tests edges operands : List ℕ} (accepted : Accepted names Vector tree)
     (lists : AcceptedAlternatives names tree steps tests edges operands)

@@ -81,7 +81,7 @@ rewrite-done {names} {tree} n a s t e o (outcome.Refused r) w =
         ),
       ),
     )
-    (w .outcome))
+    (w .outcome .by))
 
 module _ {names : ℕ} {tree steps tests edges operands : List ℕ}
     (w : WrittenOut names tree steps tests edges operands) where
@@ -181,7 +181,7 @@ module _ {names : ℕ} {tree steps tests edges operands : List ℕ}
         (ap outcome.Done (x .comes .1), record { answers = x .answers-memory; counts = x .tried-memory })
     rewritten-filled a t (outcome.Refused r) m =
         let x = all-as-tree (outcome.Refused r) m in
-        absurd (refused-passed _ _ _ (codes-passed states ((a, t), fit) written-tree codes) (x .comes))
+        absurd (refused-passed _ _ _ (codes-passed states ((a, t), fit) written-tree codes) (x .comes .by))
 
     pub rewritten-counted : (z : Counting) → ListedTotals names n tree steps tests edges operands states z
         → (t : Total) × ((z ≡ counting.Counted t) × TotalsTree names n tree states (t .yes) (t .no) (t .unknown))
@@ -189,7 +189,7 @@ module _ {names : ℕ} {tree steps tests edges operands : List ℕ}
     rewritten-counted (counting.Counted t) m = (t, (refl, totals-as-tree (counting.Counted t) m .comes .1))
     rewritten-counted (counting.Refused r) m =
         let x = totals-as-tree (counting.Refused r) m in
-        absurd (refused-passed _ _ _ (codes-passed states fit written-tree codes) (x .comes))
+        absurd (refused-passed _ _ _ (codes-passed states fit written-tree codes) (x .comes .by))
 
   -- and for every feed of rows that hold codes, the first pushed into a queue that keeps nothing
   module _ {n : ℕ} {rows : ℕ → List ℕ} {queues : ℕ → Queue} {results : ℕ → Matching}

@@ -5,8 +5,7 @@ use Prim.Native.Nat.{ℕ, _/_}
 use mathlib.Core.Path.{_≡_, ap, sym, _∙_}
 use mathlib.Core.List.{List, [], _∷_, _++_}
 use lib.ListN.{length, drop}
-use Rattle.basics.proofs.Refusals.{refusal-same}
-use Rattle.basics.specs.Refusing.{refusal}
+use Rattle.tokens.proofs.ShownBytes.{refused-in-unique}
 use Rattle.alf.specs.declared.Sort.{Sort}
 use Rattle.alf.specs.declared.Sort.the-variants as the-sort
 use Rattle.basics.specs.declared.Refusal.{Refusal}
@@ -51,11 +50,10 @@ module _ {A : Type 0} (into : A → Expression) (one : (a b : A) → into a ≡ 
         ap Done (k ∙ ap (λ (z : A). length (shown z)) e ∙ sym l),
         h ∙ ap (λ (z : A). shown z ++ drop (length (shown z)) out) e ∙ sym i,
       )
-  lists-unique (lists a p g k h) (refuses b i) = absurd (refused-passed _ _ _ p b)
-  lists-unique (refuses a h) (lists b q j l i) = absurd (refused-passed _ _ _ q a)
+  lists-unique (lists a p g k h) (refuses b i) = absurd (refused-passed _ _ _ p (b .by))
+  lists-unique (refuses a h) (lists b q j l i) = absurd (refused-passed _ _ _ q (a .by))
   lists-unique {out} (refuses a h) (refuses b i) =
-      let e = order-sole (length out) _ _ _ _ a b in
-      (ap Refused (refusal-same e), h ∙ sym i)
+      (ap Refused (refused-in-unique text _ (order-sole (length out)) a b), h ∙ sym i)
 
 module _ {names times states text out x y : List ℕ} {r s : Outcome} where
   pub list-text-unique : ListsPattern names times states text out x r → ListsPattern names times states text out y s

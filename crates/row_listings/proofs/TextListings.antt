@@ -16,8 +16,13 @@ use Rattle.alf.specs.declared.Sort.the-variants as the-sort
 use Rattle.basics.specs.declared.Outcome.{Outcome}
 use Rattle.basics.specs.declared.Outcome.the-variants.{Done, Refused}
 use Rattle.alf.specs.Expressions.{Boolean, Vector, Expression, boolean, vector}
-use Rattle.alf.specs.Refusals.{check, no-room, RefusedWith, Passed, Comes}
-use Rattle.alf.proofs.Orders.{refused-first, refused-then, passed-both}
+use Rattle.basics.specs.Words.{all}
+use Rattle.basics.specs.declared.Refusal.{Refusal}
+use Rattle.alf.specs.States.{among}
+use Rattle.alf.specs.Refusals.{check, no-room, RefusedWith, RefusedBy, Passed, Comes, numbersOf}
+use Rattle.alf.proofs.Orders.{passed-both}
+use Rattle.tokens.specs.Extents.{RefusedIn}
+use Rattle.tokens.proofs.ShownBytes.{in-first, in-then, in-silent}
 use Rattle.acceptance.proofs.Acceptance.{decoded}
 use Rattle.reader.specs.declared.Read.{Read}
 use Rattle.reader.specs.Reading.{readOrder, Gives, ReadsText}
@@ -46,7 +51,7 @@ module _ {A : Type 0} (into : A → Expression) (one : (a b : A) → into a ≡ 
     (shown : A → List ℕ) (names times states text : List ℕ) where
   text-refused : {r : Read} {out : List ℕ} → ReadsText names text sort r → r .refused ≡ true
       → Lists into sort shown names times states text out out (Refused (r .refusal))
-  text-refused h e = refuses (refused-first (readOrder names text sort) _ _ _ (read-refused h e)) refl
+  text-refused h e = refuses (in-first text (readOrder names text sort) _ (read-refused h e)) refl
 
   module _ (x : A) (g : Gives names text sort (into x)) where
     room-refused : (room q p : ℕ)
@@ -60,6 +65,15 @@ module _ {A : Type 0} (into : A → Expression) (one : (a b : A) → into a ≡ 
     room-refused room q p (inr (n, inr (m, inl (e, a)))) =
         inr (n, inr (m, inl (e, record { it = x; given = g; holds = a })))
     room-refused room q p (inr (n, inr (m, inr (o, h)))) = absurd h
+
+    -- 18, 15 and 9 show no bytes of the text
+    rows-shown : (room : ℕ) {r : Refusal}
+        → RefusedBy (rowsOrder (length names / 32) times states (check 9 (no-room (length (shown x)) room) ∷ [])) r
+        → RefusedIn text (rowsOrder (length names / 32) times states
+        (check 9 (OfGiven into names text sort (λ y. no-room (length (shown y)) room)) ∷ [])) r
+    unfolding all numbersOf among
+    rows-shown room h =
+        in-silent text _ refl (record { by = room-refused room _ _ (h .by); bare = h .bare })
 
     room-passed : (room : ℕ)
         → Passed (rowsOrder (length names / 32) times states (check 9 (no-room (length (shown x)) room) ∷ []))
@@ -80,7 +94,7 @@ module _ {A : Type 0} (into : A → Expression) (one : (a b : A) → into a ≡ 
     comes-listed out out′ p (Done m) h e =
         lists x (passed-both (readOrder names text sort) _ p (room-passed (length out) (h .0))) g (h .1) e
     comes-listed out out′ p (Refused r) h e =
-        refuses (refused-then (readOrder names text sort) _ _ _ p (room-refused (length out) _ _ h)) e
+        refuses (in-then text (readOrder names text sort) _ p (rows-shown (length out) h)) e
 
     pub text-lists : {out out′ : List ℕ} {r : Outcome} → Passed (readOrder names text sort)
         → RowsText (length names / 32) times states (shown x) out out′ r

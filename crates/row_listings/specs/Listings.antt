@@ -15,7 +15,8 @@ use Rattle.basics.specs.declared.Refusal.{Refusal}
 use Rattle.basics.specs.declared.Outcome.{Outcome}
 use Rattle.basics.specs.declared.Outcome.the-variants.{Done, Refused}
 use Rattle.alf.specs.Expressions.{Expression, boolean, vector}
-use Rattle.alf.specs.Refusals.{Row, Order, check, no-room, RefusedBy, Passed}
+use Rattle.alf.specs.Refusals.{Row, Order, check, no-room, Passed}
+use Rattle.tokens.specs.Extents.{RefusedIn}
 use Rattle.reader.specs.Reading.{readOrder, Gives}
 use Rattle.basics.specs.Memory.{after, front}
 use Rattle.tree_listings.specs.TreeTexts.{patternListing}
@@ -50,7 +51,7 @@ pub data Lists {A : Type 0} (into : A → Expression) (sort : Sort) (shown : A �
       Lists into sort shown names times states text out out′ (Done m)
   refuses :
       {r : Refusal} →
-      RefusedBy (listOrder into sort shown names times states text (length out)) r →
+      RefusedIn text (listOrder into sort shown names times states text (length out)) r →
       out′ ≡ out →
       Lists into sort shown names times states text out out′ (Refused r)
 

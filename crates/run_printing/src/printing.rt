@@ -24,12 +24,21 @@ pub fn wide(n: u32) -> usize {
     n as usize
 }
 
-// A word, and the number and place of a refusal.
+// How many bytes are refused, where there are any.
+fn extent(n: usize) {
+    if n != 0 {
+        write(b" of ");
+        number(n);
+    }
+}
+
+// A word, the number and place of a refusal, and how many bytes are refused.
 pub fn refused(word: &[u8], r: Refusal) {
     write(word);
     number(small(r.number));
     write(b" at ");
     number(r.place);
+    extent(r.extent);
 }
 
 // A refusal by its number and place.

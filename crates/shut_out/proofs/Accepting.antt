@@ -23,7 +23,9 @@ use Rattle.basics.specs.declared.Outcome.the-variants as outcome
 use Rattle.alf.specs.Alternatives.{stepsOf}
 use Rattle.alf.specs.Refusals.{RefusedWith, bad-code}
 use Rattle.acceptance.specs.Accepted.{Accepted}
-use Rattle.alf.proofs.Orders.{refused-then}
+use Rattle.alf.proofs.Orders.{plainly, refused-then}
+use Rattle.alf.specs.States.{among}
+use Rattle.tokens.specs.Extents.{other}
 use Rattle.names.specs.Check.{namesOrder}
 use Rattle.tokens.specs.Texts.{order}
 use Rattle.reader.specs.declared.Read.{Read}
@@ -47,75 +49,78 @@ module _ {k n : ℕ} {tree codes : List ℕ} {row : ℕ} (x : Matching) (w : Row
   pub names-33 : 32 < k → x ≡ matching.Refused (refusal 18 0)
   unfolding RefusedWith
   names-33 h =
-      match-row k n tree codes row .no-other 18 0
-      (inl (refl, record { given = λ l. omega (arith, h, l .name-count .1); there = refl })) x tt w .0
+      match-row k n tree codes row .no-other (refusal 18 0)
+      (plainly _ 18 0 (inl (refl, record { given = λ l. omega (arith, h, l .name-count .1); there = refl }))) x tt w .0
 
   pub rows-65536 : 65535 < n → x ≡ matching.Refused (refusal 18 0)
   unfolding RefusedWith
   rows-65536 h =
-      match-row k n tree codes row .no-other 18 0
-      (inl (refl, record { given = λ l. omega (arith, h, l .row-count .1); there = refl })) x tt w .0
+      match-row k n tree codes row .no-other (refusal 18 0)
+      (plainly _ 18 0 (inl (refl, record { given = λ l. omega (arith, h, l .row-count .1); there = refl }))) x tt w .0
 
   module _ (a : Accepted k Vector tree) where
     pub row-n : GoodTrace k n codes → n ≤ row → x ≡ matching.Refused (refusal 19 0)
     unfolding RefusedWith
     row-n g h =
-        match-row k n tree codes row .no-other 19 0
-        (inr (
+        match-row k n tree codes row .no-other (refusal 19 0)
+        (plainly _ 19 0 (inr (
           λ p z. z .given (g .lists),
           inr (
             λ p z. z .given a,
             inr (codes-never codes (g .codes), inl (refl, record { given = h; there = refl })),
           ),
-        )) x tt w .0
+        ))) x tt w .0
 
     pub code-8 : {i : ℕ} → Rows k n (length codes) → bad-code codes i → x ≡ matching.Refused (refusal 15 i)
     unfolding RefusedWith
     code-8 {i} l b =
-        match-row k n tree codes row .no-other 15 i
-        (inr (λ p z. z .given l, inr (λ p z. z .given a, inl (refl, b)))) x tt w .0
+        match-row k n tree codes row .no-other (refusal 15 i)
+        (plainly _ 15 i (inr (λ p z. z .given l, inr (λ p z. z .given a, inl (refl, b))))) x tt w .0
 
 module _ {k n : ℕ} {tree codes answers : List ℕ} {row : ℕ} {new codes′ answers′ : List ℕ} (o : Outcome)
     (w : Correction k n tree codes answers row new codes′ answers′ o) where
   pub new-row-short : (length new ≡ k → ⊥) → o ≡ outcome.Refused (refusal 18 0)
   unfolding RefusedWith
   new-row-short h =
-      correct k n tree codes answers row new .no-other 18 0
-      (inl (refl, record { given = λ l. h (l .full); there = refl })) o (codes′, answers′) w .0
+      correct k n tree codes answers row new .no-other (refusal 18 0)
+      (plainly _ 18 0 (inl (refl, record { given = λ l. h (l .full); there = refl }))) o (codes′, answers′) w .0
 
   pub new-code-8 : {i : ℕ} → GoodTrace k n codes → Accepted k Vector tree → length answers ≡ n → length new ≡ k
       → bad-code new i → o ≡ outcome.Refused (refusal 15 i)
   unfolding RefusedWith
   new-code-8 {i} g a room full b =
-      correct k n tree codes answers row new .no-other 15 i
-      (inr (
+      correct k n tree codes answers row new .no-other (refusal 15 i)
+      (plainly _ 15 i (inr (
         λ p z. z .given (record { room = room; full = full; rows = g .lists }),
         inr (λ p z. z .given a, inr (codes-never codes (g .codes), inl (refl, b))),
-      )) o (codes′, answers′) w .0
+      ))) o (codes′, answers′) w .0
 
 pub queue-over-K : {k : ℕ} {tree : List ℕ} {queue : Queue} {row : List ℕ} {queue′ : Queue} (x : Matching)
     → Push k tree queue row x queue′ → RowFits k (length row) → stepsOf (expression tree k) < queue .kept .0
     → x ≡ matching.Refused (refusal 10 0)
 unfolding RefusedWith
 queue-over-K {k} {tree} {queue} {row} {queue′} x w f h =
-    push k tree queue row .no-other 10 0
-    (inr (
+    push k tree queue row .no-other (refusal 10 0)
+    (plainly _ 10 0 (inr (
       λ p z. z .given f,
       inl (refl, record { given = λ g. omega (arith, h, g .kept .few); there = refl }),
-    )) x queue′ w .0
+    ))) x queue′ w .0
 
 pub short-tried : {k n : ℕ} {tree codes answers tried answers′ tried′ : List ℕ} (o : Outcome)
     → AllMatched k n tree codes answers tried answers′ tried′ o → (length tried ≡ n → ⊥)
     → o ≡ outcome.Refused (refusal 18 0)
 unfolding RefusedWith
 short-tried {k} {n} {tree} {codes} {answers} {tried} {answers′} {tried′} o w h =
-    match-all k n tree codes answers tried .no-other 18 0
-    (inl (refl, record { given = λ l. h (l .0 .1); there = refl })) o (answers′, tried′) w .0
+    match-all k n tree codes answers tried .no-other (refusal 18 0)
+    (plainly _ 18 0 (inl (refl, record { given = λ l. h (l .0 .1); there = refl }))) o (answers′, tried′) w .0
 
 pub text-4097 : {names text : List ℕ} {sort : Sort} (x : Read) → GoodNames names → 4096 < length text
     → ReadsText names text sort x → x ≡ refusedWith 1 4096
-unfolding RefusedWith order
+unfolding RefusedWith order among
 text-4097 {names} {text} {sort} x g h w =
-    read-expression names text sort .no-other 1 4096
-    (refused-then (namesOrder names) (order text ++ treeOrder names text sort) 1 4096 (names-pass names g)
-    (inl (refl, record { given = h; there = refl }))) x tt w .0
+    read-expression names text sort .no-other (refusal 1 4096)
+    (record {
+      by = refused-then (namesOrder names) (order text ++ treeOrder names text sort) 1 4096 (names-pass names g)
+          (inl (refl, record { given = h; there = refl }));
+      shows = other refl refl;
+    }) x tt w .0

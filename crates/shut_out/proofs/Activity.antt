@@ -57,7 +57,7 @@ module _ (names times states : List ℕ) (n : ℕ) (out : List ℕ) where
       (record {
         reason = λ r m w. w .outcome;
         parts = λ x m w. comes-parts _ _ x (w .outcome);
-        refuses = λ k p h. record { outcome = h; memory = refl };
+        refuses = λ r h. record { outcome = h; memory = refl };
         one = demand-1 .activity names times states n out .one;
       })
 
@@ -104,7 +104,7 @@ module _ (names times states : List ℕ) (n from to : ℕ) (out : List ℕ) wher
       (record {
         reason = λ r m w. w .outcome;
         parts = λ x m w. comes-parts _ _ x (w .outcome);
-        refuses = λ k p h. record { outcome = h; memory = refl };
+        refuses = λ r h. record { outcome = h; memory = refl };
         one = demand-1 .activity-part names times states n from to out .one;
       })
 

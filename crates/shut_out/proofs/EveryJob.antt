@@ -43,7 +43,6 @@ use Rattle.states.specs.FirstBadCode.{Codes}
 use Rattle.matching_calls.specs.declared.matching.Counting.{Counting}
 use Rattle.matching_calls.specs.declared.matching.Counting.the-variants as counting
 use Rattle.basics.specs.Memory.{after}
-use Rattle.matching_calls.specs.Matching.{Counts}
 use Rattle.table_lines.specs.declared.lines.Sums.{Sums}
 use Rattle.basics.specs.Text.{bytes, joined}
 use Rattle.figures.specs.Numbers.{digits, widthUpTo, width, decimal}
@@ -56,7 +55,7 @@ use Rattle.expression_listings.specs.TreeListings.{valueListing}
 use Rattle.row_listings.proofs.TextListings.{vector-one, boolean-one}
 use Rattle.tree_listings.proofs.Examples.{case-1}
 use Rattle.jobs.specs.declared.sums.Adding.the-variants.{Added}
-use Rattle.jobs.specs.Counting.{CountsText}
+use Rattle.jobs.specs.Counting.{CountsIn, CountsText}
 use Rattle.jobs.specs.Lines.{lineOf, TableLine}
 use Rattle.jobs.specs.Sums.{noSums, addedAll, sumsOf}
 use Rattle.letter_corrections.specs.Letters.{stateOf}
@@ -121,7 +120,7 @@ count-text r w = jobs.count-text letters rows states (bytes "01 A") .no-refusal 
 
 pub invented-total-of-text : (t : Total) → CountsText letters rows states (bytes "01 A") (counting.Counted t)
     → (t .yes ≡ 1) × (t .no ≡ 3) × (t .unknown ≡ 1)
-unfolding Counts
+unfolding CountsIn
 invented-total-of-text t w =
     let c = w .comes .1 in
     let e = vector-one (c .pattern) rises (gives-unique (c .given) rises-gives) in
@@ -135,7 +134,7 @@ flips-yes = refl
 
 pub one-total-for-all : (t : Total) → CountsText letters rows states (bytes "01 A") (counting.Counted t)
     → CountsText letters rows states (bytes "?! B") (counting.Counted t) → ⊥
-unfolding Counts
+unfolding CountsIn
 one-total-for-all t v w =
     let c = w .comes .1 in
     let e = vector-one (c .pattern) flips (gives-unique (c .given) flips-gives) in

@@ -20,7 +20,7 @@ use Rattle.names.specs.Check.{namesOrder}
 use Rattle.trees.specs.Parts.{top}
 use Rattle.acceptance.specs.Accepted.{Accepted}
 use Rattle.grammar.specs.Written.{written}
-use Rattle.reader.specs.Reads.{refusedWith}
+use Rattle.reader.specs.Reads.{refusedBy}
 use Rattle.reader.specs.Reading.{ReadsText}
 use Rattle.writer.specs.Trees.{booleanTree, vectorTree, treeOf}
 use Rattle.spelling.specs.Spelled.{halfByte, pairSpelled, signSpelled, spelled, following, textOf}
@@ -63,15 +63,15 @@ pub check-names : (r : Refusal)
     → Comes (namesOrder letters) (λ k. k ≡ namesIn letters) (outcome.Refused r) → ⊥
 check-names r w = texts.check-names letters .no-refusal letters-good r tt w
 
-pub read-expression : (n p : ℕ) → ReadsText letters (bytes "01 A") sort.Vector (refusedWith n p) → ⊥
-read-expression n p w =
+pub read-expression : (r : Refusal) → ReadsText letters (bytes "01 A") sort.Vector (refusedBy r) → ⊥
+read-expression r w =
     reading.read-expression letters (textAt letters (asked rises)) sort.Vector .no-refusal
     (record {
       names-good = letters-good;
       short = omega (arith, text-short);
       expression = _;
       given = written-gives (record { passed = texts.names-pass letters letters-good }) rises-counted;
-    }) (refusal n p) tt (rw text-is w)
+    }) r tt (rw text-is w)
 
 pub write-expression : {out out′ : List ℕ} (r : Refusal) → 4 ≤ length out
     → Writes letters (asked rises) sort.Vector out out′ (outcome.Refused r) → ⊥

@@ -50,7 +50,7 @@ module _ (names : List ℕ) where
       (record {
         reason = λ r m w. w;
         parts = λ x m w. comes-parts (namesOrder names) (λ k. k ≡ length names / 32) x w;
-        refuses = λ n p h. h;
+        refuses = λ r h. h;
         one = both (demand-1 .check-names names);
       })
 
@@ -82,7 +82,7 @@ module _ (names : List ℕ) where
         (record {
           reason = λ r m w. w .outcome;
           parts = λ x m w. comes-parts _ _ x (w .outcome);
-          refuses = λ n p h. record { outcome = h; memory = refl };
+          refuses = λ r h. record { outcome = h; memory = refl };
           one = demand-1 .write-expression names tree sort out .one;
         })
 
@@ -100,7 +100,7 @@ module _ (names times states : List ℕ) (n : ℕ) (out : List ℕ) where
       (record {
         reason = λ r m w. w .outcome;
         parts = λ x m w. comes-parts _ _ x (w .outcome);
-        refuses = λ k p h. record { outcome = h; memory = refl };
+        refuses = λ r h. record { outcome = h; memory = refl };
         one = demand-1 .write-trace names times states n out .one;
       })
 
@@ -144,7 +144,7 @@ module _ (names : ℕ) (tree : List ℕ) where
         (record {
           reason = λ r m w. w .outcome;
           parts = λ x m w. comes-parts _ _ x (w .outcome);
-          refuses = λ k p h.
+          refuses = λ r h.
               record {
                 outcome = h;
                 memory = record { steps-are = refl; tests-are = refl; edges-are = refl; operands-are = refl };
@@ -175,7 +175,7 @@ module _ (names : ℕ) (tree : List ℕ) where
         (record {
           reason = λ r m w. w .outcome;
           parts = λ x m w. comes-parts _ _ x (w .outcome);
-          refuses = λ k p h. record { outcome = h; memory = refl };
+          refuses = λ r h. record { outcome = h; memory = refl };
           one = demand-1 .contradictions names tree flags .one;
         })
 
@@ -205,7 +205,7 @@ module _ (out : List ℕ) where
         (record {
           reason = λ r m w. w .outcome;
           parts = λ x m w. comes-parts _ _ x (w .outcome);
-          refuses = λ k p h. record { outcome = h; memory = refl };
+          refuses = λ r h. record { outcome = h; memory = refl };
           one = λ a b m n x y. values-unique times values out x y;
         })
 
@@ -222,6 +222,6 @@ module _ (out : List ℕ) where
         (record {
           reason = λ r m w. w .outcome;
           parts = λ x m w. comes-parts _ _ x (w .outcome);
-          refuses = λ k p h. record { outcome = h; memory = refl };
+          refuses = λ r h. record { outcome = h; memory = refl };
           one = demand-1 .line text out .one;
         })

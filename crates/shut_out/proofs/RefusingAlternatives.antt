@@ -16,8 +16,12 @@ use Rattle.basics.specs.declared.Outcome.{Outcome}
 use Rattle.basics.specs.declared.Outcome.the-variants as outcome
 use Rattle.alf.specs.Expressions.{Vector, vector}
 use Rattle.alf.specs.Alternatives.{alternatives}
-use Rattle.alf.specs.Refusals.{Order, check, no-room, RefusedWith, Passed, Comes}
-use Rattle.alf.proofs.Orders.{refused-first, refused-then, refused-either, passed-both}
+use Rattle.basics.specs.Words.{all}
+use Rattle.alf.specs.States.{among}
+use Rattle.alf.specs.Refusals.{Order, check, no-room, RefusedWith, RefusedBy, Passed, Comes, numbersOf}
+use Rattle.alf.proofs.Orders.{refused-either, passed-both}
+use Rattle.tokens.specs.Extents.{other, RefusedIn}
+use Rattle.tokens.proofs.ShownBytes.{extent-unique, in-first, in-then, in-silent}
 use Rattle.acceptance.specs.Accepted.{Accepted}
 use Rattle.reader.specs.Reading.{readOrder, Gives}
 use Rattle.reader.proofs.Unique.{gives-unique}
@@ -31,9 +35,8 @@ use Rattle.row_listings.specs.Listings.{OfGiven}
 use Rattle.row_listings.proofs.TextListings.{vector-one}
 use Rattle.alternative_listings.specs.AlternativesText.{RewritesText, refused, rewritten}
 use Rattle.alternative_listings.proofs.AlternativesLaws.{text-unique}
-use Rattle.basics.specs.Refusing.{refusal}
-use Rattle.shut_out.specs.Reasons.{IsRefusal, Exactly}
-use Rattle.shut_out.proofs.Reasons.{exactly}
+use Rattle.shut_out.specs.Reasons.{IsRefusal, Exactly, ExactlyIn}
+use Rattle.shut_out.proofs.Reasons.{exactly, exactly-in, ComesIn}
 use Rattle.shut_out.proofs.Refusing.{GoodNames}
 use Rattle.shut_out.proofs.RefusingTexts.{Readable, read-passes}
 
@@ -73,7 +76,7 @@ module _ (names tree out : List ℕ) where
       (record {
         reason = λ r m w. w .outcome;
         parts = λ x m w. lines-parts _ _ x _ (x .written) refl (w .outcome) (w .untold-are);
-        refuses = λ k p h. record { outcome = h; memory = refl; untold-are = refl };
+        refuses = λ r h. record { outcome = h; memory = refl; untold-are = refl };
         one = λ a b m n x y. alternatives-unique x y;
       })
 
@@ -102,53 +105,70 @@ module _ (names text out : List ℕ) where
       passed-both reads nine (read-passes names text sort.Vector (g .readable))
       (λ p a. omega (arith, g .room (a .it) (a .given), a .holds .given), tt)
 
-  abbrev anything : ℕ → Type 0
-  anything k = Unit {0}
+  -- the line's 9, as a row that speaks of what the text gives; it shows no bytes of the text
+  nine-given : {p : Vector} → Gives names text sort.Vector (vector p) → (i j : ℕ)
+      → RefusedWith (lineOrder (shown p) (length out)) i j → RefusedWith nine i j
+  unfolding RefusedWith
+  nine-given {p} g i j (inl x) = inl (x .0, record { it = p; given = g; holds = x .1 })
+  nine-given {p} g i j (inr x) = absurd (x .1)
 
-  -- the line's 9, as a row that speaks of what the text gives
+  nine-shown : {r : Refusal} → RefusedBy nine r → RefusedIn text nine r
+  unfolding all numbersOf among
+  nine-shown h = in-silent text nine refl h
+
   with-text : {p : Vector} → Passed reads → Gives names text sort.Vector (vector p) → (w : Outcome)
-      → Comes (lineOrder (shown p) (length out)) (λ k. k ≡ length (shown p)) w → Comes textOrder anything w
-  unfolding Comes Passed RefusedWith
-  with-text {p} passed g (outcome.Done k) c = (
-    passed-both reads nine passed
-        (λ q a. c .0 .0 q (rw (vector-one (a .it) p (gives-unique (a .given) g)) at (a .holds)), tt),
-    tt,
-  )
-  with-text {p} passed g (outcome.Refused r) (inl x) =
-      refused-then reads nine _ _ passed (inl (x .0, record { it = p; given = g; holds = x .1 }))
-  with-text {p} passed g (outcome.Refused r) (inr x) = absurd (x .1)
+      → Comes (lineOrder (shown p) (length out)) (λ k. k ≡ length (shown p)) w → ComesIn text textOrder w
+  unfolding Comes ComesIn Passed
+  with-text {p} passed g (outcome.Done k) c =
+      passed-both reads nine passed
+      (λ q a. c .0 .0 q (rw (vector-one (a .it) p (gives-unique (a .given) g)) at (a .holds)), tt)
+  with-text {p} passed g (outcome.Refused r) c =
+      in-then text reads nine passed (nine-shown (record { by = nine-given g _ _ (c .by); bare = c .bare }))
 
-  text-comes : {x : Lines} {m : List ℕ} → RewritesText names text out m x → Comes textOrder anything (x .written)
-  unfolding Comes
-  text-comes (refused n p a) = refused-first reads nine n p a
+  text-comes : {x : Lines} {m : List ℕ} → RewritesText names text out m x → ComesIn text textOrder (x .written)
+  unfolding ComesIn
+  text-comes (refused a) = in-first text reads nine a
   text-comes {x} (rewritten passed g d) = with-text passed g (x .written) (d .delivers .outcome)
+
+  shown-parts : (x : Lines) (n : ℕ) (w : Outcome) → x .written ≡ w → ComesIn text textOrder w → x .untold ≡ tally n w
+      → Passed textOrder ⊎ IsRefusal no-lines x
+  unfolding ComesIn tally
+  shown-parts x n (outcome.Done k) e c t = inl c
+  shown-parts x n (outcome.Refused r) e c t = inr (r, λ i. record { written = e i; untold = t i })
 
   text-parts : {x : Lines} {m : List ℕ} → RewritesText names text out m x
       → Passed textOrder ⊎ IsRefusal no-lines x
-  text-parts (refused n p a) = inr (refusal n p, refl)
+  text-parts (refused {r = r} a) = inr (r, refl)
   text-parts {x} (rewritten passed g d) =
-      lines-parts textOrder anything x _ (x .written) refl (with-text passed g (x .written) (d .delivers .outcome))
-      (d .untold-are)
+      shown-parts x _ (x .written) refl (with-text passed g (x .written) (d .delivers .outcome)) (d .untold-are)
 
-  text-refuses : (n p : ℕ) → RefusedWith textOrder n p → RewritesText names text out out (no-lines (refusal n p))
-  unfolding RefusedWith Comes after tally
-  text-refuses n p h = go (refused-either reads nine n p h)
+  text-refuses : (r : Refusal) → RefusedIn text textOrder r → RewritesText names text out out (no-lines r)
+  unfolding RefusedWith Comes after tally among
+  text-refuses r h = go (refused-either reads nine (r .number) (r .place) (h .by))
     where
-      go : RefusedWith reads n p ⊎ (Passed reads × RefusedWith nine n p)
-          → RewritesText names text out out (no-lines (refusal n p))
-      go (inl a) = refused n p a
+      go : RefusedWith reads (r .number) (r .place) ⊎ (Passed reads × RefusedWith nine (r .number) (r .place))
+          → RewritesText names text out out (no-lines r)
+      go (inl a) = refused (record { by = a; shows = h .shows })
       go (inr (passed, inl (e, a))) =
-          rewritten {r = no-lines (refusal n p)} passed (a .given)
+          rewritten {r = no-lines r} passed (a .given)
           (record {
-            delivers = record { outcome = inl (e, a .holds); memory = refl };
+            delivers =
+                record {
+                  outcome =
+                      record {
+                        by = inl (e, a .holds);
+                        bare = extent-unique text _ _ (h .shows) (other (rw e refl) refl);
+                      };
+                  memory = refl;
+                };
             untold-are = refl;
           })
       go (inr (passed, inr x)) = absurd (x .1)
 
-  pub alternatives-text : Exactly TextShowable textOrder no-lines (λ r m. RewritesText names text out m r) out
-  unfolding Comes
+  pub alternatives-text : ExactlyIn text TextShowable textOrder no-lines (λ r m. RewritesText names text out m r) out
+  unfolding ComesIn
   alternatives-text =
-      exactly text-passes
+      exactly-in text text-passes
       (record {
         reason = λ r m w. text-comes w;
         parts = λ x m w. text-parts w;

@@ -10,6 +10,7 @@
 use Prim.Native.Nat.{ℕ, _/_, _<_, _≤_}
 use native.Mathlib.Omega.{arith}
 use mathlib.Core.Path.{_≡_, refl}
+use mathlib.Core.Logic.{_⊎_, inl, inr}
 use mathlib.Core.List.{List, map}
 use lib.ListN.{length}
 use Rattle.alf.specs.declared.Sort.{Sort}
@@ -24,7 +25,6 @@ use Rattle.states.specs.FirstBadCode.{Codes}
 use Rattle.matching_calls.specs.declared.matching.Counting.{Counting}
 use Rattle.matching_calls.specs.declared.matching.Counting.the-variants as counting
 use Rattle.basics.specs.Memory.{after}
-use Rattle.matching_calls.specs.Matching.{Counts}
 use Rattle.call_laws.proofs.Routes.{codes-never}
 use Rattle.figures.specs.Delivering.{lineOrder}
 use Rattle.tree_listings.specs.TreeTexts.{patternListing}
@@ -33,16 +33,17 @@ use Rattle.expression_listings.specs.TreeListings.{valueListing}
 use Rattle.row_listings.specs.Listings.{Lists, lists, refuses, ListsPattern, ListsValues}
 use Rattle.row_listings.proofs.TextListings.{vector-one, boolean-one}
 use Rattle.row_listings.proofs.ListingTheorems.{lists-unique}
-use Rattle.jobs.specs.Counting.{countOrder, CountsText}
+use Rattle.jobs.specs.Counting.{countOrder, TotalsText, CountsIn, CountsText}
 use Rattle.jobs.specs.Lines.{lineOf, TableLine}
 use Rattle.letter_corrections.specs.Letters.{stateOf}
 use Rattle.letter_corrections.specs.Correcting.{lettersOrder, CorrectsLetters}
 use Rattle.jobs.proofs.TextCounts.{counts-unique}
 use Rattle.letter_corrections.proofs.LetterCorrections.{letters-unique}
-use Rattle.shut_out.specs.Reasons.{Exactly}
-use Rattle.shut_out.proofs.Reasons.{exactly, narrowed, comes-parts, None, both}
+use Rattle.shut_out.specs.Reasons.{IsRefusal, Exactly, ExactlyIn}
+use Rattle.shut_out.proofs.Reasons.{exactly, exactly-in, narrowed, comes-parts, ComesIn, comes-in-parts, None}
+use Rattle.shut_out.proofs.Reasons.{both}
 use Rattle.shut_out.proofs.Refusing.{line}
-use Rattle.shut_out.proofs.RefusingRows.{GoodTrace, counts-parts}
+use Rattle.shut_out.proofs.RefusingRows.{GoodTrace}
 use Rattle.shut_out.proofs.RefusingTexts.{Readable, read-passes}
 
 -- The totals of a text, and its line.
@@ -57,15 +58,21 @@ module _ (names : List ℕ) (n : ℕ) (states text : List ℕ) where
       passed-both (readOrder names text sort.Vector) _ (read-passes names text sort.Vector (g .readable))
       (λ p a. a .given (g .trace .lists), (codes-never states (g .trace .codes), tt))
 
-  pub count-text : Exactly {M = None} Countable (countOrder names n states text) counting.Refused
+  text-parts : (x : Counting) → CountsIn text (countOrder names n states text) (TotalsText names n states text) x
+      → Passed (countOrder names n states text) ⊎ IsRefusal counting.Refused x
+  unfolding CountsIn
+  text-parts (counting.Counted t) w = inl (w .0)
+  text-parts (counting.Refused r) w = inr (r, refl)
+
+  pub count-text : ExactlyIn {M = None} text Countable (countOrder names n states text) counting.Refused
       (λ r m. CountsText names n states text r) tt
-  unfolding Counts
+  unfolding CountsIn
   count-text =
-      exactly count-passes
+      exactly-in text count-passes
       (record {
         reason = λ r m w. w .comes;
-        parts = λ x m w. counts-parts _ _ x (w .comes);
-        refuses = λ k p h. record { comes = h };
+        parts = λ x m w. text-parts x (w .comes);
+        refuses = λ r h. record { comes = h };
         one = both (λ a b x y. counts-unique x y);
       })
 
@@ -76,7 +83,7 @@ module _ (names : List ℕ) (n : ℕ) (states text : List ℕ) where
       pub out′ : List ℕ
       pub made : TableLine names n states text out out′ (record { counted = c; written = written })
 
-    pub counted-in-line : Exactly {M = None} Countable (countOrder names n states text) counting.Refused
+    pub counted-in-line : ExactlyIn {M = None} text Countable (countOrder names n states text) counting.Refused
         (λ r m. InLine r) tt
     counted-in-line = narrowed count-text (λ x m w. w .made .counts)
 
@@ -112,7 +119,7 @@ module _ (k n : ℕ) (states : List ℕ) (row : ℕ) (letters : List ℕ) where
       (record {
         reason = λ r m w. w .comes;
         parts = λ x m w. comes-parts _ _ x (w .comes);
-        refuses = λ q p h. record { comes = h; memory = refl };
+        refuses = λ r h. record { comes = h; memory = refl };
         one = λ a b x y v w. letters-unique v w;
       })
 
@@ -138,21 +145,20 @@ module _ {A : Type 0} (into : A → Expression) (of : Sort) (shown : A → List 
         ),
       )
 
-  lists-comes : {x : Outcome} {m : List ℕ} → Lists into of shown names times states text out m x
-      → Comes whole (λ k. Unit {0}) x
-  unfolding Comes
-  lists-comes (lists x p g e h) = (p, tt)
+  lists-comes : {x : Outcome} {m : List ℕ} → Lists into of shown names times states text out m x → ComesIn text whole x
+  unfolding ComesIn
+  lists-comes (lists x p g e h) = p
   lists-comes (refuses a h) = a
 
-  lists-exactly : ((a b : A) → into a ≡ into b → a ≡ b) → Exactly TextListable whole outcome.Refused
+  lists-exactly : ((a b : A) → into a ≡ into b → a ≡ b) → ExactlyIn text TextListable whole outcome.Refused
       (λ r m. Lists into of shown names times states text out m r) out
-  unfolding Comes
+  unfolding ComesIn
   lists-exactly one =
-      exactly texts-pass
+      exactly-in text texts-pass
       (record {
         reason = λ r m w. lists-comes w;
-        parts = λ x m w. comes-parts whole (λ k. Unit {0}) x (lists-comes w);
-        refuses = λ k p h. refuses h refl;
+        parts = λ x m w. comes-in-parts text whole x (lists-comes w);
+        refuses = λ r h. refuses h refl;
         one = λ a b m n x y. lists-unique into one of shown names times states text x y;
       })
 
@@ -163,12 +169,12 @@ module _ (names times states text out : List ℕ) where
   abbrev pub values-shown : Boolean → List ℕ
   values-shown = valueListing (length names / 32) times states
 
-  pub list-text : Exactly (TextListable vector sort.Vector answers-shown names times states text out)
+  pub list-text : ExactlyIn text (TextListable vector sort.Vector answers-shown names times states text out)
       (listOrder vector sort.Vector answers-shown names times states text (length out)) outcome.Refused
       (λ r m. ListsPattern names times states text out m r) out
   list-text = lists-exactly vector sort.Vector answers-shown names times states text out vector-one
 
-  pub values-text : Exactly (TextListable boolean sort.Boolean values-shown names times states text out)
+  pub values-text : ExactlyIn text (TextListable boolean sort.Boolean values-shown names times states text out)
       (listOrder boolean sort.Boolean values-shown names times states text (length out)) outcome.Refused
       (λ r m. ListsValues names times states text out m r) out
   values-text = lists-exactly boolean sort.Boolean values-shown names times states text out boolean-one

@@ -43,7 +43,7 @@ module _ (names : ℕ) (tree steps tests edges operands : List ℕ) where
       (record {
         reason = λ r m w. w .comes;
         parts = λ x m w. comes-parts _ _ x (w .comes);
-        refuses = λ k p h. record { comes = h };
+        refuses = λ r h. record { comes = h };
         one = both (λ a b x y. listed-fits-unique x y);
       })
 
@@ -67,7 +67,7 @@ module _ (names n : ℕ) (tree steps tests edges operands states : List ℕ) whe
         (record {
           reason = λ r m w. w .comes;
           parts = λ x m w. finds-parts _ _ x (w .comes);
-          refuses = λ k p h. record { comes = h };
+          refuses = λ r h. record { comes = h };
           one = both (demand-1 .listed-match-row names n tree steps tests edges operands states row);
         })
 
@@ -91,7 +91,7 @@ module _ (names n : ℕ) (tree steps tests edges operands states : List ℕ) whe
         (record {
           reason = λ r m w. w .comes;
           parts = λ x m w. comes-parts _ _ x (w .comes);
-          refuses = λ k p h. record { comes = h; answers-memory = refl; tried-memory = refl };
+          refuses = λ r h. record { comes = h; answers-memory = refl; tried-memory = refl };
           one = demand-1 .listed-match-all names n tree steps tests edges operands states answers tried .one;
         })
 
@@ -108,7 +108,7 @@ module _ (names n : ℕ) (tree steps tests edges operands states : List ℕ) whe
       (record {
         reason = λ r m w. w .comes;
         parts = λ x m w. counts-parts _ _ x (w .comes);
-        refuses = λ k p h. record { comes = h };
+        refuses = λ r h. record { comes = h };
         one = both (demand-1 .listed-totals names n tree steps tests edges operands states);
       })
 
@@ -132,6 +132,6 @@ module _ (names : ℕ) (tree steps tests edges operands : List ℕ) (queue : Que
       (record {
         reason = λ r q w. w .comes .0;
         parts = λ x q w. takes-parts x q (w .comes);
-        refuses = λ k p h. record { comes = (h, refl) };
+        refuses = λ r h. record { comes = (h, refl) };
         one = demand-1 .listed-push names tree steps tests edges operands queue row .one;
       })

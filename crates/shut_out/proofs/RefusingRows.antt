@@ -91,7 +91,7 @@ module _ (names n : ℕ) (states : List ℕ) (row : ℕ) where
       (record {
         reason = λ r m w. w;
         parts = λ x m w. changes-parts x w;
-        refuses = λ k p h. h;
+        refuses = λ r h. h;
         one = both (demand-1 .changes-at names n states row);
       })
 
@@ -114,7 +114,7 @@ module _ (names n : ℕ) (tree states : List ℕ) where
         (record {
           reason = λ r m w. w .comes;
           parts = λ x m w. comes-parts _ _ x (w .comes);
-          refuses = λ k p h. record { comes = h };
+          refuses = λ r h. record { comes = h };
           one = both (demand-1 .row-state names n tree states row);
         })
 
@@ -126,7 +126,7 @@ module _ (names n : ℕ) (tree states : List ℕ) where
         (record {
           reason = λ r m w. w .comes;
           parts = λ x m w. comes-parts _ _ x (w .comes);
-          refuses = λ k p h. record { comes = h };
+          refuses = λ r h. record { comes = h };
           one = both (demand-1 .row-value names n tree states row);
         })
 
@@ -138,7 +138,7 @@ module _ (names n : ℕ) (tree states : List ℕ) where
         (record {
           reason = λ r m w. w .comes;
           parts = λ x m w. tells-parts _ _ x (w .comes);
-          refuses = λ k p h. record { comes = h };
+          refuses = λ r h. record { comes = h };
           one = both (demand-1 .row-answer names n tree states row);
         })
 
@@ -150,7 +150,7 @@ module _ (names n : ℕ) (tree states : List ℕ) where
         (record {
           reason = λ r m w. w .comes;
           parts = λ x m w. finds-parts _ _ x (w .comes);
-          refuses = λ k p h. record { comes = h };
+          refuses = λ r h. record { comes = h };
           one = both (demand-1 .match-row names n tree states row);
         })
 
@@ -163,7 +163,7 @@ module _ (names n : ℕ) (tree states : List ℕ) where
       (record {
         reason = λ r m w. w .comes;
         parts = λ x m w. tells-parts _ _ x (w .comes);
-        refuses = λ k p h. record { comes = h };
+        refuses = λ r h. record { comes = h };
         one = both (demand-1 .window-answer names n tree states from to);
       })
 
@@ -176,7 +176,7 @@ module _ (names n : ℕ) (tree states : List ℕ) where
       (record {
         reason = λ r m w. w .comes;
         parts = λ x m w. comes-parts _ _ x (w .comes);
-        refuses = λ k p h. record { comes = h; memory = refl };
+        refuses = λ r h. record { comes = h; memory = refl };
         one = demand-1 .values names n tree states out .one;
       })
 
@@ -190,7 +190,7 @@ module _ (names n : ℕ) (tree states : List ℕ) where
       (record {
         reason = λ r m w. w .comes;
         parts = λ x m w. comes-parts _ _ x (w .comes);
-        refuses = λ k p h. record { comes = h; answers-memory = refl; tried-memory = refl };
+        refuses = λ r h. record { comes = h; answers-memory = refl; tried-memory = refl };
         one = demand-1 .match-all names n tree states answers tried .one;
       })
 
@@ -205,6 +205,6 @@ module _ (names n : ℕ) (tree states : List ℕ) where
       (record {
         reason = λ r m w. w .comes;
         parts = λ x m w. counts-parts _ _ x (w .comes);
-        refuses = λ k p h. record { comes = h };
+        refuses = λ r h. record { comes = h };
         one = both (demand-1 .totals names n tree states);
       })

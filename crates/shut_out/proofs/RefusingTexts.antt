@@ -17,7 +17,7 @@ use Rattle.alf.specs.Expressions.{Expression}
 use Rattle.alf.specs.Refusals.{Passed}
 use Rattle.basics.proofs.Bools.{never}
 use Rattle.reader.specs.declared.Read.{Read}
-use Rattle.reader.specs.Reads.{made, refusedBy, refusedWith}
+use Rattle.reader.specs.Reads.{made, refusedBy}
 use Rattle.reader.specs.Reading as texts
 use Rattle.reader.specs.Reading.{readOrder, Gives, ReadsText}
 use Rattle.reader.proofs.Unique.{read-unique, gives-read, read-complete}
@@ -28,7 +28,7 @@ use Rattle.trace_reader.specs.Reading.{FileRefused, RoomRefused, Reads}
 use Rattle.trace_laws.proofs.Theorems.{TraceOf, OneReading, got-trace}
 use Rattle.trace_laws.proofs.RoundTrips.{reads-unique, read-write}
 use Rattle.basics.specs.Refusing.{refusal}
-use Rattle.shut_out.specs.Reasons.{Held, IsRefusal, Exactly}
+use Rattle.shut_out.specs.Reasons.{Held, IsRefusal, ExactlyIn}
 use Rattle.shut_out.proofs.Reasons.{passed-held, None, Three}
 use Rattle.shut_out.proofs.Refusing.{GoodNames, names-pass}
 
@@ -40,12 +40,9 @@ module _ (names text : List ℕ) (sort : Sort) where
     pub expression : Expression
     pub given : Gives names text sort expression
 
-  abbrev refused : Refusal → Read
-  refused r = refusedWith (r .number) (r .place)
-
   passed-read : {r : Read} → ReadsText names text sort r → r .refused ≡ false → Passed (readOrder names text sort)
   unfolding refusedBy
-  passed-read (texts.refused n p a) e = never (sym e)
+  passed-read (texts.refused r a) e = never (sym e)
   passed-read (texts.read a g) e = a
 
   pub read-passes : Readable → Passed (readOrder names text sort)
@@ -57,18 +54,18 @@ module _ (names text : List ℕ) (sort : Sort) where
   not-refused r g w =
       ap (λ (x : Read). x .refused) (read-complete (names-pass names (g .names-good)) (g .short) (g .given) w)
 
-  only-refused : Held (readOrder names text sort) → (x : Read) → ReadsText names text sort x → IsRefusal refused x
-  only-refused h x (texts.refused n p a) = (refusal n p, refl)
+  only-refused : Held (readOrder names text sort) → (x : Read) → ReadsText names text sort x → IsRefusal refusedBy x
+  only-refused h x (texts.refused r a) = (r, refl)
   only-refused h x (texts.read a g) = absurd (passed-held (readOrder names text sort) a h)
 
-  pub read-expression : Exactly {M = None} Readable (readOrder names text sort) refused
+  pub read-expression : ExactlyIn {M = None} text Readable (readOrder names text sort) refusedBy
       (λ r m. ReadsText names text sort r) tt
   unfolding refusedBy
   read-expression =
       record {
-        no-refusal = λ g r m w. never (sym (not-refused (refused r) g w));
+        no-refusal = λ g r m w. never (sym (not-refused (refusedBy r) g w));
         no-acceptance = λ h x m w. only-refused h x w;
-        no-other = λ n p h x m w. (read-unique w (texts.refused n p h), refl);
+        no-other = λ r h x m w. (read-unique w (texts.refused r h), refl);
       }
 
 -- A file.
@@ -95,4 +92,4 @@ module _ (bytes n₀ t₀ s₀ : List ℕ) where
   unfolding Reads
   file-other n p h x m w =
       reads-unique bytes n₀ t₀ s₀ x (file.Refused (refusal n p)) w
-      (h, record { names-kept = refl; times-kept = refl; states-kept = refl })
+      (h, refl, record { names-kept = refl; times-kept = refl; states-kept = refl })

@@ -54,7 +54,7 @@ module _ (names n : ℕ) (tree states : List ℕ) where
         (record {
           reason = λ r m w. w .comes;
           parts = λ x m w. comes-parts _ _ x (w .comes);
-          refuses = λ k p h. record { comes = h; memory = refl };
+          refuses = λ r h. record { comes = h; memory = refl };
           one = demand-1 .list names n tree states times out .one;
         })
 
@@ -71,6 +71,6 @@ module _ (names n : ℕ) (tree states : List ℕ) where
         (record {
           reason = λ r m w. w .comes;
           parts = λ x m w. comes-parts _ _ x (w .comes);
-          refuses = λ k p h. record { comes = h; memory = refl };
+          refuses = λ r h. record { comes = h; memory = refl };
           one = demand-1 .table-line names n tree states pattern out .one;
         })

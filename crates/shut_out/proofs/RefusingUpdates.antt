@@ -56,7 +56,7 @@ module _ (names n : ℕ) (tree states : List ℕ) where
         (record {
           reason = λ r m w. w .comes;
           parts = λ x m w. comes-parts _ _ x (w .comes);
-          refuses = λ k p h. record { comes = h; states-memory = refl; answers-memory = refl };
+          refuses = λ r h. record { comes = h; states-memory = refl; answers-memory = refl };
           one = demand-1 .correct names n tree states answers row new .one;
         })
 
@@ -81,6 +81,6 @@ module _ (names : ℕ) (tree : List ℕ) (queue : Queue) (row : List ℕ) where
       (record {
         reason = λ r q w. w .comes .0;
         parts = λ x q w. takes-parts x q (w .comes);
-        refuses = λ k p h. record { comes = (h, refl) };
+        refuses = λ r h. record { comes = (h, refl) };
         one = demand-1 .push names tree queue row .one;
       })

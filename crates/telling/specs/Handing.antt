@@ -38,7 +38,14 @@ told (Refused r) = record { number = r .number; place = r .place; count = 0 }
 
 -- a reading has the refusal 0 at 0 where it is not refused, and no tree where it is
 unfoldable pub toldExpression : Read → Expression
-toldExpression r = record { number = r .refusal .number; place = r .refusal .place; len = r .len; tree = r .tree }
+toldExpression r =
+    record {
+      number = r .refusal .number;
+      place = r .refusal .place;
+      extent = r .refusal .extent;
+      len = r .len;
+      tree = r .tree;
+    }
 
 unfoldable pub toldTrace : Reading → Trace
 toldTrace (the-reading.Read k n) = record { number = 0; place = 0; names = k; rows = n }

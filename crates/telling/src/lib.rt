@@ -13,11 +13,13 @@ pub struct Told {
     pub count: usize,
 }
 
-// What came of reading an expression: refused, or the first `len` entries of `tree`, with zeros behind them.
+// What came of reading an expression: refused, with how many bytes from the place on are refused; or the first `len`
+// entries of `tree`, with zeros behind them.
 #[repr(C)]
 pub struct Expression {
     pub number: u8,
     pub place: usize,
+    pub extent: usize,
     pub len: usize,
     pub tree: [u8; 256],
 }

@@ -12,6 +12,7 @@ pub fn tell_expression(r: Read) -> Expression
     Expression {
         number: r.refusal.number,
         place: r.refusal.place,
+        extent: r.refusal.extent,
         len: r.len,
         tree,
     }

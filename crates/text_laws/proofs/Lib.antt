@@ -3,6 +3,7 @@
 -- was written gives the tree back. In the order of the argument, with what is to be cited at the end of each part.
 --   Renumbering, BracketDepths, Nesting   tokens up to their places, and how deep their brackets open
 --   SortedTrees, GivenAccepted            what a text gives is accepted; ReadTrees: so is what was read of a text
+--   ShownTexts                            what a text that is refused shows
 --   Sorting, TokenLimits, WrittenNames, WrittenGives   an accepted tree is given by its written text
 --   SomeNames, Exactness                  so a tree is accepted exactly if some text gives it
 --   AcceptedStable, NeededPairs, RoundTrips   what was written is read back, at the limits too, and no pair is needless
@@ -12,6 +13,7 @@ pub mod Nesting
 pub mod SortedTrees
 pub mod GivenAccepted
 pub mod ReadTrees
+pub mod ShownTexts
 pub mod Sorting
 pub mod TokenLimits
 pub mod WrittenNames

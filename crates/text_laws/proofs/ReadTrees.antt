@@ -19,33 +19,31 @@ use Rattle.alf.specs.declared.Sort.the-variants as the-sort
 use Rattle.alf.specs.Expressions.{Boolean, Vector, Expression, boolean, vector}
 use Rattle.alf.specs.Bytes.{bytesOf}
 use Rattle.alf.specs.Decoder.{Decodes}
-use Rattle.alf.specs.Refusals.{RefusedWith, Passed}
+use Rattle.alf.specs.Refusals.{Passed}
 use Rattle.basics.proofs.Bools.{never}
 use Rattle.basics.proofs.Stores.{front-take}
 use Rattle.alf.proofs.Decoding.{decode-unique}
 use Rattle.names.specs.Check.{namesOrder}
-use Rattle.alf.proofs.Orders.{passed-left, Sole}
+use Rattle.alf.proofs.Orders.{passed-left, Sole, sole-fixed}
 use Rattle.grammar.specs.Answers.{padded}
 use Rattle.acceptance.proofs.Acceptance.{accepted-decodes}
 use Rattle.acceptance.specs.Accepted.{sortOf, Accepted}
 use Rattle.reader.specs.declared.Read.{Read}
-use Rattle.reader.specs.Reads.{made, refusedBy, refusedWith}
+use Rattle.tokens.specs.Extents.{RefusedIn}
+use Rattle.reader.specs.Reads.{made, refusedBy}
 use Rattle.reader.specs.Reading.{readOrder, Gives, ReadsText, refused, read}
-use Rattle.reader.proofs.Unique.{read-unique}
+use Rattle.reader.proofs.Unique.{read-fixed}
 use Rattle.text_laws.proofs.GivenAccepted.{gives-accepted, gives-decodes}
 
 -- the text is refused
 pub read-refused : {names text : List ℕ} {sort : Sort} {r : Read} → ReadsText names text sort r → r .refused ≡ true
-    → RefusedWith (readOrder names text sort) (r .refusal .number) (r .refusal .place)
+    → RefusedIn text (readOrder names text sort) (r .refusal)
 unfolding made refusedBy
-read-refused (refused n p a) e = a
+read-refused (refused f a) e = a
 read-refused (read a g) e = never e
 
 pub read-sole : (names text : List ℕ) (sort : Sort) → Sole (readOrder names text sort)
-unfolding refusedBy
-read-sole names text sort n m p q a b =
-    let e = read-unique (refused n p a) (refused m q b) in
-    (ap (λ (r : Read). r .refusal .number) e, ap (λ (r : Read). r .refusal .place) e)
+read-sole names text sort = sole-fixed (readOrder names text sort) (read-fixed names text sort)
 
 -- the text is not refused
 pub record Found (names text : List ℕ) (sort : Sort) (r : Read) : Type 0 where
@@ -57,7 +55,7 @@ pub record Found (names text : List ℕ) (sort : Sort) (r : Read) : Type 0 where
 pub read-found : {names text : List ℕ} {sort : Sort} {r : Read} → ReadsText names text sort r → r .refused ≡ false
     → Found names text sort r
 unfolding made refusedBy
-read-found (refused n p a) e = never (sym e)
+read-found (refused f a) e = never (sym e)
 read-found (read {x = x} a g) e = record { passed = a; it = x; gives = g; is-it = refl }
 
 module _ {names text : List ℕ} {sort : Sort} {r : Read} (f : Found names text sort r) where

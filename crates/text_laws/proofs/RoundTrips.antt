@@ -158,10 +158,13 @@ module _ {names tree : List ℕ} {sort : Sort} {out out′ : List ℕ} {r : Outc
       writes-unique {s = Refused (refusal 1 4096)} w
       (record {
         outcome =
-            inr (
-              h .passed .0,
-              inr (h .passed .1 .0, inr ((λ p y. y .given a), inl (refl, record { given = l; there = refl }))),
-            );
+            record {
+              by = inr (
+                h .passed .0,
+                inr (h .passed .1 .0, inr ((λ p y. y .given a), inl (refl, record { given = l; there = refl }))),
+              );
+              bare = refl;
+            };
         memory = refl;
       })
 

@@ -1,2 +1,3 @@
--- When some text gives a tree.
+-- When some text gives a tree; what a refused text shows.
 pub mod GivingTexts
+pub mod Shown

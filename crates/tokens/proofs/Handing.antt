@@ -9,10 +9,11 @@ use mathlib.Core.List.{List}
 use Prim.Native.Nat.{ℕ, _≤_, _<_}
 use native.Mathlib.Omega.{arith}
 use lib.ListN.{length, take, getD, length-append}
+use Rattle.basics.specs.Refusing.{refusal}
 use Rattle.tokens.specs.declared.Tokens.{Tokens}
 use Rattle.tokens.specs.Texts.{Token, Reads}
 use Rattle.tokens.specs.Texts.Reads.{done, blank, token}
-use Rattle.tokens.specs.Tokenizing.{filled, codesOf, placesOf, made, refusedWith, Tokenized}
+use Rattle.tokens.specs.Tokenizing.{filled, codesOf, placesOf, made, refusedBy, Tokenized}
 use Rattle.tokens.specs.Inner.{Scan, Counting, changed, overAt}
 use Rattle.tokens.specs.Inner.Scan.{stopped, whole}
 use Rattle.token_steps.proofs.Bytes.{contrary}
@@ -39,7 +40,7 @@ pub record Whole (text : List ℕ) (t : Tokens) : Type 0 where
   pub is : t ≡ made tokens
 
 pub whole-of : {text : List ℕ} {t : Tokens} → Scan text t → t .refused ≡ false → Whole text t
-unfolding made refusedWith
+unfolding made refusedBy
 whole-of (stopped q s) h = absurd (contrary refl h)
 whole-of (whole ts r) h =
     record { tokens = ts; read = r; count-is = refl; codes-are = refl; places-are = refl; is = refl }
@@ -89,7 +90,7 @@ module _ {text : List ℕ} {t : Tokens} (l : length text ≤ 4096) (w : Whole te
       {i : ℕ} {r : Tokens} →
       i ≡ over true 32 →
       i < t .count →
-      r ≡ refusedWith 3 (getD (t .places) i 0) →
+      r ≡ refusedBy (refusal 3 (getD (t .places) i 0)) →
       Tokenized text r
   deep-reading {i} e h f =
       rw (f, place-at i h, index true 32 e)
@@ -103,7 +104,7 @@ module _ {text : List ℕ} {t : Tokens} (l : length text ≤ 4096) (w : Whole te
         {i : ℕ} {r : Tokens} →
         i ≡ over false 256 →
         i < t .count →
-        r ≡ refusedWith 4 (getD (t .places) i 0) →
+        r ≡ refusedBy (refusal 4 (getD (t .places) i 0)) →
         Tokenized text r
     many-reading {i} e h f =
         rw (f, place-at i h, index false 256 e)

@@ -13,14 +13,19 @@ use lib.Dec.{ltb}
 use lib.ListN.{length, getD}
 use borrow.Author.Tests.{ltb-true, ltb-false}
 use Rattle.alf.specs.Refusals.{Row, First, Never, check, RefusedWith, Passed, too-long, no-token}
-use Rattle.alf.proofs.Outcomes.{Fixed, AllFixed, at-fixed, first-fixed, refused-unique, refused-passed}
+use Rattle.alf.proofs.Outcomes.{Fixed, AllFixed, at-fixed, first-fixed, refused-passed}
+use Rattle.alf.proofs.Orders.{sole-fixed}
+use Rattle.basics.specs.Refusing.{refusal}
 use Rattle.tokens.specs.declared.Tokens.{Tokens}
 use Rattle.tokens.specs.Texts.{Token, Reads, Stuck, running, opened, counted, OfTokens, deep, many, order}
-use Rattle.tokens.specs.Tokenizing.{codesOf, placesOf, made, refusedWith, Tokenized}
+use Rattle.tokens.specs.Tokenizing.{codesOf, placesOf, made, refusedBy, Tokenized}
 use Rattle.tokens.specs.Tokenizing.Tokenized.{refused, read}
-use Rattle.tokens.specs.Inner.{overAt}
+use Rattle.tokens.specs.Extents.{Shown, to-blank, other}
+use Rattle.tokens.specs.Inner.{overAt, stoppedAt}
+use Rattle.alf.specs.States.{among}
 use Rattle.tokens.proofs.TextLaws.{reads-unique, stuck-unique, reads-not-stuck, reads-or-stuck, Outcome}
 use Rattle.tokens.proofs.Places.{reads-rising, over-first, over-none}
+use Rattle.tokens.proofs.ShownBytes.{refused-in-unique}
 
 -- each row fixes its place
 pub of-tokens-fixes :
@@ -47,25 +52,33 @@ order-fixes text = (
 )
 
 pub reading-unique : {text : List ℕ} {r s : Tokens} → Tokenized text r → Tokenized text s → r ≡ s
-reading-unique {text} (refused n p a) (refused m q b) =
-    let e = refused-unique (order text) (order-fixes text) a b in rw (e .0, e .1)
-reading-unique {text} (refused n p a) (read b c) = absurd (refused-passed (order text) n p b a)
-reading-unique {text} (read a b) (refused n p c) = absurd (refused-passed (order text) n p a c)
+reading-unique {text} (refused r a) (refused s b) =
+    ap refusedBy (refused-in-unique text (order text) (sole-fixed (order text) (order-fixes text)) a b)
+reading-unique {text} (refused r a) (read b c) = absurd (refused-passed (order text) _ _ b (a .by))
+reading-unique {text} (read a b) (refused r c) = absurd (refused-passed (order text) _ _ a (c .by))
 reading-unique (read a b) (read c d) = ap made (reads-unique b d)
 
-pub read-long : (text : List ℕ) → 4096 < length text → Tokenized text (refusedWith 1 4096)
-unfolding RefusedWith order
-read-long text h = refused 1 4096 (inl (refl, record { given = h; there = refl }))
+-- 1, 3 and 4 show no bytes
+limits : (text : List ℕ) (n p : ℕ) → among n Shown ≡ false → RefusedWith (order text) n p
+    → Tokenized text (refusedBy (refusal n p))
+limits text n p e h = refused _ (record { by = h; shows = other e refl })
+
+pub read-long : (text : List ℕ) → 4096 < length text → Tokenized text (refusedBy (refusal 1 4096))
+unfolding RefusedWith order among
+read-long text h = limits text 1 4096 refl (inl (refl, record { given = h; there = refl }))
 
 module _ (text : List ℕ) (l : length text ≤ 4096) where
   short : Never (check 1 (too-long (length text)))
   short p a = let h = a .given in omega arith
 
-  pub read-stuck : {q : ℕ} → Stuck 0 text q → Tokenized text (refusedWith 2 q)
+  pub read-stuck : {q : ℕ} → Stuck 0 text q → Tokenized text (refusedBy (stoppedAt text q))
   unfolding RefusedWith order
   read-stuck {q} s =
-      refused 2 q
-      (inr (short, inl (refl, record { given = s; before = λ i k t. let e = stuck-unique s t in omega arith })))
+      refused _
+      (record {
+        by = inr (short, inl (refl, record { given = s; before = λ i k t. let e = stuck-unique s t in omega arith }));
+        shows = to-blank refl refl;
+      })
 
   module _ {ts : List Token} (r : Reads 0 text ts) where
     unstuck : Never (check 2 (no-token (Stuck 0 text)))
@@ -84,10 +97,10 @@ module _ (text : List ℕ) (l : length text ≤ 4096) where
 
     pub read-deep :
         overAt opened 32 0 (codesOf ts) < length ts →
-        Tokenized text (refusedWith 3 (getD (placesOf ts) (overAt opened 32 0 (codesOf ts)) 0))
-    unfolding RefusedWith order
+        Tokenized text (refusedBy (refusal 3 (getD (placesOf ts) (overAt opened 32 0 (codesOf ts)) 0)))
+    unfolding RefusedWith order among
     read-deep h =
-        refused 3 _
+        limits text 3 _ refl
         (inr (
           short,
           inr (
@@ -103,10 +116,10 @@ module _ (text : List ℕ) (l : length text ≤ 4096) where
     module _ (d : length ts ≤ overAt opened 32 0 (codesOf ts)) where
       pub read-many :
           overAt counted 256 0 (codesOf ts) < length ts →
-          Tokenized text (refusedWith 4 (getD (placesOf ts) (overAt counted 256 0 (codesOf ts)) 0))
-      unfolding RefusedWith order
+          Tokenized text (refusedBy (refusal 4 (getD (placesOf ts) (overAt counted 256 0 (codesOf ts)) 0)))
+      unfolding RefusedWith order among
       read-many h =
-          refused 4 _
+          limits text 4 _ refl
           (inr (
             short,
             inr (

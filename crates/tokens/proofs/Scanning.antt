@@ -1,14 +1,16 @@
 -- The scan of a text: what is known at a place where a token is to start, and how it goes on.
 --   Scanned        the tokens before the place are written, and what the rest comes to, the text comes to
 --   scan-start, scan-blank, scan-token   at the start; past a blank; past a token
---   scan-stop, scan-end                  where no token starts; at the text's end
+--   stop-inside, scan-stop, scan-end     where no token starts; at the text's end
 use mathlib.Core.Path.{_≡_, refl, _∙_}
 use mathlib.Core.Bool.{true, false}
+use mathlib.Core.Logic.{_⊎_, inl, inr}
 use mathlib.Core.List.{List, [], _∷_, _++_, append-assoc, append-nil}
 use Prim.Native.Nat.{ℕ, suc, _+_, _≤_, _<_}
 use native.Mathlib.Omega.{arith}
 use native.Mathlib.Numerals.{add-one}
 use lib.ListN.{length, take, drop, getD, set, length-append, length-drop, length-take, drop-of-length-le}
+use lib.ListN.{List·getD-eq-default}
 use lib.Seq.{drop-cons, drop-drop}
 use Rattle.token_steps.specs.declared.Step.{Step}
 use Rattle.token_steps.specs.Classes.{isBlank}
@@ -26,6 +28,7 @@ use Rattle.tokens.specs.Inner.Scan.{whole}
 use Rattle.token_steps.proofs.TokenStarts.{token-size}
 use Rattle.token_steps.proofs.Right.{Right}
 use Rattle.token_steps.proofs.Taking.{right}
+use Rattle.basics.proofs.Bools.{below?}
 use Rattle.tokens.proofs.Filling.{filled-none, filled-more}
 
 pub record Scanned (text : List ℕ) (p count : ℕ) (codes places : List ℕ) : Type 0 where
@@ -62,6 +65,19 @@ stop-small (barred (loose a b)) = omega arith
 stop-small (barred (lone a b c)) = omega arith
 stop-small (barred (bad-half a b c)) = omega arith
 stop-small (tokenless t f) = omega arith
+
+-- the byte refused is one of the bytes, or the first where there is none
+none-inside : (bs : List ℕ) {k : ℕ} → NoToken bs k → k ≤ length bs
+none-inside bs (barred (together a b c)) = omega arith
+none-inside bs (barred (overlong a b)) = omega arith
+none-inside bs (barred (loose a b)) = omega arith
+none-inside bs (barred (lone a b c)) = omega arith
+none-inside bs (barred (bad-half a b c)) = go (below? (length bs) 3)
+  where
+    go : (length bs < 3) ⊎ (3 ≤ length bs) → 3 ≤ length bs
+    go (inl l) = let z : getD bs 3 0 ≡ 0 = List·getD-eq-default bs 0 (omega arith) in absurd (omega (arith, z, b))
+    go (inr l) = l
+none-inside bs (tokenless t f) = omega arith
 
 reads-token :
     {bs xs w a : List ℕ} {x p c : ℕ} {ts : List Token} →
@@ -109,6 +125,10 @@ module _ (text : List ℕ) (p : ℕ) (h : p < length text) where
 
       pub stop-fits : r .code ≡ none → r .size ≤ 3
       stop-fits c = stop-small (step-right .stops c)
+
+      pub stop-inside : r .code ≡ none → p + r .size ≤ length text
+      stop-inside c =
+          let k = none-inside (drop p text) (step-right .stops c) in omega (arith, length-drop p text)
 
       pub scan-stop : isBlank first ≡ false → r .code ≡ none → Stuck 0 text (p + r .size)
       scan-stop b c = z .stuck _ (rw rest (here b (rw rest at (step-right .stops c))))

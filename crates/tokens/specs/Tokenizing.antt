@@ -2,17 +2,19 @@
 --   zeros, filled           4,096 zeros; a list with zeros behind it
 --   codesOf, placesOf       the codes and the places of tokens
 --   made                    the tokens, handed over
---   refusedWith             a refusal, and no tokens
---   Tokenized                 what a text comes to
+--   refusedBy               a refusal, and no tokens
+--   Tokenized               what a text comes to
 use Prim.Native.Nat.{ℕ}
 use mathlib.Core.Bool.{true, false}
 use mathlib.Core.List.{List, map}
 use lib.ListN.{length, replicate}
 use Rattle.basics.specs.Memory.{front}
 use Rattle.basics.specs.Refusing.{refusal}
-use Rattle.alf.specs.Refusals.{RefusedWith, Passed}
+use Rattle.basics.specs.declared.Refusal.{Refusal}
+use Rattle.alf.specs.Refusals.{Passed}
 use Rattle.tokens.specs.declared.Tokens.{Tokens}
 use Rattle.tokens.specs.Texts.{Token, Reads, order}
+use Rattle.tokens.specs.Extents.{RefusedIn}
 
 unfoldable pub zeros : List ℕ
 zeros = replicate 4096 0
@@ -39,10 +41,10 @@ made ts =
     }
 
 -- refused: no tokens
-unfoldable pub refusedWith : ℕ → ℕ → Tokens
-refusedWith n p = record { refused = true; refusal = refusal n p; count = 0; codes = zeros; places = zeros }
+unfoldable pub refusedBy : Refusal → Tokens
+refusedBy r = record { refused = true; refusal = r; count = 0; codes = zeros; places = zeros }
 
 -- 1 to 4 in their order, exactly when the table says; else the tokens of the text
 pub data Tokenized (text : List ℕ) : Tokens → Type 0 where
-  refused : (n p : ℕ) → RefusedWith (order text) n p → Tokenized text (refusedWith n p)
+  refused : (r : Refusal) → RefusedIn text (order text) r → Tokenized text (refusedBy r)
   read : {ts : List Token} → Passed (order text) → Reads 0 text ts → Tokenized text (made ts)

@@ -1,14 +1,18 @@
 // A text into its tokens, or refused with 1, 2, 3 or 4.
+mod extents;
 mod limits;
 
 ghost use mathlib.Core.Path.{_≡_};
 ghost use Prim.Native.Nat.{_≤_};
 ghost use lib.ListN.{length};
-ghost use Rattle.tokens.specs.Inner.{Scan};
-ghost use Rattle.tokens.specs.Tokenizing.{Tokenized, refusedWith, zeros};
+ghost use Rattle.basics.specs.Refusing.{refusal};
+ghost use Rattle.tokens.specs.Inner.{Scan, stoppedAt};
+ghost use Rattle.tokens.specs.Tokenizing.{Tokenized, refusedBy, zeros};
+use crate::extents::to_blank;
 use crate::limits::first_over;
 use basics::Refusal;
 use basics::refusing::refusal_of;
+use basics::refusing::refusal_over;
 use token_steps::classes::is_blank;
 use token_steps::steps::take_token;
 
@@ -34,18 +38,33 @@ fn no_places() -> [u16; 4096]
 }
 
 // No tokens, but a refusal.
-fn refuse_text(number: u8, place: usize) -> Tokens
-    ensures { λ r. ⌜ r ≡ refusedWith number place ⌝ }
+fn hand_on(refusal: Refusal) -> Tokens
+    ensures { λ r. ⌜ r ≡ refusedBy refusal ⌝ }
 {
     let codes = no_codes();
     let places = no_places();
     Tokens {
         refused: true,
-        refusal: refusal_of(number, place),
+        refusal,
         count: 0,
         codes,
         places,
     }
+}
+
+// 1, 3 and 4 show no bytes.
+fn refuse_text(number: u8, place: usize) -> Tokens
+    ensures { λ r. ⌜ r ≡ refusedBy (refusal number place) ⌝ }
+{
+    hand_on(refusal_of(number, place))
+}
+
+// 2 shows the bytes up to the next blank or the end.
+fn refuse_bytes(text: &[u8], place: usize) -> Tokens
+    requires { ⌜ place ≤ length (now text) ⌝ }
+    ensures { λ r. ⌜ r ≡ refusedBy (stoppedAt (now (text .entry)) place) ⌝ }
+{
+    hand_on(refusal_over(2, place, to_blank(text, place)))
 }
 
 // The tokens of a text of at most 4,096 bytes, or refused with 2.
@@ -66,7 +85,7 @@ fn scan(text: &[u8]) -> Tokens
         let code = s.code;
         let size = s.size;
         if code == 255 {
-            return refuse_text(2, at + size);
+            return refuse_bytes(text, at + size);
         }
         codes[count] = code;
         places[count] = at as u16;

@@ -76,10 +76,10 @@ module _ (file names times states : List ℕ) where
   reads-unique (Refused p) (Refused q) g h =
       let e = one-refusal (g .0) (h .0) in
       record {
-        answer = ap Refused (refusal-same e);
-        names-now = g .1 .names-kept ∙ sym (h .1 .names-kept);
-        times-now = g .1 .times-kept ∙ sym (h .1 .times-kept);
-        states-now = g .1 .states-kept ∙ sym (h .1 .states-kept);
+        answer = ap Refused (refusal-same e (g .1 ∙ sym (h .1)));
+        names-now = g .2 .names-kept ∙ sym (h .2 .names-kept);
+        times-now = g .2 .times-kept ∙ sym (h .2 .times-kept);
+        states-now = g .2 .states-kept ∙ sym (h .2 .states-kept);
       }
 
 pub checks-unique :
@@ -170,7 +170,7 @@ module _ {names times states : List ℕ} {n : ℕ} (t : Trace names times states
   unfolding Comes after
   writes-bytes (Outcome.Done m) h w = record { answer = ap Outcome.Done (w .outcome .1); memory = w .memory }
   writes-bytes {out} (Outcome.Refused r) h w =
-      absurd (refused-passed (writeOrder names times states n (length out)) _ _ (writing-passes h) (w .outcome))
+      absurd (refused-passed (writeOrder names times states n (length out)) _ _ (writing-passes h) (w .outcome .by))
 
   -- reading what was written gives the same names, times and states
   pub read-write :

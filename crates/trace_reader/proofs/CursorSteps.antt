@@ -170,7 +170,8 @@ module _ {file : List ℕ} (s : Cursor) {o : Outcome} (checked : Checks file s o
     pub file-refused : {r : Refusal} → o ≡ Refused r → Checked file (Reading.Refused r)
     unfolding Comes Checked
     file-refused e =
-        record { names = s .names; rows = s .rows; before = before; refused = rw e at checked }
+        let c = rw e at checked in
+        (record { names = s .names; rows = s .rows; before = before; refused = c .by }, c .bare)
 
     pub file-accepted : {mark : ℕ} → o ≡ Done mark → mark ≡ 3
         → Checked file (Reading.Read (s .names) (s .rows))

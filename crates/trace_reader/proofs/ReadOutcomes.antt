@@ -45,6 +45,7 @@ module _ {file : List ℕ} {k n : ℕ} (accepted : Accepted file k n) (names tim
   short needed e h =
       rw e (
         inr (record { k = k; n = n; accepted = accepted; refused = h }),
+        refl,
         record { names-kept = refl; times-kept = refl; states-kept = refl },
       )
 
@@ -111,4 +112,5 @@ module _ (file : List ℕ) {o : Reading} (checked : Checked file o) where
       Reads file names times states names times states (Refused r)
   unfolding Checked Reads
   refused names times states e =
-      (inl (rw e at checked), record { names-kept = refl; times-kept = refl; states-kept = refl })
+      let c = rw e at checked in
+      (inl (c .0), c .1, record { names-kept = refl; times-kept = refl; states-kept = refl })

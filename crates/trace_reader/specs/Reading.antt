@@ -8,7 +8,7 @@ use mathlib.Core.Path.{_≡_}
 use mathlib.Core.List.{List, [], _∷_}
 use lib.ListN.{length}
 use Rattle.alf.specs.Names.{namesIn}
-use Rattle.alf.specs.Refusals.{Order, check, no-room, RefusedWith, Passed}
+use Rattle.alf.specs.Refusals.{Order, check, no-room, RefusedWith, Bare, Passed}
 use Rattle.trace_format.specs.declared.Mark.the-variants.{End}
 use Rattle.trace_reader.specs.declared.Reading.{Reading}
 use Rattle.trace_reader.specs.declared.Reading.the-variants.{Read, Refused}
@@ -65,5 +65,5 @@ unfoldable pub Reads : List ℕ → List ℕ → List ℕ → List ℕ → List 
 Reads file names times states names′ times′ states′ (Read k n) =
     Got file names times states k n names′ times′ states′
 Reads file names times states names′ times′ states′ (Refused r) =
-    (FileRefused file (r .number) (r .place) ⊎ RoomRefused file names times states (r .number) (r .place))
+    (FileRefused file (r .number) (r .place) ⊎ RoomRefused file names times states (r .number) (r .place)) × Bare r
     × Untouched names times states names′ times′ states′

@@ -9,7 +9,7 @@ use mathlib.Core.List.{List}
 use lib.ListN.{length, getD}
 use Rattle.basics.specs.declared.Outcome.{Outcome}
 use Rattle.basics.specs.declared.Outcome.the-variants.{Done}
-use Rattle.alf.specs.Refusals.{Comes}
+use Rattle.alf.specs.Refusals.{Bare, Comes}
 use Rattle.trace_reader.specs.declared.Cursor.{Cursor}
 use Rattle.trace_format.specs.declared.Mark.{Mark}
 use Rattle.trace_format.specs.declared.Mark.the-variants.{Name, Row, End, Other}
@@ -76,4 +76,4 @@ pub record Next (file : List ℕ) (s t : Cursor) : Type 0 where
 -- what the pass over a whole file comes to
 unfoldable pub Checked : List ℕ → Reading → Type 0
 Checked file (Read k n) = Accepted file k n
-Checked file (Refused r) = FileRefused file (r .number) (r .place)
+Checked file (Refused r) = FileRefused file (r .number) (r .place) × Bare r

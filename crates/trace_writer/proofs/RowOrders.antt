@@ -16,7 +16,7 @@ use Rattle.basics.proofs.Deciding.{told, not-told}
 use Rattle.basics.specs.declared.Outcome.{Outcome}
 use Rattle.basics.specs.declared.Outcome.the-variants.{Done}
 use Rattle.alf.specs.Refusals.{RefusedWith, Passed, Comes}
-use Rattle.alf.proofs.Orders.{Is, refused-first, refused-then, passed-both}
+use Rattle.alf.proofs.Orders.{Is, plainly, refused-first, refused-then, passed-both}
 use Rattle.trace_format.specs.Parts.{CodesTo}
 use Rattle.trace_writer.specs.Putting.{Later}
 use Rattle.trace_writer.specs.Writing.{rowsOrder, BadState}
@@ -47,9 +47,10 @@ module _ (k : ℕ) (times states : List ℕ) (first : ℕ) where
       unfolding Comes RefusedWith rowsOrder
       row-late e f =
           rw e
+          (plainly _ 13 (first + r)
           (further (suc r) n 13 (first + r) before
           (refused-then (rowsOrder k times states first r) _ 13 (first + r) passed
-          (inl (refl, record { given = not-above (first + r) _ _ (not-told _ tested f); there = refl }))))
+          (inl (refl, record { given = not-above (first + r) _ _ (not-told _ tested f); there = refl })))))
 
       module _ (later : b ≡ true) where
         above : (p : ℕ) → Rattle.alf.specs.Refusals.not-above times (first + r) p → ⊥
@@ -63,6 +64,7 @@ module _ (k : ℕ) (times states : List ℕ) (first : ℕ) where
           unfolding Comes RefusedWith rowsOrder
           row-bad e l =
               rw e
+              (plainly _ 15 bad
               (further (suc r) n 15 bad before
               (refused-then (rowsOrder k times states first r) _ 15 bad passed
               (inr (
@@ -75,7 +77,7 @@ module _ (k : ℕ) (times states : List ℕ) (first : ℕ) where
                     before = no-bad;
                   },
                 ),
-              ))))
+              )))))
 
           pub row-passes : from + k ≤ bad → Passed (rowsOrder k times states first (r + 1))
           unfolding Passed rowsOrder

@@ -22,7 +22,7 @@ use Rattle.basics.specs.declared.Outcome.{Outcome}
 use Rattle.basics.specs.declared.Outcome.the-variants.{Done, Refused}
 use Rattle.alf.specs.Names.{namesIn, GoodSlot}
 use Rattle.alf.specs.Refusals.{Order, bad-slot, RefusedWith, Passed, Comes}
-use Rattle.alf.proofs.Orders.{Is, none-first, refused-first, refused-then, passed-both, passed-left, passed-right}
+use Rattle.alf.proofs.Orders.{Is, plainly, by-first, by-then, none-first, passed-both, passed-left, passed-right}
 use Rattle.alf.proofs.Orders.{fixed-both}
 use Rattle.alf.proofs.Outcomes.{AllFixed, at-fixed, first-fixed}
 use Rattle.names.specs.Check.{namesOrder}
@@ -41,30 +41,37 @@ pub checked-18 :
     Is o 18 0 →
     Comes (lentOrder names times states n) made o
 unfolding Comes RefusedWith
-checked-18 names times states n made t f e = rw e (inl (refl, record { given = not-told _ t f; there = refl }))
+checked-18 names times states n made t f e =
+    rw e (plainly _ 18 0 (inl (refl, record { given = not-told _ t f; there = refl })))
 
 module _ {names times states : List ℕ} {n : ℕ} where
   -- lists that fit: a list of names that is refused is refused with 12
+  twelve : AllLists names times states n → (i p : ℕ) → RefusedWith (namesOrder names) i p
+      → RefusedWith (lentOrder names times states n) i p
+  unfolding RefusedWith
+  twelve all i p (inl h) = absurd (h .1 .given (all .slots))
+  twelve all i p (inr (h, inl j)) = inr ((λ p a. a .given all), inl j)
+  twelve all i p (inr (h, inr j)) = absurd (j .1)
+
   pub checked-12 : AllLists names times states n → (o : Outcome) → Comes (namesOrder names) (λ m. m ≡ namesIn names) o
       → Comes (lentOrder names times states n) (λ m. m ≡ namesIn names) o
-  unfolding Comes RefusedWith Passed
+  unfolding Comes Passed
   checked-12 all (Done k) c = (((λ p a. a .given all), (c .0 .1 .0, tt)), c .1)
-  checked-12 all (Refused r) (inl h) = absurd (h .1 .given (all .slots))
-  checked-12 all (Refused r) (inr (h, inl i)) = inr ((λ p a. a .given all), inl i)
-  checked-12 all (Refused r) (inr (h, inr i)) = absurd (i .1)
+  checked-12 all (Refused r) c = record { by = twelve all _ _ (c .by); bare = c .bare }
 
 -- refused by the first part of an order, whatever is asked afterwards
-pub comes-first : (o rest : Order) (made made′ : ℕ → Type 0) {x : Outcome} {r : Refusal} → Comes o made x → x ≡ Refused r
+pub comes-first : (o rest : Order) (made made′ : ℕ → Type 0) {x : Outcome} {r : Refusal} → Comes o made x
+    → x ≡ Refused r
     → Comes (o ++ rest) made′ (Refused r)
 unfolding Comes
-comes-first o rest made made′ {r = r} c e = refused-first o rest (r .number) (r .place) (rw e at c)
+comes-first o rest made made′ c e = by-first o rest (rw e at c)
 
 -- the first part is passed
 pub comes-then : (o rest : Order) (made : ℕ → Type 0) (x : Outcome) → Passed o → Comes rest made x
     → Comes (o ++ rest) made x
 unfolding Comes
 comes-then o rest made (Done k) h c = (passed-both o rest h (c .0), c .1)
-comes-then o rest made (Refused r) h c = refused-then o rest (r .number) (r .place) h c
+comes-then o rest made (Refused r) h c = by-then o rest h c
 
 -- the lists that pass 18 and 12
 module _ {names times states : List ℕ} {n k : ℕ} (g : NamesGood names times states n k) where

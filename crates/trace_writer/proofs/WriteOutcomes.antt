@@ -11,8 +11,8 @@ use Rattle.alf.specs.Names.{namesIn}
 use Rattle.basics.specs.declared.Refusal.{Refusal}
 use Rattle.basics.specs.declared.Outcome.{Outcome}
 use Rattle.basics.specs.declared.Outcome.the-variants.{Done, Refused}
-use Rattle.alf.specs.Refusals.{RefusedWith, Passed, Comes}
-use Rattle.alf.proofs.Orders.{Is, refused-first, refused-then, passed-both}
+use Rattle.alf.specs.Refusals.{RefusedWith, RefusedBy, Passed, Comes}
+use Rattle.alf.proofs.Orders.{Is, plainly, by-first, refused-then, passed-both}
 use Rattle.trace_format.specs.Format.{nameRecords, rowRecords, endRecord, fileOf}
 use Rattle.trace_writer.specs.Writing.{listsOrder, writeOrder, Writes}
 use Rattle.basics.specs.Memory.{Put, after}
@@ -24,12 +24,12 @@ use Rattle.trace_writer.proofs.TraceChecks.{rows-lent}
 
 module _ {names times states : List ℕ} {n : ℕ} (out : List ℕ) where
   stopped :
-      (o : Outcome) (number p : ℕ) →
-      Is o number p →
-      RefusedWith (writeOrder names times states n (length out)) number p →
+      {o : Outcome} {r : Refusal} →
+      o ≡ Refused r →
+      RefusedBy (writeOrder names times states n (length out)) r →
       Writes names times states n out out o
   unfolding Comes after
-  stopped o number p e r = rw e (record { outcome = r; memory = refl })
+  stopped e h = rw e (record { outcome = h; memory = refl })
 
   -- a trace that is refused before there is talk of room
   pub writes-refused :
@@ -39,8 +39,7 @@ module _ {names times states : List ℕ} {n : ℕ} (out : List ℕ) where
       Writes names times states n out out (Refused r)
   unfolding Comes
   writes-refused {o} {r} made c e =
-      stopped (Refused r) (r .number) (r .place) refl
-      (refused-first (listsOrder names times states n) _ (r .number) (r .place) (rw e at c))
+      stopped refl (by-first (listsOrder names times states n) _ (rw e at c))
 
 -- a good trace
 module _ {names times states : List ℕ} {n k : ℕ} (g : Good names times states n k) where
@@ -79,9 +78,10 @@ module _ {names times states : List ℕ} {n k : ℕ} (g : Good names times state
         Writes names times states n out out o
     unfolding RefusedWith
     writes-9 {o} e h =
-        stopped out o 9 (s + n * (6 + k) + 6) e
+        stopped out e
+        (plainly _ 9 (s + n * (6 + k) + 6)
         (refused-then (listsOrder names times states n) _ 9 (s + n * (6 + k) + 6) (g .passed)
-        (inl (refl, record { given = omega (arith, all-size); there = sym all-size })))
+        (inl (refl, record { given = omega (arith, all-size); there = sym all-size }))))
 
     module _ (room : s + n * (6 + k) + 6 ≤ length out) where
       pub slots-fit : SlotsFit names k out

@@ -24,7 +24,7 @@ use Rattle.alf.specs.Values.{stateAt}
 use Rattle.alf.specs.Alternatives.{answerOf}
 use Rattle.alf.specs.Refusals.{Order, RefusedBy, Passed, Comes}
 use Rattle.alf.proofs.Answers.{row-answer-small}
-use Rattle.alf.proofs.Orders.{refused-first, refused-then, passed-both}
+use Rattle.alf.proofs.Orders.{by-first, by-then, passed-both}
 use Rattle.acceptance.specs.Accepted.{Accepted}
 use Rattle.states.specs.FirstBadCode.{Codes}
 use Rattle.matcher.specs.declared.tables.Total.{Total}
@@ -55,13 +55,13 @@ module _ (lists : Type 0) (names : ℕ) (tree states text : List ℕ) where
 
   text-refused : (room : ℕ) (r : Refusal) → RefusedBy checks r
       → RefusedBy (textOrder lists names tree states text room) r
-  text-refused room r h = refused-first checks (lineOrder text room) (r .number) (r .place) h
+  text-refused room r h = by-first checks (lineOrder text room) h
 
   text-written : (room : ℕ) (r : Outcome) → Passed checks → Comes (lineOrder text room) (λ m. m ≡ length text) r
       → Comes (textOrder lists names tree states text room) (λ m. m ≡ length text) r
   unfolding Comes
   text-written room (outcome.Done m) p c = (passed-both checks (lineOrder text room) p (c .0), c .1)
-  text-written room (outcome.Refused r) p c = refused-then checks (lineOrder text room) _ _ p c
+  text-written room (outcome.Refused r) p c = by-then checks (lineOrder text room) p c
 
 -- The answers, in a list of n entries.
 pub listed-most : (most n : ℕ) (f : ℕ → ℕ) → ((i : ℕ) → f i ≤ most) → (i : ℕ) → i < length (listed 0 n f)

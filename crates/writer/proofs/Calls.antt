@@ -50,14 +50,22 @@ use Rattle.spelling.proofs.Lines.{line-text, text-short, signs-spellable}
 pub delivered-long : {w out : List ℕ} → 4096 < length w
     → Delivers w out out (Refused (refusal 1 4096))
 unfolding Comes RefusedWith endOrder after
-delivered-long h = record { outcome = inl (refl, record { given = h; there = refl }); memory = refl }
+delivered-long h =
+    record {
+      outcome = record { by = inl (refl, record { given = h; there = refl }); bare = refl };
+      memory = refl;
+    }
 
 pub delivered-short : {w out : List ℕ} → length w ≤ 4096 → length out < length w
     → Delivers w out out (Refused (refusal 9 (length w)))
 unfolding Comes RefusedWith endOrder after
 delivered-short h k =
     record {
-      outcome = inr ((λ p r. omega (arith, r .given)), inl (refl, record { given = k; there = refl }));
+      outcome =
+          record {
+            by = inr ((λ p r. omega (arith, r .given)), inl (refl, record { given = k; there = refl }));
+            bare = refl;
+          };
       memory = refl;
     }
 
@@ -102,19 +110,27 @@ module _ (names tree : List ℕ) (sort : Sort) (room : ℕ) where
   comes-names : (made : ℕ → Type 0) (r : Refusal) → Comes (namesOrder names) made (Refused r)
       → Comes (order names tree sort room) (done names tree) (Refused r)
   unfolding Comes
-  comes-names made r x = names-refused (r .number) (r .place) x
+  comes-names made r x = record { by = names-refused (r .number) (r .place) (x .by); bare = x .bare }
 
   comes-ten : Named names → (Accepted (namesIn names) sort tree → ⊥)
       → Comes (order names tree sort room) (done names tree) (Refused (refusal 10 0))
   unfolding Comes RefusedWith Passed order
-  comes-ten h f = inr (h .passed .0, inr (h .passed .1 .0, inl (refl, record { given = f; there = refl })))
+  comes-ten h f =
+      record {
+        by = inr (h .passed .0, inr (h .passed .1 .0, inl (refl, record { given = f; there = refl })));
+        bare = refl;
+      }
 
   comes-end : Named names → Accepted (namesIn names) sort tree → (r : Outcome)
       → Comes (endOrder (textAt names tree) room) (done names tree) r
       → Comes (order names tree sort room) (done names tree) r
   unfolding Comes RefusedWith Passed order endOrder
   comes-end h a (Done k) x = ((h .passed .0, (h .passed .1 .0, ((λ p y. y .given a), x .0))), x .1)
-  comes-end h a (Refused q) x = inr (h .passed .0, inr (h .passed .1 .0, inr ((λ p y. y .given a), x)))
+  comes-end h a (Refused q) x =
+      record {
+        by = inr (h .passed .0, inr (h .passed .1 .0, inr ((λ p y. y .given a), x .by)));
+        bare = x .bare;
+      }
 
 -- refused before the text is made
 pub refused-names : {names tree : List ℕ} {sort : Sort} {out : List ℕ} (made : ℕ → Type 0) {r : Refusal}

@@ -7,10 +7,10 @@ use Rattle.complaints.proofs.note_text.Statement.{statement}
 use Rattle.complaints.proofs.note_text.Tie as tie
 
 abbrev Inv-loop : tie.InvT-loop
-Inv-loop text blank i₀ i = i ≤ length text
+Inv-loop text tabs i₀ i = i ≤ length text
 
 abbrev μ-loop : tie.MeasureT-loop
-μ-loop text blank i₀ i = length text - i
+μ-loop text tabs i₀ i = length text - i
 
 pub note-text-spec : {M : Type 1} → statement M
 note-text-spec =
@@ -19,9 +19,8 @@ note-text-spec =
     Inv-loop
     μ-loop
     (λ c. omega arith)  -- loop-holds
-    (λ c. omega arith)  -- shared-slice-read-shown
-    (λ c κs. search needs)  -- shown-requires
-    (λ c κs. search needs)  -- note-byte-requires
+    (λ c. omega arith)  -- shared-slice-read-note-shown
+    (λ c κs. search needs)  -- note-shown-requires
     (λ c. omega arith)  -- add-i
     (λ c. omega arith)  -- loop-less
     (λ c. omega arith)  -- loop-again

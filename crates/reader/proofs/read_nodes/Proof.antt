@@ -3,7 +3,8 @@ use borrow.Author.Needs.{needs}
 use borrow.Author.Tests.{not-true, not-false}
 use mathlib.Core.Path.{sym, _∙_}
 use Rattle.sorting.specs.Sorts.{sortedFor}
-use Rattle.reader.proofs.Trees.{nodes-handed, pass-tree, answer-stopped, answer-wrong, answer-read}
+use Rattle.reader.proofs.Trees.{nodes-handed, pass-tree, stopped-inside, answer-stopped}
+use Rattle.reader.proofs.Trees.{answer-wrong, answer-read}
 use Rattle.reader.proofs.read_nodes.Statement.{statement}
 use Rattle.reader.proofs.read_nodes.Tie as tie
 
@@ -12,6 +13,12 @@ sort-nodes-requires c κs =
     let start = c .before .before .before .before .before .before in
     nodes-handed (start .pre)
 
+refuse-token-requires : tie.Need-refuse-token-requires
+refuse-token-requires c κs =
+    let n = c .before in
+    let start = n .before .before .before .before .before .before .before in
+    stopped-inside (start .pre) (n .sort-nodes .ensures) (not-true _ (c .if1 .taken))
+
 returns : tie.Need-returns
 unfolding sortedFor
 returns c =
@@ -19,7 +26,7 @@ returns c =
     record {
       given = λ e f q.
           answer-stopped _ _ _ (pass-tree e f q (n .ensures)) (not-true _ (c .before .if1 .taken))
-          (c .refuse-text .ensures);
+          (c .refuse-token .ensures);
     }
 
 returns-2 : tie.Need-returns-2
@@ -29,7 +36,7 @@ returns-2 c =
     record {
       given = λ e f q.
           answer-wrong _ _ _ (pass-tree e f q (b .before .sort-nodes .ensures)) (not-false _ (b .if1 .left))
-          (sym (c .before .before .has-sort .ensures) ∙ not-true _ (c .before .if2 .taken)) (c .refuse-text2 .ensures);
+          (sym (c .before .before .has-sort .ensures) ∙ not-true _ (c .before .if2 .taken)) (c .refuse-token2 .ensures);
     }
 
 returns-3 : tie.Need-returns-3
@@ -51,11 +58,11 @@ read-nodes-spec =
     (λ c. search needs)  -- slice-aggregate-sort-nodes
     (λ c. search needs)  -- slice-aggregate-sort-nodes-2
     sort-nodes-requires
-    (λ c κs. search needs)  -- refuse-text-requires
+    refuse-token-requires
     returns
     (λ c. search needs)  -- element-copy-out-has-sort
     (λ c κs. search needs)  -- has-sort-requires
-    (λ c κs. search needs)  -- refuse-text-requires-2
+    (λ c κs. search needs)  -- refuse-token-requires-2
     returns-2
     (λ c κs. search needs)  -- refusal-of-requires
     returns-3)

@@ -3,8 +3,8 @@ use borrow.Author.Needs.{needs}
 use borrow.Author.Tests.{not-true, not-false}
 use native.Mathlib.Omega.{arith}
 use Prim.Native.Nat.{_<_}
-use Rattle.reader.proofs.TokenedTexts.{parse-asked, names-asked, count-small, short, whole-five, whole-six}
-use Rattle.reader.proofs.TokenedTexts.{grown, whole-sorted}
+use Rattle.reader.proofs.TokenedTexts.{parse-asked, names-asked, count-small, short, five-inside}
+use Rattle.reader.proofs.TokenedTexts.{whole-five, whole-six, grown, whole-sorted}
 use Rattle.reader.proofs.read_tokened.Statement.{statement}
 use Rattle.reader.proofs.read_tokened.Tie as tie
 
@@ -15,11 +15,16 @@ begun p = p .before .before .before .before .before .before .before
 parse-requires : tie.Need-parse-requires
 parse-requires c κs = let copied = c .before .before .before in parse-asked (copied .before .before .before .pre)
 
+refuse-token-requires : tie.Need-refuse-token-requires
+refuse-token-requires c κs =
+    let parsed = c .before .before in
+    five-inside (begun parsed .pre) (begun parsed .args .sort) (parsed .parse .ensures) (not-true _ (c .if1 .taken))
+
 returns : tie.Need-returns
 returns c =
     let parsed = c .before .before .before in
     whole-five (begun parsed .pre) _ (parsed .parse .ensures) (not-true _ (c .before .if1 .taken))
-    (c .refuse-text .ensures)
+    (c .refuse-token .ensures)
 
 first-unknown-requires : tie.Need-first-unknown-requires
 first-unknown-requires c κs =
@@ -31,18 +36,23 @@ inside c =
     let parsed = c .before .before .before .before .before .before in
     omega (arith, count-small (begun parsed .pre), c .if2 .taken)
 
-cast-refuse-text : tie.Need-cast-refuse-text
-cast-refuse-text c =
+cast-refuse-token : tie.Need-cast-refuse-token
+cast-refuse-token c =
     let parsed = c .before .before .before .before .before .before in
     let k = begun parsed .pre in
     omega (arith, names-asked k .inside (c .before .first-unknown .result) (c .if2 .taken), short k)
+
+refuse-token-requires-2 : tie.Need-refuse-token-requires-2
+refuse-token-requires-2 c κs =
+    let parsed = c .before .before .before .before .before .before in
+    names-asked (begun parsed .pre) .inside (c .before .first-unknown .result) (c .if2 .taken)
 
 returns-2 : tie.Need-returns-2
 returns-2 c =
     let good = c .before .before .before .before .before in
     let parsed = good .before .before in
     whole-six (begun parsed .pre) _ (parsed .parse .ensures) (not-false _ (good .if1 .left))
-    (c .before .before .first-unknown .ensures) (c .before .if2 .taken) (c .refuse-text2 .ensures)
+    (c .before .before .first-unknown .ensures) (c .before .if2 .taken) (c .refuse-token2 .ensures)
 
 read-nodes-requires : tie.Need-read-nodes-requires
 read-nodes-requires c κs =
@@ -66,15 +76,15 @@ read-tokened-spec =
     (λ c. search needs)  -- slice-aggregate-parse
     (λ c. search needs)  -- slice-aggregate-parse-2
     parse-requires
-    (λ c κs. search needs)  -- refuse-text-requires
+    refuse-token-requires
     returns
     (λ c. search needs)  -- slice-aggregate-first-unknown
     (λ c. search needs)  -- slice-aggregate-first-unknown-2
     first-unknown-requires
-    (λ c. let small = inside c in omega arith)  -- mul-refuse-text
-    inside  -- array-read-refuse-text
-    cast-refuse-text
-    (λ c κs. search needs)  -- refuse-text-requires-2
+    (λ c. let small = inside c in omega arith)  -- mul-refuse-token
+    inside  -- array-read-refuse-token
+    cast-refuse-token
+    refuse-token-requires-2
     returns-2
     read-nodes-requires
     returns-3)

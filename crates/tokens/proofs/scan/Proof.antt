@@ -6,8 +6,8 @@ use mathlib.Core.Path.{sym, _∙_}
 use Prim.Native.Nat.{_+_, _-_, _≤_, _<_}
 use lib.ListN.{length}
 use Rattle.tokens.specs.Inner.Scan.{stopped}
-use Rattle.tokens.proofs.Scanning.{Scanned, scan-start, scan-blank, stop-fits, scan-stop, token-fits}
-use Rattle.tokens.proofs.Scanning.{scan-token, scan-end}
+use Rattle.tokens.proofs.Scanning.{Scanned, scan-start, scan-blank, stop-fits, stop-inside, scan-stop}
+use Rattle.tokens.proofs.Scanning.{token-fits, scan-token, scan-end}
 use Rattle.tokens.proofs.scan.Statement.{statement}
 use Rattle.tokens.proofs.scan.Tie as tie
 
@@ -26,11 +26,16 @@ loop-again c =
     scan-blank _ _ (turn .loop-test .taken) (turn .before .loop .inv)
     (sym (c .before .is-blank .ensures) ∙ c .if1 .taken)
 
-add-refuse-text : tie.Need-add-refuse-text Inv-loop μ-loop
-add-refuse-text c =
+add-refuse-bytes : tie.Need-add-refuse-bytes Inv-loop μ-loop
+add-refuse-bytes c =
     let turn = c .before .before .before .before .before in
     let step = c .before .take-token .ensures in
     let small = stop-fits _ _ (turn .loop-test .taken) (turn .before .loop .inv) step (c .if2 .taken) in omega arith
+
+refuse-bytes-requires : tie.Need-refuse-bytes-requires Inv-loop μ-loop
+refuse-bytes-requires c κs =
+    let turn = c .before .before .before .before .before in
+    stop-inside _ _ (turn .loop-test .taken) (turn .before .loop .inv) (c .before .take-token .ensures) (c .if2 .taken)
 
 returns : tie.Need-returns Inv-loop μ-loop
 returns c =
@@ -39,7 +44,7 @@ returns c =
     let step = c .before .before .take-token .ensures in
     let unblank = sym (at-is-blank .is-blank .ensures) ∙ c .before .before .before .if1 .left in
     let stuck = scan-stop _ _ (turn .loop-test .taken) (turn .before .loop .inv) step unblank (c .before .if2 .taken) in
-    rw (c .refuse-text .ensures) (stopped _ stuck)
+    rw (c .refuse-bytes .ensures) (stopped _ stuck)
 
 -- where a token was taken: it has a byte, and ends in the text
 fits :
@@ -84,8 +89,8 @@ scan-spec =
     (λ c. search needs)  -- loop-less
     loop-again
     (λ c κs. search needs)  -- take-token-requires
-    add-refuse-text
-    (λ c κs. search needs)  -- refuse-text-requires
+    add-refuse-bytes
+    refuse-bytes-requires
     returns
     (λ c. search needs)  -- array-write-codes
     (λ c. search needs)  -- cast-places

@@ -21,7 +21,9 @@ entry c = c .before .before .before .before .before
 
 loop-holds : tie.Need-loop-holds Inv-loop μ-loop
 unfolding rowLines
-loop-holds c = let start = c .before .before .before .before in written-first _ _ (rw (parts-shifted _ _ _) at (start .pre .room))
+loop-holds c =
+    let start = c .before .before .before .before in
+    written-first _ _ (rw (parts-shifted _ _ _) at (start .pre .room))
 
 stamp-of-requires : tie.Need-stamp-of-requires Inv-loop μ-loop
 stamp-of-requires c κs =
