@@ -6,7 +6,7 @@
 #include <string.h>
 
 static uint8_t names[32 * MAX_NAMES], states[MAX_ROWS * MAX_NAMES];
-static uint32_t times[MAX_ROWS];
+static uint64_t times[MAX_ROWS];
 static size_t name_count, rows;
 
 static uint32_t word(const uint8_t *p)
@@ -31,17 +31,20 @@ static size_t take_name(const uint8_t *f, size_t length, size_t at)
     return at + 3 + n;
 }
 
-static size_t take_row(const uint8_t *f, size_t length, size_t at)
+/* `RW` with four time bytes, `RL` with eight. */
+static size_t take_row(const uint8_t *f, size_t length, size_t at, size_t width)
 {
-    if (at + 6 + name_count > length || rows == MAX_ROWS) exit(1);
-    uint32_t time = word(f + at + 2);
+    size_t codes = at + 2 + width;
+    if (codes + name_count > length || rows == MAX_ROWS) exit(1);
+    uint64_t time = word(f + at + 2);
+    if (width == 8) time |= (uint64_t)word(f + at + 6) << 32;
     if (rows > 0 && time <= times[rows - 1]) exit(1);
     for (size_t i = 0; i < name_count; i++) {
-        if (f[at + 6 + i] > 7) exit(1);
-        states[rows * name_count + i] = f[at + 6 + i];
+        if (f[codes + i] > 7) exit(1);
+        states[rows * name_count + i] = f[codes + i];
     }
     times[rows++] = time;
-    return at + 6 + name_count;
+    return codes + name_count;
 }
 
 void read_it(const uint8_t *f, size_t length)
@@ -50,7 +53,8 @@ void read_it(const uint8_t *f, size_t length)
     for (size_t at = 0;;) {
         if (at + 2 > length) exit(1);
         if (f[at] == 'N' && f[at + 1] == 'M' && rows == 0) at = take_name(f, length, at);
-        else if (f[at] == 'R' && f[at + 1] == 'W' && name_count > 0) at = take_row(f, length, at);
+        else if (f[at] == 'R' && f[at + 1] == 'W' && name_count > 0) at = take_row(f, length, at, 4);
+        else if (f[at] == 'R' && f[at + 1] == 'L' && name_count > 0) at = take_row(f, length, at, 8);
         else if (f[at] == 'E' && f[at + 1] == 'N' && rows > 0 && at + 6 == length && word(f + at + 2) == rows) return;
         else exit(1);
     }

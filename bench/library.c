@@ -6,7 +6,7 @@
 #include <string.h>
 
 static uint8_t names[32 * MAX_NAMES], states[MAX_ROWS * MAX_NAMES];
-static uint32_t times[MAX_ROWS];
+static uint64_t times[MAX_ROWS];
 static dachsmond_trace trace;
 
 static void stop_if(const char *call, uint8_t number, size_t place)

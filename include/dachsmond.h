@@ -7,16 +7,22 @@
 
    Names are slots of 32 bytes, filled with zeros behind the name. States are codes 0 to 7 for 0 1 X H L W Z U, row by
    row. A tree is the bytes of an expression, one a node, operands before their operator. A row number is a uint32_t, to
-   which C cuts a larger one without a word; n, how many rows there are, is a size_t.
+   which C cuts a larger one without a word; n, how many rows there are, is a size_t. A time is a uint64_t in every list:
+   until 1.0 times were 32 bits wide, so a program that lends lists of times has to be changed and compiled again.
 
    A call takes less than 256 KB of stack. The proofs say nothing of that: tests/stack measures each call on the inputs
    that recurse deepest (145,904 bytes at most, for a listing, which holds an answer for each row) and reckons from the
-   object code how much any input can take (237,872 bytes at most). Nothing is allocated and nothing is kept. */
+   object code how much any input can take (242,608 bytes at most). Nothing is allocated and nothing is kept. */
 #ifndef DACHSMOND_H
 #define DACHSMOND_H
 #include <stdbool.h>
 #include <stddef.h>
 #include <stdint.h>
+
+/* The version of this header. dachsmond_version() tells that of the library: 65536 * major + 256 * minor. */
+#define DACHSMOND_VERSION_MAJOR 2
+#define DACHSMOND_VERSION_MINOR 0
+#define DACHSMOND_VERSION (65536 * DACHSMOND_VERSION_MAJOR + 256 * DACHSMOND_VERSION_MINOR)
 
 #ifdef __cplusplus
 extern "C" {
@@ -106,12 +112,15 @@ dachsmond_expression dachsmond_read_expression(const uint8_t *names, size_t name
 dachsmond_told dachsmond_write_expression(const uint8_t *names, size_t names_len, const uint8_t *tree, size_t tree_len,
                                           bool vector, uint8_t *out, size_t out_len);
 
+/* The version of the library, as DACHSMOND_VERSION is that of the header. */
+uint32_t dachsmond_version(void);
+
 /* A trace file into three lists, names in slots, times, and states: 11 to 17, then 9 for the first short list. */
 dachsmond_trace dachsmond_read_trace(const uint8_t *file, size_t file_len, uint8_t *names, size_t names_len,
-                                     uint32_t *times, size_t times_len, uint8_t *states, size_t states_len);
+                                     uint64_t *times, size_t times_len, uint8_t *states, size_t states_len);
 
 /* The file of a trace of n rows at the front of `out`; its length: 18, 12, 13 and 15 row by row, 9. */
-dachsmond_told dachsmond_write_trace(const uint8_t *names, size_t names_len, const uint32_t *times, size_t times_len,
+dachsmond_told dachsmond_write_trace(const uint8_t *names, size_t names_len, const uint64_t *times, size_t times_len,
                                      const uint8_t *states, size_t states_len, size_t n, uint8_t *out, size_t out_len);
 
 /* The changes of a row of a trace of n rows and so many names; row 0 has none: 18, 15, 19. */
@@ -213,7 +222,7 @@ dachsmond_pushed dachsmond_listed_push(size_t names, const uint8_t *tree, size_t
 
 /* The listing of the answers of a vector tree at all n rows, a line for each with its time and a last line with the
    totals, at the front of `out`; its length: 18, 10, 15, 9. */
-dachsmond_told dachsmond_list(size_t names, size_t n, const uint8_t *tree, size_t tree_len, const uint32_t *times,
+dachsmond_told dachsmond_list(size_t names, size_t n, const uint8_t *tree, size_t tree_len, const uint64_t *times,
                               size_t times_len, const uint8_t *states, size_t states_len, uint8_t *out,
                               size_t out_len);
 

@@ -4,7 +4,7 @@
 //! but a queue, which is the one handed in.
 //!
 //! Names are slots of 32 bytes, filled with zeros behind the name. States are codes 0 to 7 for 0 1 X H L W Z U, row by
-//! row. A tree is the bytes of an expression, one a node, operands before their operator. A call takes less than 256 KB
+//! row. A time is a u64. A tree is the bytes of an expression, one a node, operands before their operator. A call takes less than 256 KB
 //! of stack; the proofs say nothing of that, and tests/stack measures it and reckons it from the object code.
 //!
 //! It is built beside libdachsmond.a (`rt staticlib dachsmond`, x86-64), as tests/rust-example does.
@@ -134,6 +134,9 @@ macro_rules! calls {
 }
 
 calls! {
+    /// The version of the library, 65536 * major + 256 * minor: 2.0 is 131072.
+    version = dachsmond_version() -> u32;
+
     /// How many names a list of names holds: 18, 12.
     check_names = dachsmond_check_names(names: &[u8]) -> Told;
 
@@ -144,10 +147,10 @@ calls! {
     write_expression = dachsmond_write_expression(names: &[u8], tree: &[u8], vector: bool, out: &mut [u8]) -> Told;
 
     /// A trace file into three lists, names in slots, times, and states: 11 to 17, then 9 for the first short list.
-    read_trace = dachsmond_read_trace(file: &[u8], names: &mut [u8], times: &mut [u32], states: &mut [u8]) -> Trace;
+    read_trace = dachsmond_read_trace(file: &[u8], names: &mut [u8], times: &mut [u64], states: &mut [u8]) -> Trace;
 
     /// The file of a trace of n rows at the front of `out`; its length: 18, 12, 13 and 15 row by row, 9.
-    write_trace = dachsmond_write_trace(names: &[u8], times: &[u32], states: &[u8], n: usize,
+    write_trace = dachsmond_write_trace(names: &[u8], times: &[u64], states: &[u8], n: usize,
         out: &mut [u8]) -> Told;
 
     /// The changes of a row of a trace of n rows and so many names; row 0 has none: 18, 15, 19.
@@ -225,7 +228,7 @@ calls! {
 
     /// The listing of the answers of a vector tree at all n rows, a line for each with its time and a last line with
     /// the totals, at the front of `out`; its length: 18, 10, 15, 9.
-    list = dachsmond_list(names: usize, n: usize, tree: &[u8], times: &[u32], states: &[u8], out: &mut [u8]) -> Told;
+    list = dachsmond_list(names: usize, n: usize, tree: &[u8], times: &[u64], states: &[u8], out: &mut [u8]) -> Told;
 
     /// The line of the table's heading at the front of `out`; its length: 9.
     table_heading = dachsmond_table_heading(out: &mut [u8]) -> Told;

@@ -98,7 +98,7 @@ static void show_listed(void)
 static void show_texts(void)
 {
     static const uint8_t BAD[] = "01 A ->";
-    static const uint32_t TIMES[] = {0, 10, 20, 35, 40, 55};
+    static const uint64_t TIMES[] = {0, 10, 20, 35, 40, 55};
     uint8_t out[200];
     dachsmond_expression e = dachsmond_read_expression(NAMES, sizeof NAMES, BAD, 4, true);
     dachsmond_told w = dachsmond_list(3, 6, e.tree, e.len, TIMES, 6, STATES, sizeof STATES, out, sizeof out);
@@ -118,14 +118,16 @@ static void show_texts(void)
 int main(void)
 {
     uint8_t names[32], states[2], file[24];
-    uint32_t times[2];
+    uint64_t times[2];
     dachsmond_trace t = dachsmond_read_trace(FILE_OF_TWO, 24, names, 32, times, 2, states, 2);
-    printf("%zu name %s, %zu rows, times %u %u, states %u %u\n", t.names, (const char *)names, t.rows, times[0],
-           times[1], states[0], states[1]);
+    printf("%zu name %s, %zu rows, times %llu %llu, states %u %u\n", t.names, (const char *)names, t.rows, (unsigned long long)times[0],
+           (unsigned long long)times[1], states[0], states[1]);
     dachsmond_told w = dachsmond_write_trace(names, 32, times, 2, states, 2, 2, file, 24);
     printf("written again: %zu bytes, %s\n", w.count, memcmp(file, FILE_OF_TWO, 24) ? "others" : "the same");
     t = dachsmond_read_trace(FILE_OF_TWO, 23, names, 32, times, 2, states, 2);
     printf("one byte less: refused with %u at %zu\n", t.number, t.place);
+    printf("version %u.%u, the header's is %s\n", (unsigned)(dachsmond_version() >> 16),
+           (unsigned)(dachsmond_version() >> 8 & 255), dachsmond_version() == DACHSMOND_VERSION ? "the same" : "another");
     read_and_write("((01 A)->10 B)&&C", true);
     read_and_write("A?C:'bz", false);
     read_and_write("01 A -> B", true);

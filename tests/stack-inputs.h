@@ -148,9 +148,9 @@ static void long_trace(void)
         memset(names + 32 * i, 'N', 32);
         names[32 * i + 31] = (uint8_t)('a' + i % 26), names[32 * i + 30] = (uint8_t)('a' + i / 26);
     }
-    for (size_t i = 0; i < n; i++) times[i] = UINT32_MAX - ROWS + (uint32_t)i;
+    for (size_t i = 0; i < n; i++) times[i] = UINT64_MAX - ROWS + i;
     for (size_t i = 0; i < n * k; i++) states[i] = (uint8_t)(i * 7 % 8);
-    call(check_names), call(write_trace);
+    call(version), call(check_names), call(write_trace);
     file_len = told.count;
     memcpy(file, out, file_len);
     tree[0] = 0, tree[1] = 64 + 12, tree_len = 2; /* an edge of the first name */

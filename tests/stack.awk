@@ -1,6 +1,6 @@
 # Reckons how much stack each function of the library can take, from its object code.
-#   awk -v limit=BYTES -v frame=BYTES -v other=BYTES -v deepest=NAME -v listing=NAME -v with_rows=BYTES -f stack.awk \
-#       TABLE MEASURED CODE
+#   awk -v limit=BYTES -v frame=BYTES -v other=BYTES -v deepest=NAME -v tabled='NAME..' -v with_table=BYTES \
+#       -f stack.awk TABLE MEASURED CODE
 # TABLE    lines `COUNT NAME|NAME..`: of the calls of these functions at most COUNT are open at once
 # MEASURED lines `NAME BYTES`: the functions asked for, and what was measured
 # CODE     what `objdump -dr --no-show-raw-insn` prints
@@ -36,9 +36,10 @@ part < 3 { next }
 $2 == "push" && !inside { saved++ }
 $2 == "push" && inside { run += 8; if (pushed < run) pushed = run }
 $2 == "call" { inside = 1; run = 0; t = $4; gsub(/[<>]/, "", t); if (t != "" && t !~ /\+0x/) calls_to(t) }
-# room over a page is taken page by page, and in a loop down to %r11 where there are many pages
+# room over a page is taken page by page, and in a loop down to %r11 where there are many pages; behind that %r11 is
+# for other things
 $2 == "lea" && $3 ~ /^-0x[0-9a-f]+\(%rsp\),%r11$/ { t = $3; gsub(/^-|\(.*/, "", t); room += hex(t); probes = 1 }
-$2 == "sub" && $3 ~ /^\$0x[0-9a-f]+,%r11$/ { t = $3; gsub(/^\$|,.*/, "", t); room += hex(t); probes = 1 }
+$2 == "sub" && !inside && $3 ~ /^\$0x[0-9a-f]+,%r11$/ { t = $3; gsub(/^\$|,.*/, "", t); room += hex(t); probes = 1 }
 $2 == "sub" && $3 ~ /^\$0x[0-9a-f]+,%rsp$/ {
     inside = 1
     t = $3
@@ -101,7 +102,7 @@ END {
         if (!(f in size)) wrong(f " is not in the object code")
         if (down(f) > limit) wrong(f " can take over " limit " bytes")
         if (measured[f] > limit) wrong(f " took over " limit " bytes")
-        most = f == listing ? with_rows : other
+        most = index(" " tabled " ", " " f " ") ? with_table : other
         if (measured[f] > most && f != deepest) wrong(f " took over " most " bytes")
         if (measured[f] > down(f) + 1024) wrong(f " took more than is reckoned")
     }

@@ -17,11 +17,12 @@ enum { ROOM = 4 << 20, PAGE = 4096, ROWS = 65535, LONG = 65535 };
 static const uint64_t PAINT = 0x5A5A5A5A5A5A5A5A;
 
 /* what the calls are made on; where they leave what they hand back does not count as theirs */
-static uint8_t names[32 * 32], text[8192], tree[LONG], row[32], out[ROWS * 40], file[ROWS * 40];
+static uint8_t names[32 * 32], text[8192], tree[LONG], row[32], out[ROWS * 44], file[ROWS * 44];
 static size_t k = 1, n = 2, text_len, tree_len, file_len;
 static bool vector;
 static uint8_t states[32 * ROWS], answers[ROWS], steps[64], tests[1024], edges[4096], flags[64];
-static uint32_t times[ROWS], tried[ROWS];
+static uint64_t times[ROWS];
+static uint32_t tried[ROWS];
 static uint16_t operands[4096];
 static size_t steps_len, tests_len, edges_len;
 static dachsmond_queue queue;
@@ -36,6 +37,7 @@ static dachsmond_pushed pushed;
 
 #define LISTS steps, steps_len, tests, tests_len, edges, edges_len, operands, edges_len
 #define TRACE states, n *k
+static void version(void) { told.count = dachsmond_version(); }
 static void check_names(void) { told = dachsmond_check_names(names, 32 * k); }
 static void read_expression(void) { expression = dachsmond_read_expression(names, 32 * k, text, text_len, vector); }
 static void write_expression(void)
@@ -101,7 +103,7 @@ static struct {
                  F(window_answer),    F(match_row),        F(match_all),        F(totals),         F(rewrite),
                  F(contradictions),   F(correct),          F(empty_queue),      F(push),           F(listed_fits),
                  F(listed_match_row), F(listed_match_all), F(listed_totals),    F(listed_push),    F(list),
-                 F(table_heading),    F(table_line),       F(table_refused),    F(table_total)};
+                 F(table_heading),    F(table_line),       F(table_refused),    F(table_total),    F(version)};
 enum { FUNCTIONS = sizeof functions / sizeof *functions };
 
 static uint8_t *bottom;

@@ -52,10 +52,10 @@ static Refusal hand_over(const File *file, Bytes names, Bytes times, Bytes state
 {
     long k = file->names, n = file->rows;
     if (names.length < 32 * k) return (Refusal){9, 32 * k};
-    if (times.length / 4 < n) return (Refusal){9, n};
+    if (times.length / 8 < n) return (Refusal){9, n};
     if (states.length < n * k) return (Refusal){9, n * k};
     memcpy(names.at, file->slots, (size_t)(32 * k));
-    memcpy(times.at, file->times, (size_t)(4 * n));
+    memcpy(times.at, file->times, (size_t)(8 * n));
     memcpy(states.at, file->states, (size_t)(n * k));
     return (Refusal){0, 0};
 }
@@ -64,11 +64,11 @@ void do_read_trace(void)
 {
     static File file;
     if (!file.times) {
-        file.times = malloc(4 * 65535);
+        file.times = malloc(8 * 65535);
         file.states = malloc(MAX_CELLS);
     }
     Bytes bytes = take_bytes(), names = lend(take_number());
-    Bytes times = lend(4 * take_number()), states = lend(take_number());
+    Bytes times = lend(8 * take_number()), states = lend(take_number());
     Refusal r = read_file(bytes.at, bytes.length, &file);
     if (!r.number) r = hand_over(&file, names, times, states);
     if (!refused(r)) printf("read %d %ld", file.names, file.rows);
@@ -80,7 +80,7 @@ void do_write_trace(void)
     Bytes names = take_bytes(), times = take_bytes(), states = take_bytes();
     long n = take_number(), size = 0;
     Bytes out = lend(take_number());
-    Refusal r = write_file(names.at, names.length, (const uint32_t *)times.at, times.length / 4, states.at,
+    Refusal r = write_file(names.at, names.length, (const uint64_t *)times.at, times.length / 8, states.at,
                            states.length, n, out.length, out.at, &size);
     if (!refused(r)) printf("wrote %ld", size);
     end_line(sum_of(0, out.at, out.length));

@@ -32,21 +32,37 @@ void make_states(Buffer *out, long n)
     if (once_in(20) && n > 0) out->at[below(n)] = (uint8_t)(8 + below(248));
 }
 
-static void add_word(Buffer *out, uint32_t x)
+static void add_number(Buffer *out, int width, uint64_t x)
 {
-    for (int i = 0; i < 4; i++) add(out, (int)(x >> 8 * i & 255));
+    for (int i = 0; i < width; i++) add(out, (int)(x >> 8 * i & 255));
 }
 
-/* Rising times from a small or a large first one on; now and then one that does not rise. */
+/* A first time: small, large, around 2^32, or so that the last ones are around 2^64. */
+static uint64_t first_time(long n)
+{
+    if (once_in(6)) return UINT32_MAX - (uint64_t)below(3 * n + 2);
+    if (once_in(8)) return UINT64_MAX - (uint64_t)below(2 * n + 2);
+    if (once_in(8)) return (uint64_t)below(1L << 62) * 3;
+    return once_in(4) ? (uint64_t)below(4290000000) : (uint64_t)below(3);
+}
+
+/* Rising times; now and then one that does not rise, or a jump past 2^32. */
 long make_times(Buffer *out, long n)
 {
-    uint32_t t = once_in(4) ? (uint32_t)below(4290000000) : (uint32_t)below(3);
+    uint64_t t = first_time(n);
     clear(out);
     for (long i = 0; i < n; i++) {
-        add_word(out, t);
-        t += once_in(20 + 2 * n) ? 0 : 1 + (uint32_t)below(once_in(20) ? 100000 : 12);
+        add_number(out, 8, t);
+        t += once_in(20 + 2 * n) ? 0 : 1 + (uint64_t)below(once_in(40) ? 1L << 33 : once_in(20) ? 100000 : 12);
     }
     return n;
+}
+
+uint64_t time_in(const Buffer *times, long i)
+{
+    uint64_t t = 0;
+    for (int j = 7; j >= 0; j--) t = t << 8 | times->at[8 * i + j];
+    return t;
 }
 
 void make_file(Buffer *out)
@@ -63,14 +79,15 @@ void make_file(Buffer *out)
         for (long j = 0; j < size; j++) add(out, slot[j]);
     }
     for (long i = 0; i < n; i++) {
-        add_text(out, "RW");
-        for (int j = 0; j < 4; j++) add(out, times.at[4 * i + j]);
+        int wide = time_in(&times, i) > UINT32_MAX || once_in(8);
+        add_text(out, wide ? "RL" : "RW");
+        add_number(out, wide ? 8 : 4, time_in(&times, i));
         for (long j = 0; j < k; j++) add(out, states.at[i * k + j]);
     }
     add_text(out, "EN");
-    add_word(out, (uint32_t)(n + once_in(40)));
+    add_number(out, 4, (uint64_t)(n + once_in(40)));
     while (once_in(30)) add(out, (int)below(256));
-    if (once_in(3)) damage(out, "NMRWEN\x01\x02\x08" "A");
+    if (once_in(3)) damage(out, "NMRWLEN\x01\x02\x08" "A");
 }
 
 /* A length: mostly enough, else about the length needed. */
@@ -118,7 +135,7 @@ static void case_write(void)
 static void case_read_trace(void)
 {
     make_file(&file);
-    long k = names.length / 32, n = times.length / 4;
+    long k = names.length / 32, n = times.length / 8;
     printf("f");
     say(&file);
     printf(" %ld", room_for(32 * k));
@@ -131,7 +148,7 @@ static void case_write_trace(void)
     long k = make_names(&names), n = make_times(&times, any_rows(6)), needed = 6;
     make_states(&states, n * k + (once_in(40) ? 1 : 0));
     for (long i = 0; i + 32 <= names.length; i += 32) needed += 3 + (long)strnlen((const char *)names.at + i, 32);
-    needed += n * (6 + k);
+    for (long i = 0; i < n; i++) needed += (time_in(&times, i) > UINT32_MAX ? 10 : 6) + k;
     printf("g");
     say(&names);
     say(&times);

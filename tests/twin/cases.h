@@ -24,6 +24,7 @@ void make_tree(Buffer *out, long names, int sort, int size);
 void make_edge_tree(Buffer *out, long names, int sort);   /* near a limit */
 void make_states(Buffer *out, long n);
 long make_times(Buffer *out, long n);
+uint64_t time_in(const Buffer *times, long i);
 void make_file(Buffer *out);
 
 extern long fixed_rows;                /* 0, or how many rows each trace has */

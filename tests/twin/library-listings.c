@@ -26,7 +26,7 @@ void do_listing(void)
 {
     Asked a = take_asked();
     Bytes times = take_bytes(), out = lend(take_number());
-    say_text(dachsmond_list(a.names, a.n, a.tree.at, a.tree.length, (const uint32_t *)times.at, times.length / 4,
+    say_text(dachsmond_list(a.names, a.n, a.tree.at, a.tree.length, (const uint64_t *)times.at, times.length / 8,
                             a.states.at, a.states.length, out.at, out.length), out);
 }
 

@@ -46,9 +46,9 @@ void do_write(void)
 void do_read_trace(void)
 {
     Bytes file = take_bytes(), names = lend(take_number());
-    Bytes times = lend(4 * take_number()), states = lend(take_number());
-    dachsmond_trace r = dachsmond_read_trace(file.at, file.length, names.at, names.length, (uint32_t *)times.at,
-                                             times.length / 4, states.at, states.length);
+    Bytes times = lend(8 * take_number()), states = lend(take_number());
+    dachsmond_trace r = dachsmond_read_trace(file.at, file.length, names.at, names.length, (uint64_t *)times.at,
+                                             times.length / 8, states.at, states.length);
     if (!refused(r.number, r.place, r.names | r.rows)) printf("read %zu %zu", r.names, r.rows);
     end_line(sum_of(sum_of(sum_of(0, names.at, names.length), times.at, times.length), states.at, states.length));
 }
@@ -58,7 +58,7 @@ void do_write_trace(void)
     Bytes names = take_bytes(), times = take_bytes(), states = take_bytes();
     long n = take_number();
     Bytes out = lend(take_number());
-    dachsmond_told r = dachsmond_write_trace(names.at, names.length, (const uint32_t *)times.at, times.length / 4,
+    dachsmond_told r = dachsmond_write_trace(names.at, names.length, (const uint64_t *)times.at, times.length / 8,
                                              states.at, states.length, n, out.at, out.length);
     if (!refused(r.number, r.place, r.count)) printf("wrote %zu", r.count);
     end_line(sum_of(0, out.at, out.length));

@@ -24,7 +24,7 @@ static void say_listing(void)
     long n = say_asked();
     make_times(&times, n + once_in(40));
     say(&times);
-    printf(" %ld", once_in(3) ? 30 + below(14 * n + 20) : 80 + 19 * n);
+    printf(" %ld", once_in(3) ? 30 + below(14 * n + 20) : 80 + 29 * n);
 }
 
 /* Of any width up to so many bits, and often near a power of ten or of two. */

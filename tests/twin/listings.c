@@ -34,13 +34,13 @@ void do_listing(void)
     static const char *const words[] = {"no", "yes", "unknown", "none"};
     Asked a = take_asked(0);
     Bytes times = take_bytes(), out = lend(take_number());
-    Refusal r = check_asked(&a, times.length == 4 * a.n, VECTOR);
+    Refusal r = check_asked(&a, times.length == 8 * a.n, VECTOR);
     Text t = {0};
     long count[4] = {0};
     put(&t, "time answer\n");
     for (long i = 0; i < a.n && !r.number; i++) {
         int answer = number_at(&a.pattern, &a.trace, i);
-        put(&t, "%u %s\n", ((const uint32_t *)times.at)[i], words[answer]);
+        put(&t, "%llu %s\n", (unsigned long long)((const uint64_t *)times.at)[i], words[answer]);
         count[answer]++;
     }
     put(&t, "yes %ld no %ld unknown %ld\n", count[1], count[0], count[2]);

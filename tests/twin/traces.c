@@ -26,17 +26,20 @@ static Refusal take_name_record(const byte *f, long length, long at, File *out, 
     return (Refusal){0, 0};
 }
 
-static Refusal take_row_record(const byte *f, long length, long at, File *out, long *next)
+/* `RW` with four time bytes, `RL` with eight. */
+static Refusal take_row_record(const byte *f, long length, long at, int width, File *out, long *next)
 {
-    if (at + 6 + out->names > length) return (Refusal){14, length};
-    uint32_t time = word(f + at + 2);
+    long codes = at + 2 + width;
+    if (codes + out->names > length) return (Refusal){14, length};
+    uint64_t time = word(f + at + 2);
+    if (width == 8) time |= (uint64_t)word(f + at + 6) << 32;
     if (out->rows > 0 && time <= out->times[out->rows - 1]) return (Refusal){13, at + 2};
     for (int i = 0; i < out->names; i++)
-        if (f[at + 6 + i] > 7) return (Refusal){15, at + 6 + i};
+        if (f[codes + i] > 7) return (Refusal){15, codes + i};
     out->times[out->rows] = time;
-    memcpy(out->states + out->rows * out->names, f + at + 6, (size_t)out->names);
+    memcpy(out->states + out->rows * out->names, f + codes, (size_t)out->names);
     out->rows++;
-    *next = at + 6 + out->names;
+    *next = codes + out->names;
     return (Refusal){0, 0};
 }
 
@@ -61,22 +64,22 @@ Refusal read_file(const byte *f, long length, File *out)
         if (is_mark(f, at, "EN") && out->rows > 0) return take_end_record(f, length, at, out);
         if (is_mark(f, at, "NM") && out->rows == 0 && out->names < MAX_NAMES)
             r = take_name_record(f, length, at, out, &at);
-        else if (is_mark(f, at, "RW") && out->names > 0 && out->rows < MAX_ROWS)
-            r = take_row_record(f, length, at, out, &at);
+        else if ((is_mark(f, at, "RW") || is_mark(f, at, "RL")) && out->names > 0 && out->rows < MAX_ROWS)
+            r = take_row_record(f, length, at, f[at + 1] == 'W' ? 4 : 8, out, &at);
         else return (Refusal){11, at};
         if (r.number) return r;
     }
 }
 
-static long put_word(byte *out, long at, const char *mark, uint32_t x)
+static long put_number(byte *out, long at, const char *mark, int width, uint64_t x)
 {
     out[at] = (byte)mark[0];
     out[at + 1] = (byte)mark[1];
-    for (int i = 0; i < 4; i++) out[at + 2 + i] = (byte)(x >> 8 * i);
-    return at + 6;
+    for (int i = 0; i < width; i++) out[at + 2 + i] = (byte)(x >> 8 * i);
+    return at + 2 + width;
 }
 
-static long put_file(const byte *names, int count, const uint32_t *times, const byte *states, long n, byte *out)
+static long put_file(const byte *names, int count, const uint64_t *times, const byte *states, long n, byte *out)
 {
     long at = 0;
     for (int i = 0; i < count; i++) {
@@ -89,15 +92,16 @@ static long put_file(const byte *names, int count, const uint32_t *times, const 
         at += size;
     }
     for (long i = 0; i < n; i++) {
-        at = put_word(out, at, "RW", times[i]);
+        int fits = times[i] <= UINT32_MAX;
+        at = put_number(out, at, fits ? "RW" : "RL", fits ? 4 : 8, times[i]);
         memcpy(out + at, states + i * count, (size_t)count);
         at += count;
     }
-    return put_word(out, at, "EN", (uint32_t)n);
+    return put_number(out, at, "EN", 4, (uint64_t)n);
 }
 
 /* 18, 12, then 13 and 15 row by row, 9. `out` has `room` bytes. */
-Refusal write_file(const byte *names, long names_length, const uint32_t *times, long times_length,
+Refusal write_file(const byte *names, long names_length, const uint64_t *times, long times_length,
                    const byte *states, long states_length, long n, long room, byte *out, long *size)
 {
     Refusal r = check_names(names, names_length);
@@ -110,7 +114,7 @@ Refusal write_file(const byte *names, long names_length, const uint32_t *times, 
         for (long k = i * count; k < (i + 1) * count; k++)
             if (states[k] > 7) return (Refusal){15, k};
     }
-    byte *whole = malloc((size_t)(count * 35 + n * (6 + count) + 6));
+    byte *whole = malloc((size_t)(count * 35 + n * (10 + count) + 6));
     *size = put_file(names, (int)count, times, states, n, whole);
     if (*size <= room) memcpy(out, whole, (size_t)*size);
     free(whole);

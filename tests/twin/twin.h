@@ -81,9 +81,9 @@ int row_answer(const Node *node, const Trace *trace, long row, long longest);
 void forget_windows(void);
 
 /* traces.c */
-typedef struct { int names; long rows; byte slots[32 * 32]; uint32_t *times; byte *states; } File;
+typedef struct { int names; long rows; byte slots[32 * 32]; uint64_t *times; byte *states; } File;
 Refusal read_file(const byte *file, long length, File *out);
-Refusal write_file(const byte *names, long names_length, const uint32_t *times, long times_length,
+Refusal write_file(const byte *names, long names_length, const uint64_t *times, long times_length,
                    const byte *states, long states_length, long n, long room, byte *out, long *size);
 Refusal check_rows(long names, long n, long states_length);
 Refusal first_code(const byte *states, long length);

@@ -1,5 +1,5 @@
--- How long the activity listing of a trace can be: 65,535 lines of 1,134 bytes, and a head of 1,069.
--- Main names: activity-fits, part-fits. So a buffer of 74,317,759 bytes suffices for every trace, and one of 1,135,069
+-- How long the activity listing of a trace can be: 65,535 lines of 1,144 bytes, and a head of 1,069.
+-- Main names: activity-fits, part-fits. So a buffer of 74,973,109 bytes suffices for every trace, and one of 1,145,069
 -- for every part of 1,000 rows.
 use Prim.Native.Nat.{ℕ, zero, suc, _+_, _*_, _^_, _<_, _≤_}
 use native.Mathlib.Omega.{arith}
@@ -68,7 +68,7 @@ module _ {names times states : List ℕ} {n : ℕ} (t : Trace names times states
         length-append (members names (namesIn names) (λ i. true)) (bytes " changed\n"),
       )
 
-  row-few : (r : ℕ) → length (rowLine names (namesIn names) states (getD times r 0) r) ≤ 1134
+  row-few : (r : ℕ) → length (rowLine names (namesIn names) states (getD times r 0) r) ≤ 1144
   unfolding rowLine joined changeCount
   row-few r =
       let k = namesIn names in
@@ -78,21 +78,23 @@ module _ {names times states : List ℕ} {n : ℕ} (t : Trace names times states
             (members names k (changed k states r)),
         letters-length k (rowOf k states r),
         decimal-length (getD times r 0),
-        width-most 9 (getD times r 0) (omega (arith, t .words r)),
+        width-most 19 (getD times r 0) (omega (arith, t .words r)) (omega (arith, t .words r)),
         decimal-length (changeCount k states r),
-        width-most 1 (changeCount k states r) (omega (arith, count-small k (changed k states r), t .slots .few)),
+        width-most 1 (changeCount k states r)
+            (omega (arith, count-small k (changed k states r), t .slots .few))
+            (omega (arith, count-small k (changed k states r), t .slots .few)),
         members-few (changed k states r),
         t .slots .few,
       )
 
-  pub activity-fits : length (activityText names times states n) ≤ 74317759
+  pub activity-fits : length (activityText names times states n) ≤ 74973109
   unfolding activityText rowLines
   activity-fits =
       omega (
         arith,
         length-append (headLine names (namesIn names)) (rowLines names (namesIn names) times states 0 n),
         head-few,
-        parts-few (λ r. rowLine names (namesIn names) states (getD times r 0) r) 1134 0 n (λ r h. row-few r),
+        parts-few (λ r. rowLine names (namesIn names) states (getD times r 0) r) 1144 0 n (λ r h. row-few r),
         t .lists .few,
       )
 
@@ -105,12 +107,12 @@ module _ {names times states : List ℕ} {n : ℕ} (t : Trace names times states
       go false = omega arith
 
   pub part-fits : (first many : ℕ)
-      → length (partText names (namesIn names) times states first many) ≤ 1069 + many * 1134
+      → length (partText names (namesIn names) times states first many) ≤ 1069 + many * 1144
   unfolding partText rowLines
   part-fits first many =
       omega (
         arith,
         length-append (opening names (namesIn names) first) (rowLines names (namesIn names) times states first many),
         opening-few first,
-        parts-few (λ r. rowLine names (namesIn names) states (getD times r 0) r) 1134 first many (λ r h. row-few r),
+        parts-few (λ r. rowLine names (namesIn names) states (getD times r 0) r) 1144 first many (λ r h. row-few r),
       )

@@ -57,7 +57,7 @@ fn put_opening(names: &[u8], k: usize, first: usize, out: &mut [u8], at: usize) 
 fn write_part(
     names: &[u8],
     k: usize,
-    times: &[u32],
+    times: &[u64],
     states: &[u8],
     first: usize,
     many: usize,
@@ -79,7 +79,7 @@ fn write_part(
 
 // The activity listing of a trace in lists: names in slots, n times, and states row by row; its length. Refused with
 // 18, 12, then 13 and 15 row by row, 9.
-pub fn activity(names: &[u8], times: &[u32], states: &[u8], n: usize, out: &mut [u8]) -> Outcome
+pub fn activity(names: &[u8], times: &[u64], states: &[u8], n: usize, out: &mut [u8]) -> Outcome
     ensures { λ r. ⌜ ListsActivity (now (names .entry)) (now (times .entry)) (now (states .entry)) n
         (now (out .entry)) (now (out .exit)) r ⌝ }
 {
@@ -93,7 +93,7 @@ pub fn activity(names: &[u8], times: &[u32], states: &[u8], n: usize, out: &mut 
 fn tell_part(
     names: &[u8],
     k: usize,
-    times: &[u32],
+    times: &[u64],
     states: &[u8],
     n: usize,
     from: usize,
@@ -116,11 +116,12 @@ fn tell_part(
     }
 }
 
-// The lines of the rows `from` to `to` - 1 of the activity listing, before row 0 the head; their length. Only these rows
-// are checked: 18, 12, 19 where they are no rows of the trace, 13 and 15 row by row, 9. Part after part is the whole.
+// The lines of the rows `from` to `to` - 1 of the activity listing, before row 0 the head; their length. Only these
+// rows are checked: 18, 12, 19 where they are no rows of the trace, 13 and 15 row by row, 9. Part after part is the
+// whole.
 pub fn activity_part(
     names: &[u8],
-    times: &[u32],
+    times: &[u64],
     states: &[u8],
     n: usize,
     from: usize,

@@ -17,4 +17,4 @@ pub enum Sort {
 // A row number and a time stamp are two units.
 pub struct RowNo(pub u32);
 
-pub struct Stamp(pub u32);
+pub struct Stamp(pub u64);

@@ -1,12 +1,13 @@
 -- The operators on a window, entry by entry as the loops go, and by their bytes.
---   split, split-entry              P -> Q: the entry for each row in between
+--   greatest-step                   the greatest over one entry more
+--   split                           P -> Q: the entry for each row in between
 --   shared, shared-entry, shared-all    P & Q: the entry for each start of the shorter, and all of them
 --   condition-byte, or-else-byte, with-byte, followed-byte, either-order-byte, with-or-then-byte, any-order-byte,
 --   the-sixth                       an operator by its byte
 use Prim.Native.Nat.{ℕ, _+_, _-_, _<_, _≤_, min, max}
 use native.Mathlib.Omega.{arith}
 use native.Mathlib.Numerals.{add-one}
-use mathlib.Core.Path.{_≡_, refl, sym, _∙_}
+use mathlib.Core.Path.{_≡_}
 use borrow.Author.Tests.{lt-ltb, le-ltb}
 use Rattle.basics.specs.Words.{greatest}
 use Rattle.alf.specs.Windows.{Window, followedBy, either, together, joined}
@@ -18,6 +19,12 @@ min-of h e d = rw (← e, ← d) h
 
 max-of : {x y u v r : ℕ} → r ≡ max x y → x ≡ u → y ≡ v → r ≡ max u v
 max-of h e d = rw (← e, ← d) h
+
+-- one entry more
+pub greatest-step : {i high x r : ℕ} (f : ℕ → ℕ) → high ≡ greatest i f → x ≡ f i → r ≡ max high x
+    → r ≡ greatest (i + 1) f
+unfolding greatest
+greatest-step f e d h = rw (add-one, ← e, ← d) h
 
 -- the operator that is none of the others
 pub the-sixth : {k : ℕ} → OperatorByte k → k < 56 → (k ≡ 55 → ⊥) → (k ≡ 54 → ⊥) → (k ≡ 50 → ⊥)

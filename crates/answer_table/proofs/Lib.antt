@@ -1,5 +1,4 @@
 -- The laws that the functions of this crate are proved by.
-pub mod Rows
 pub mod Cells
 pub mod Stored
 pub mod Shifts

@@ -5,12 +5,12 @@
 --   unmoved, moved                           every row as it is; the rows from `first` on
 use Prim.Native.Nat.{ℕ, _+_, _-_, _<_, _≤_, min, max}
 use native.Mathlib.Omega.{arith}
-use mathlib.Core.Path.{_≡_, refl, ap, sym, _∙_}
+use mathlib.Core.Path.{_≡_, refl, ap}
 use mathlib.Core.Logic.{_⊎_, inl, inr}
 use borrow.Author.Tests.{lt-ltb, le-ltb, eq-eqb, ne-eqb}
 use Rattle.alf.specs.Expressions.{Edge}
 use Rattle.alf.specs.Expressions.{Join, followed-by, either-order, with-or-then, any-order, with, or-else}
-use Rattle.alf.specs.Windows.{Window, certainty, edgeOn, held, followedBy, either, together, joined}
+use Rattle.alf.specs.Windows.{Window, certainty, held, followedBy, either, together, joined}
 use Rattle.alf.specs.Decoder.{edgeAt, joinAt}
 use Rattle.basics.proofs.Bools.{below?, equal?}
 use Rattle.basics.proofs.Extremes.{greatest-same, least-same}

@@ -33,7 +33,7 @@ fn lists_fit(times: usize, codes: usize) -> bool
 
 // The listing of answers that are known to be good, a line for each row with its time and its answer; refused with 9.
 // No public call of the library: the answers handed in are those that a call has found (tree_listings).
-pub fn write_listing(times: &[u32], answers: &[u8], out: &mut [u8]) -> Outcome
+pub fn write_listing(times: &[u64], answers: &[u8], out: &mut [u8]) -> Outcome
     requires { ⌜ Listable 3 (now times) (now answers) ⌝ }
     ensures { λ r. ⌜ Delivers (listing (now (times .entry)) (now (answers .entry))) (now (out .entry))
         (now (out .exit)) r ⌝ }
@@ -50,7 +50,7 @@ pub fn write_listing(times: &[u32], answers: &[u8], out: &mut [u8]) -> Outcome
 }
 
 // The listing of values that are known to be good; refused with 9.
-fn write_values(times: &[u32], values: &[u8], out: &mut [u8]) -> Outcome
+fn write_values(times: &[u64], values: &[u8], out: &mut [u8]) -> Outcome
     requires { ⌜ Listable 7 (now times) (now values) ⌝ }
     ensures { λ r. ⌜ Delivers (valuesListing (now (times .entry)) (now (values .entry))) (now (out .entry))
         (now (out .exit)) r ⌝ }
@@ -66,7 +66,7 @@ fn write_values(times: &[u32], values: &[u8], out: &mut [u8]) -> Outcome
 
 // A line for each row with its time and the letter of a value, given as document 01's code; the length of all. Refused
 // with 18, 15 or 9.
-pub fn list_values(times: &[u32], values: &[u8], out: &mut [u8]) -> Outcome
+pub fn list_values(times: &[u64], values: &[u8], out: &mut [u8]) -> Outcome
     ensures { λ r. ⌜ ValuesText (now (times .entry)) (now (values .entry)) (now (out .entry))
         (now (out .exit)) r ⌝ }
 {

@@ -19,23 +19,23 @@ fn save_made(path: &[u8], out: &[u8], o: Outcome) {
     }
 }
 
-fn write_file(names: &[u8], times: &[u32], states: &[u8], path: &[u8], out: &mut [u8]) {
+fn write_file(names: &[u8], times: &[u64], states: &[u8], path: &[u8], out: &mut [u8]) {
     let o = write_trace(names, times, states, times.len(), out);
     save_made(path, out, o);
 }
 
-fn write_lent(names: &[u8], times: &[u32], states: &[u8], path: &[u8], out: &mut [u8; 2491456]) {
+fn write_lent(names: &[u8], times: &[u64], states: &[u8], path: &[u8], out: &mut [u8; 2753596]) {
     write_file(names, times, states, path, out);
 }
 
-fn write_to(names: &[u8], times: &[u32], states: &[u8]) {
+fn write_to(names: &[u8], times: &[u64], states: &[u8]) {
     let mut path = io::buffer();
     let n = os::arg(5, &mut path);
     if os::errno() != 0 {
         failed(b"the name of the trace to write");
         return;
     }
-    let mut out = [0u8; 2491456];
+    let mut out = [0u8; 2753596];
     write_lent(names, times, states, &path[..n], &mut out);
 }
 
@@ -51,7 +51,7 @@ fn asked_row() -> RowNo {
 }
 
 // What came of it: the corrected trace is written, or it is said why not.
-fn finish(names: &[u8], times: &[u32], states: &[u8], o: Outcome) {
+fn finish(names: &[u8], times: &[u64], states: &[u8], o: Outcome) {
     match o {
         Outcome::Done(_) => write_to(names, times, states),
         Outcome::Refused(r) => complain_of(r),
@@ -66,7 +66,7 @@ fn complain_of(r: Refusal) {
     refused(b"row", r);
 }
 
-pub fn correct(names: &[u8], times: &[u32], states: &mut [u8]) {
+pub fn correct(names: &[u8], times: &[u64], states: &mut [u8]) {
     let mut word = io::buffer();
     let n = os::arg(4, &mut word);
     let row = asked_row();

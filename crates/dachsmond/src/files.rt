@@ -14,7 +14,7 @@ use trace_writer::write::write_trace;
 pub extern "C" fn dachsmond_read_trace(
     file: &[u8],
     names: &mut [u8],
-    times: &mut [u32],
+    times: &mut [u64],
     states: &mut [u8],
 ) -> Trace
     ensures { λ r. ⌜ Hands (Reads (now (file .entry)) (now (names .entry)) (now (times .entry)) (now (states .entry))
@@ -27,7 +27,7 @@ pub extern "C" fn dachsmond_read_trace(
 #[no_mangle]
 pub extern "C" fn dachsmond_write_trace(
     names: &[u8],
-    times: &[u32],
+    times: &[u64],
     states: &[u8],
     n: usize,
     out: &mut [u8],

@@ -7,4 +7,5 @@ pub mod listings;
 pub mod matching;
 pub mod rows;
 pub mod texts;
+pub mod versions;
 pub mod written;

@@ -20,7 +20,7 @@ pub extern "C" fn dachsmond_list(
     names: usize,
     n: usize,
     tree: &[u8],
-    times: &[u32],
+    times: &[u64],
     states: &[u8],
     out: &mut [u8],
 ) -> Told

@@ -1,5 +1,6 @@
 // Dachsmond, the program: counts patterns of pin events in a trace. Here stand the commands with the words that they
-// expect. What a command prints of an answer is made by a call of `jobs`; here are arguments, files and complaints.
+// expect. What a command prints of an answer is made by one call of the library; here are arguments, files and
+// complaints.
 mod texts;
 
 use complaints::unfit;
@@ -79,7 +80,7 @@ Exit status: 0 where all was done, 1 where something was complained of.
 }
 
 // A command on a trace; `list`, `values` and `rewrite` answer a text.
-fn start(c: usize, names: &[u8], times: &[u32], states: &mut [u8]) {
+fn start(c: usize, names: &[u8], times: &[u64], states: &mut [u8]) {
     match c {
         TABLE => table(names, times.len(), states),
         SHOW => show(names, times, states),
@@ -100,7 +101,7 @@ fn codes_in(n: usize, k: usize) -> usize {
 }
 
 // The first n entries, or all: a list that is too short is refused by what takes it.
-fn front_times(list: &[u32], n: usize) -> &[u32] {
+fn front_times(list: &[u64], n: usize) -> &[u64] {
     if n <= list.len() { &list[0..n] } else { list }
 }
 
@@ -113,7 +114,7 @@ fn front_states(list: &mut [u8], n: usize) -> &mut [u8] {
 }
 
 // Of the lists, what the trace fills.
-fn on_lists(c: usize, names: &[u8], times: &[u32], states: &mut [u8], k: usize, n: usize) {
+fn on_lists(c: usize, names: &[u8], times: &[u64], states: &mut [u8], k: usize, n: usize) {
     let a = front(names, codes_in(32, k));
     let t = front_times(times, n);
     let s = front_states(states, codes_in(n, k));
@@ -123,7 +124,7 @@ fn on_lists(c: usize, names: &[u8], times: &[u32], states: &mut [u8], k: usize, 
 fn on_lent(
     c: usize,
     names: &[u8; 1024],
-    times: &[u32; 65535],
+    times: &[u64; 65535],
     states: &mut [u8; 2097120],
     k: usize,
     n: usize,
@@ -136,7 +137,7 @@ fn on_lent(
 // The trace is loaded once, whatever is asked of it.
 fn on_trace(c: usize) {
     let mut names = [0u8; 1024];
-    let mut times = [0u32; 65535];
+    let mut times = [0u64; 65535];
     let mut states = [0u8; 2097120];
     let l = load(2, &mut names, &mut times, &mut states);
     on_lent(c, &names, &times, &mut states, l.names, l.rows);
@@ -157,7 +158,7 @@ fn run(word: &[u8], more: usize) {
         return;
     }
     if c == VERSION {
-        say(b"dachsmond 1.0\n");
+        say(b"dachsmond 2.0\n");
         return;
     }
     help();

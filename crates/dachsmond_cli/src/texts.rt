@@ -1,4 +1,5 @@
-// What is asked of one text: `list`, `values`, `rewrite`. Each text that is printed is made by a call of `jobs`.
+// What is asked of one text: `list`, `values`, `rewrite`. Each text that is printed is made by a call
+// of `row_listings` or `alternative_listings`.
 use crate::LIST;
 use crate::VALUES;
 use alternative_listings::texts::alternatives_text;
@@ -59,7 +60,7 @@ fn rewrite(names: &[u8], text: &[u8], out: &mut [u8]) -> Outcome {
 fn ask(
     c: usize,
     names: &[u8],
-    times: &[u32],
+    times: &[u64],
     states: &[u8],
     text: &[u8],
     out: &mut [u8],
@@ -73,7 +74,7 @@ fn ask(
     rewrite(names, text, out)
 }
 
-fn told(c: usize, names: &[u8], times: &[u32], states: &[u8], text: &[u8], out: &mut [u8]) {
+fn told(c: usize, names: &[u8], times: &[u64], states: &[u8], text: &[u8], out: &mut [u8]) {
     let o = ask(c, names, times, states, text, out);
     tell(c == VALUES, text, out, o);
 }
@@ -81,7 +82,7 @@ fn told(c: usize, names: &[u8], times: &[u32], states: &[u8], text: &[u8], out: 
 fn lent(
     c: usize,
     names: &[u8],
-    times: &[u32],
+    times: &[u64],
     states: &[u8],
     text: &[u8],
     out: &mut [u8; 4600000],
@@ -90,7 +91,7 @@ fn lent(
 }
 
 // Room for the longest: alternatives of 16 steps, 64 of them, each step with all of a text.
-pub fn answer(c: usize, names: &[u8], times: &[u32], states: &[u8]) {
+pub fn answer(c: usize, names: &[u8], times: &[u64], states: &[u8]) {
     let mut text = io::large_buffer();
     let n = take_argument(3, &mut text);
     let mut out = [0u8; 4600000];

@@ -1,6 +1,6 @@
 -- For each function of the library for C: any two results that its contract allows coincide, and so does the memory at
 -- exit. Each is the inner call's own theorem, handed on. Names: the function's, and `-unique`.
-use mathlib.Core.Path.{_≡_}
+use mathlib.Core.Path.{_≡_, sym, _∙_}
 use mathlib.Core.List.{List}
 use Prim.Native.Nat.{ℕ}
 use Rattle.alf.specs.declared.Sort.{Sort}
@@ -156,3 +156,7 @@ contradictions-unique {names} {tree} {flags} x y = (
   hands-unique (λ a b p q. contradicts-unique names tree flags p q .0) x y,
   from-both (λ a b p q. contradicts-unique names tree flags p q .1) x y,
 )
+
+-- the version, which takes nothing
+pub version-unique : (r s : ℕ) → r ≡ 131072 → s ≡ 131072 → r ≡ s
+version-unique r s x y = x ∙ sym y

@@ -15,7 +15,8 @@ use Rattle.alf.specs.Expressions.{Expression, vector}
 use Rattle.alf.specs.Decoder.{Decodes, topBoolean, topVector}
 use Rattle.alf.specs.Refusals.{Passed}
 use Rattle.names.specs.Check.{namesOrder}
-use Rattle.trace_format.specs.Format.{Trace, fileOf}
+use Rattle.trace_format.specs.Format.{Trace, fewestOf, fileOf}
+use Rattle.trace_laws.proofs.Widths.{fewest-fits}
 use Rattle.trees.specs.Parts.{top, expressionAt, booleanAt}
 use Rattle.acceptance.proofs.Acceptance.{accepted-decodes}
 use Rattle.acceptance.specs.Accepted.{Accepted}
@@ -93,6 +94,8 @@ module _ {names times states : List ℕ} {rows : ℕ} (t : Trace names times sta
         states = states;
         rows = rows;
         trace = t;
+        widths = fewestOf times;
+        fitting = fewest-fits t;
         read = refl;
         pattern = v .p;
         given = rw (ap top d) at (written-gives slots-named a);

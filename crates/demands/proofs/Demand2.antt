@@ -126,7 +126,7 @@ module _ {file text : List ℕ} (q : Question file text) where
   -- The queue: the rows of the trace are pushed, the first into a queue that keeps nothing.
   rows-full : (i : ℕ) → i < q .rows → length (codesOf k (q .states) i) ≡ k
   unfolding codesOf
-  rows-full i l = codes-all k (q .times) (q .states) (q .rows) (lists-fit q .all) i l
+  rows-full i l = codes-all k (q .widths) (q .times) (q .states) (q .rows) (lists-fit q .all) i l
 
   rows-codes : (i : ℕ) → i < q .rows → Codes (codesOf k (q .states) i)
   unfolding codesOf

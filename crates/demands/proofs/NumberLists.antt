@@ -58,14 +58,14 @@ rows-in-table (suc n) = rows-in-table n
 pub record-numbers : (file : List ℕ) (k r : ℕ) (m : Mark) → numbersOf (markedOrder file k r m) ≡ recordNumbers m
 unfolding numbersOf contents recordNumbers
 record-numbers file k r mark.Name = refl
-record-numbers file k r mark.Row = refl
+record-numbers file k r (mark.Row w) = refl
 record-numbers file k r mark.End = refl
 record-numbers file k r mark.Other = refl
 
 pub of-a-file : (m : Mark) → all (λ n. among n fileNumbers) (recordNumbers m) ≡ true
 unfolding all among recordNumbers
 of-a-file mark.Name = refl
-of-a-file mark.Row = refl
+of-a-file (mark.Row w) = refl
 of-a-file mark.End = refl
 of-a-file mark.Other = refl
 

@@ -64,7 +64,7 @@ writingNumbers = 18 ∷ 12 ∷ 10 ∷ 1 ∷ 9 ∷ []
 -- short one of names, times, states."
 unfoldable pub recordNumbers : Mark → List ℕ
 recordNumbers mark.Name = 14 ∷ 11 ∷ 14 ∷ 12 ∷ []
-recordNumbers mark.Row = 14 ∷ 11 ∷ 14 ∷ 13 ∷ 15 ∷ []
+recordNumbers (mark.Row w) = 14 ∷ 11 ∷ 14 ∷ 13 ∷ 15 ∷ []
 recordNumbers mark.End = 14 ∷ 11 ∷ 14 ∷ 16 ∷ 17 ∷ []
 recordNumbers mark.Other = 14 ∷ 11 ∷ 14 ∷ []
 

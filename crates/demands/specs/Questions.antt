@@ -1,4 +1,5 @@
 -- What the laboratory is asked: a trace file, and a text. As document 01 reads them, the file is the bytes of a trace,
+-- whichever of `RW` and `RL` the rows have that fit their times,
 -- and the text, of whatever length, gives an expression for the trace's names. The answers are those of this
 -- expression on this trace. A text over 4,096 bytes is refused, but its tree can be handed to the calls as any other,
 -- so a question is as good as a trace and an accepted tree.
@@ -21,7 +22,7 @@ use Rattle.alf.specs.Bytes.{bytesOf}
 use Rattle.alf.specs.Values.{stateAt, valueAt}
 use Rattle.alf.specs.Windows.{rowAnswer}
 use Rattle.alf.specs.Alternatives.{alternatives, tries, stepsOf}
-use Rattle.trace_format.specs.Format.{Trace, fileOf}
+use Rattle.trace_format.specs.Format.{Trace, Fitting, fileIn}
 use Rattle.reader.specs.Reading.{Gives}
 
 pub record Asked {A : Type 0} (into : A → Expression) (sort : Sort) (file text : List ℕ) : Type 0 where
@@ -30,7 +31,9 @@ pub record Asked {A : Type 0} (into : A → Expression) (sort : Sort) (file text
   pub states : List ℕ
   pub rows : ℕ
   pub trace : Trace names times states rows
-  pub read : file ≡ fileOf names times states rows
+  pub widths : ℕ → ℕ
+  pub fitting : Fitting widths times rows
+  pub read : file ≡ fileIn widths names times states rows
   pub pattern : A
   pub given : Gives names text sort (into pattern)
 

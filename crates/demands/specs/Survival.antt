@@ -1,8 +1,8 @@
 -- Demand 2, "expression and trace survive writing and reading": of a trace file and a text that is asked of it, for
 -- either sort. Each field says what the results are that the calls' contracts allow, and so that none is refused.
---   textOf       the text of the expression
---   Survives     the file read and written, the text read and written
-use Prim.Native.Nat.{ℕ, _*_, _<_, _≤_}
+--   textOf, fileAgain    the text of the expression, the file that is written
+--   Survives             the file read and written, the text read and written
+use Prim.Native.Nat.{ℕ, _+_, _*_, _<_, _≤_}
 use mathlib.Core.Path.{_≡_}
 use mathlib.Core.List.{List}
 use lib.ListN.{length, take}
@@ -13,7 +13,9 @@ use Rattle.basics.specs.Memory.{front}
 use Rattle.trace_reader.specs.declared.Reading as files
 use Rattle.trace_reader.specs.declared.Reading.the-variants.{Read}
 use Rattle.trace_reader.specs.Reading.{Reads}
+use Rattle.trace_format.specs.Format.{fileOf}
 use Rattle.trace_writer.specs.Writing as trace-writing
+use Rattle.trace_laws.specs.Needless.{needlessRows}
 use Rattle.reader.specs.declared.Read as texts
 use Rattle.reader.specs.Reads.{made}
 use Rattle.reader.specs.Reading.{ReadsText}
@@ -30,6 +32,10 @@ module _ {A : Type 0} {into : A → Expression} {sort : Sort} {file text : List 
   abbrev pub textOf : List ℕ
   textOf = text-of (q .names) (into (q .pattern))
 
+  -- the file that the writer makes of the trace
+  abbrev pub fileAgain : List ℕ
+  fileAgain = fileOf (q .names) (q .times) (q .states) (q .rows)
+
   pub record Survives : Type 0 where
     -- the file is read as its trace, given room for it
     pub file-read : (n₀ t₀ s₀ n₁ t₁ s₁ : List ℕ) (r : files.Reading)
@@ -37,10 +43,13 @@ module _ {A : Type 0} {into : A → Expression} {sort : Sort} {file text : List 
         → Reads file n₀ t₀ s₀ n₁ t₁ s₁ r
         → (r ≡ Read (namesOf q) (q .rows)) × (n₁ ≡ front (q .names) n₀) × (t₁ ≡ front (q .times) t₀)
         × (s₁ ≡ front (q .states) s₀)
-    -- the trace is written as that file again, given room for it
-    pub file-written : (out out′ : List ℕ) (r : Outcome) → length file ≤ length out
+    -- the trace is written as a file of its own, given room for it: as that file again, if that has no needless `RL`,
+    -- and else as one that is shorter by four bytes for each of them
+    pub file-written : (out out′ : List ℕ) (r : Outcome) → length fileAgain ≤ length out
         → trace-writing.Writes (q .names) (q .times) (q .states) (q .rows) out out′ r
-        → (r ≡ Done (length file)) × (out′ ≡ front file out)
+        → (r ≡ Done (length fileAgain)) × (out′ ≡ front fileAgain out)
+    pub file-same : needlessRows file (namesOf q) (q .rows) ≡ 0 → fileAgain ≡ file
+    pub file-shorter : length file ≡ length fileAgain + 4 * needlessRows file (namesOf q) (q .rows)
     -- a text of at most 4,096 bytes is read as its expression
     pub text-read : (r : texts.Read) → length text ≤ 4096 → ReadsText (q .names) text sort r
         → r ≡ made (into (q .pattern))

@@ -1,4 +1,5 @@
 -- What calls over a whole trace have once its lists are found good: its rows are where the functions over a tree look.
+--   earlier-row       a trace that has a row has those before it
 --   trace-row         a row below n stands in the states
 --   trace-filling     all n rows do, and a list of n entries has room for a value of each
 --   is-state-unique   two results that a contract allows coincide
@@ -10,6 +11,18 @@ use mathlib.Core.List.{List}
 use lib.ListN.{length, getD}
 use Rattle.alf.specs.Refusals.{NameCount, RowCount}
 use Rattle.evaluator.specs.Rows.{Within, Filling, IsState}
+
+pub earlier-row : {states : List ℕ} {names b : ℕ} (a : ℕ) → a ≤ b → Within states names b
+    → Within states names a
+earlier-row {states} {names} {b} a h w =
+    let m = mul-le-mul-right names h in
+    record {
+      some = w .some;
+      most = w .most;
+      few = omega (arith, w .few);
+      room = omega (arith, w .room);
+      codes = w .codes;
+    }
 
 module _ (states : List ℕ) (names n : ℕ) (named : NameCount names) (few : RowCount n)
     (whole : length states ≡ n * names) (codes : (i : ℕ) → i < length states → getD states i 0 < 8) where

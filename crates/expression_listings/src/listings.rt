@@ -16,7 +16,7 @@ use tree_listings::listings::list;
 fn list_states(
     k: usize,
     tree: &[u8],
-    times: &[u32],
+    times: &[u64],
     states: &[u8],
     codes: &mut [u8],
     out: &mut [u8],
@@ -38,7 +38,7 @@ fn list_states(
 fn list_front(
     k: usize,
     tree: &[u8],
-    times: &[u32],
+    times: &[u64],
     states: &[u8],
     codes: &mut [u8],
     out: &mut [u8],
@@ -59,7 +59,7 @@ fn list_front(
 fn list_lent(
     k: usize,
     tree: &[u8],
-    times: &[u32],
+    times: &[u64],
     states: &[u8],
     codes: &mut [u8; 65535],
     out: &mut [u8],
@@ -73,7 +73,7 @@ fn list_lent(
 }
 
 // The same, by way of a list of an entry for each row that there can be.
-fn list_boolean(k: usize, tree: &[u8], times: &[u32], states: &[u8], out: &mut [u8]) -> Outcome
+fn list_boolean(k: usize, tree: &[u8], times: &[u64], states: &[u8], out: &mut [u8]) -> Outcome
     requires { ⌜ Accepted k Boolean (now tree) ⌝ }
     ensures { λ r. ⌜ RowsText k (now (times .entry)) (now (states .entry))
         (treeListing k (now (times .entry)) (now (states .entry)) (now (tree .entry)))
@@ -88,7 +88,7 @@ pub fn list_tree(
     sort: Sort,
     k: usize,
     tree: &[u8],
-    times: &[u32],
+    times: &[u64],
     states: &[u8],
     out: &mut [u8],
 ) -> Outcome

@@ -3,7 +3,7 @@
 --   width      how many it needs (widthUpTo: counted up to a bound)
 --   decimal    as many as it needs
 --   reading    the number that digits are
--- That these digits are the number, and that the first is no needless 0, is a law.
+-- That these digits are the number, if it is below 10^21, and that the first is no needless 0, is a law.
 use Prim.Native.Nat.{ℕ, zero, suc, _+_, _-_, _*_, _/_, _%_}
 use mathlib.Core.List.{List, [], _∷_, _++_}
 use lib.Dec.{ltb}
@@ -14,14 +14,14 @@ unfoldable pub digits : ℕ → ℕ → List ℕ
 digits zero n = []
 digits (suc k) n = digits k (n / 10) ++ ((48 + n % 10) ∷ [])
 
--- how many digits a number needs: one below ten, else one more than its tenth part. A number n needs no more than
--- n + 1, so that is how far is counted.
+-- how many digits a number needs: one below ten, else one more than its tenth part. Every number here is below 2^64 and
+-- needs no more than 20, so that is how far is counted.
 unfoldable pub widthUpTo : ℕ → ℕ → ℕ
 widthUpTo zero n = 1
 widthUpTo (suc k) n = if ltb n 10 then 1 else suc (widthUpTo k (n / 10))
 
 unfoldable pub width : ℕ → ℕ
-width n = widthUpTo n n
+width n = widthUpTo 20 n
 
 unfoldable pub decimal : ℕ → List ℕ
 decimal n = digits (width n) n

@@ -1,4 +1,4 @@
-// The grammar of document 01, as definitions and laws. The functions that read by it are in the crate `parser`.
+// The grammar of document 01, as definitions and laws. The functions that read by it are the parser's.
 
 // What a token is, by its code, and the byte where it begins.
 pub struct Token {

@@ -149,4 +149,4 @@ pub number-read : (n : ℕ) → n ≤ 65535 → rowNumber (decimal n) ≡ n
 unfolding going decimal
 number-read n h =
     sym (whole (decimal n) (λ e. omega (arith, decimal-length n, width-some n)))
-    ∙ rw (digits-all (width n) n, decimal-read n) (omega arith)
+    ∙ rw (digits-all (width n) n, decimal-read n (omega arith)) (omega arith)

@@ -82,7 +82,7 @@ fn put_code(column: Column, a: u8, out: &mut [u8], at: usize) -> usize
 }
 
 // The time of a row.
-pub fn stamp_of(times: &[u32], row: RowNo) -> Stamp
+pub fn stamp_of(times: &[u64], row: RowNo) -> Stamp
     requires { ⌜ row .0 < length (now times) ⌝ }
     ensures { λ r. ⌜ r .0 ≡ getD (now (times .entry)) (row .0) 0 ⌝ }
 {
@@ -96,7 +96,7 @@ fn line_size(column: Column, time: Stamp, a: u8) -> usize
     ensures { λ r. ⌜ Sized (line column (time .0) a) 29 r ⌝ }
 {
     let t = time.0;
-    width_of(t as u64) + code_size(column, a) + 2
+    width_of(t) + code_size(column, a) + 2
 }
 
 // A row's line: its time, its answer or value.
@@ -105,13 +105,13 @@ fn put_line(column: Column, time: Stamp, a: u8, out: &mut [u8], at: usize) -> us
     ensures { λ r. ⌜ Put (now (out .entry)) at (line column (time .0) a) (now (out .exit)) r ⌝ }
 {
     let t = time.0;
-    let p = put_decimal_then(t as u64, b" ", out, at);
+    let p = put_decimal_then(t, b" ", out, at);
     let q = put_code(column, a, out, p);
     push(out, q, b'\n')
 }
 
 // The length of all rows' lines.
-pub fn lines_size(column: Column, times: &[u32], codes: &[u8]) -> usize
+pub fn lines_size(column: Column, times: &[u64], codes: &[u8]) -> usize
     requires { ⌜ Listable (highest column) (now times) (now codes) ⌝ }
     ensures { λ r. ⌜ Sized (lines column (now (times .entry)) (now (codes .entry))) 1900515 r ⌝ }
 {
@@ -125,7 +125,7 @@ pub fn lines_size(column: Column, times: &[u32], codes: &[u8]) -> usize
 }
 
 // All rows' lines.
-pub fn put_lines(column: Column, times: &[u32], codes: &[u8], out: &mut [u8], at: usize) -> usize
+pub fn put_lines(column: Column, times: &[u64], codes: &[u8], out: &mut [u8], at: usize) -> usize
     requires { ⌜ Lining column (now times) (now codes) (now out) at ⌝ }
     ensures { λ r. ⌜ Put (now (out .entry)) at (lines column (now (times .entry)) (now (codes .entry)))
         (now (out .exit)) r ⌝ }

@@ -21,7 +21,7 @@ fn parse(
     path: &[u8],
     file: &[u8],
     names: &mut [u8; 1024],
-    times: &mut [u32; 65535],
+    times: &mut [u64; 65535],
     states: &mut [u8; 2097120],
 ) -> Loaded {
     let r = read_trace(file, names, times, states);
@@ -39,7 +39,7 @@ fn load_into(
     path: &[u8],
     data: &mut [u8],
     names: &mut [u8; 1024],
-    times: &mut [u32; 65535],
+    times: &mut [u64; 65535],
     states: &mut [u8; 2097120],
 ) -> Loaded {
     let filled = fill(path, data);
@@ -51,9 +51,9 @@ fn load_into(
 
 fn load_lent(
     path: &[u8],
-    data: &mut [u8; 2491457],
+    data: &mut [u8; 2753597],
     names: &mut [u8; 1024],
-    times: &mut [u32; 65535],
+    times: &mut [u64; 65535],
     states: &mut [u8; 2097120],
 ) -> Loaded {
     load_into(path, data, names, times, states)
@@ -63,7 +63,7 @@ fn load_lent(
 pub fn load(
     i: usize,
     names: &mut [u8; 1024],
-    times: &mut [u32; 65535],
+    times: &mut [u64; 65535],
     states: &mut [u8; 2097120],
 ) -> Loaded {
     let mut path = io::buffer();
@@ -72,6 +72,6 @@ pub fn load(
         failed(b"the trace's name");
         return nothing();
     }
-    let mut data = [0u8; 2491457];
+    let mut data = [0u8; 2753597];
     load_lent(&path[..length], &mut data, names, times, states)
 }

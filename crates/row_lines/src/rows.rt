@@ -52,7 +52,7 @@ fn row_size(names: &[u8], k: usize, states: &[u8], time: Stamp, row: RowNo) -> u
     let c = of_row(k, states, i as usize);
     let many = c.many;
     let mask = c.mask;
-    width_of(t as u64) + 2 * k + width_of(many as u64) + members_size(names, k, mask) + 2
+    width_of(t) + 2 * k + width_of(many as u64) + members_size(names, k, mask) + 2
 }
 
 // A row's line.
@@ -74,7 +74,7 @@ fn put_row(
     let c = of_row(k, states, i);
     let many = c.many;
     let mask = c.mask;
-    let timed = put_decimal(t as u64, out, at);
+    let timed = put_decimal(t, out, at);
     let lettered = put_letters(states, i * k, k, out, timed);
     let parted = push(out, lettered, b' ');
     let counted = put_decimal(many as u64, out, parted);
@@ -86,7 +86,7 @@ fn put_row(
 pub fn rows_size(
     names: &[u8],
     k: usize,
-    times: &[u32],
+    times: &[u64],
     states: &[u8],
     first: usize,
     many: usize,
@@ -109,7 +109,7 @@ pub fn rows_size(
 pub fn put_rows(
     names: &[u8],
     k: usize,
-    times: &[u32],
+    times: &[u64],
     states: &[u8],
     first: usize,
     many: usize,

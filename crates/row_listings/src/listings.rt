@@ -10,7 +10,7 @@ use reader::read_expression;
 fn list_given(
     sort: Sort,
     names: &[u8],
-    times: &[u32],
+    times: &[u64],
     states: &[u8],
     text: &[u8],
     out: &mut [u8],
@@ -30,7 +30,7 @@ fn list_given(
 }
 
 // The listing of the pattern that a text gives; its length. Refused with what reading refuses, then 18, 15, 9.
-pub fn list_text(names: &[u8], times: &[u32], states: &[u8], text: &[u8], out: &mut [u8]) -> Outcome
+pub fn list_text(names: &[u8], times: &[u64], states: &[u8], text: &[u8], out: &mut [u8]) -> Outcome
     ensures { λ r. ⌜ ListsPattern (now (names .entry)) (now (times .entry)) (now (states .entry))
         (now (text .entry)) (now (out .entry)) (now (out .exit)) r ⌝ }
 {
@@ -40,7 +40,7 @@ pub fn list_text(names: &[u8], times: &[u32], states: &[u8], text: &[u8], out: &
 // The listing of the values of the boolean expression that a text gives; its length. Refused in the same order.
 pub fn values_text(
     names: &[u8],
-    times: &[u32],
+    times: &[u64],
     states: &[u8],
     text: &[u8],
     out: &mut [u8],

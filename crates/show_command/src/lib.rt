@@ -1,6 +1,6 @@
 // The command `show`: the trace as a table that tells of each row which pins changed. The text is made by a call of the
-// library, for 1,000 rows at a time; here it is printed. That what the calls write, one after the other, is the listing of
-// the whole trace is a theorem (activity/proofs/Parts).
+// library, for 1,000 rows at a time; here it is printed. That what the calls write, one after the other, is the listing
+// of the whole trace is a theorem (activity/proofs/Parts).
 ghost use mathlib.Core.Path.{_≡_};
 ghost use Prim.Native.Nat.{_+_, _<_, min};
 use activity::texts::activity_part;
@@ -33,13 +33,13 @@ fn end_of(r: usize, n: usize) -> usize
 }
 
 // The rows from row r on.
-fn show_some(names: &[u8], times: &[u32], states: &[u8], r: usize, out: &mut [u8]) {
+fn show_some(names: &[u8], times: &[u64], states: &[u8], r: usize, out: &mut [u8]) {
     let n = times.len();
     let o = activity_part(names, times, states, n, r, end_of(r, n), out);
     tell(out, o);
 }
 
-fn show_all(names: &[u8], times: &[u32], states: &[u8], out: &mut [u8]) {
+fn show_all(names: &[u8], times: &[u64], states: &[u8], out: &mut [u8]) {
     let mut r: usize = 0;
     while r < times.len() {
         show_some(names, times, states, r, out);
@@ -47,13 +47,13 @@ fn show_all(names: &[u8], times: &[u32], states: &[u8], out: &mut [u8]) {
     }
 }
 
-fn lent(names: &[u8], times: &[u32], states: &[u8], out: &mut [u8; 1135069]) {
+fn lent(names: &[u8], times: &[u64], states: &[u8], out: &mut [u8; 1145069]) {
     show_all(names, times, states, out);
 }
 
 // Room for the longest: the head, and 1,000 rows with times of ten digits and 32 names of 32 bytes that change at each
 // row (part-fits in activity/proofs/Longest).
-pub fn show(names: &[u8], times: &[u32], states: &[u8]) {
-    let mut out = [0u8; 1135069];
+pub fn show(names: &[u8], times: &[u64], states: &[u8]) {
+    let mut out = [0u8; 1145069];
     lent(names, times, states, &mut out);
 }

@@ -5,7 +5,7 @@
 --   no-other-activity       done, the text is at the front of the buffer, and its length is told
 --   activity-attached       the function's contract
 --   PartShowable, activity-part, part-on-T, no-other-part, part-attached      the same of a part
---   blocks-shown            a trace in blocks of up to 1,000 rows: no block is refused that has 1,135,069 bytes of room
+--   blocks-shown            a trace in blocks of up to 1,000 rows: no block is refused that has 1,145,069 bytes of room
 use Prim.Native.Nat.{ℕ, _-_, _≤_}
 use native.Mathlib.Omega.{arith}
 use mathlib.Core.Path.{_≡_, refl}
@@ -115,7 +115,7 @@ module _ (names times states : List ℕ) (n from to : ℕ) (out : List ℕ) wher
   no-other-part w = (w .outcome .1, w .memory)
 
   -- the blocks of the program `show`
-  pub blocks-shown : Trace names times states n → PartOf n from to → to - from ≤ 1000 → 1135069 ≤ length out
+  pub blocks-shown : Trace names times states n → PartOf n from to → to - from ≤ 1000 → 1145069 ≤ length out
       → (r : Refusal) (out′ : List ℕ) → ListsPart names times states n from to out out′ (outcome.Refused r) → ⊥
   blocks-shown t p few room =
       activity-part .no-refusal

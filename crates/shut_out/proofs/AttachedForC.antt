@@ -2,7 +2,7 @@
 -- (`Hands`) a result that the call's contract allows, of its arguments at entry (a), its result (r) and its
 -- arguments at exit (e); and it requires nothing. So what is shut out of a call is shut out of its function for C.
 -- Here: texts, files, rows, matching, a correction, a push. The others stand in AttachedListsForC.
-use Prim.Native.Nat.{_/_}
+use Prim.Native.Nat.{ℕ, _/_}
 use mathlib.Core.Path.{_≡_}
 use lib.ListN.{length, replicate}
 use contract.Lifetimes.{Lfts}
@@ -38,6 +38,8 @@ use Rattle.dachsmond.proofs.texts.dachsmond_read_expression.Reads as read-expre
 use Rattle.dachsmond.proofs.texts.dachsmond_read_expression.Kinds as read-expression-kinds
 use Rattle.dachsmond.proofs.texts.dachsmond_write_expression.Reads as write-expression-says
 use Rattle.dachsmond.proofs.texts.dachsmond_write_expression.Kinds as write-expression-kinds
+use Rattle.dachsmond.proofs.versions.dachsmond_version.Reads as version-says
+use Rattle.dachsmond.proofs.versions.dachsmond_version.Kinds as version-kinds
 use Rattle.dachsmond.proofs.files.dachsmond_read_trace.Reads as read-trace-says
 use Rattle.dachsmond.proofs.files.dachsmond_read_trace.Kinds as read-trace-kinds
 use Rattle.dachsmond.proofs.files.dachsmond_write_trace.Reads as write-trace-says
@@ -166,6 +168,10 @@ pub correct : (κs : Lfts 4) (a : Dens κs correct-kinds.ps) → correct-says.Pr
     (now (a .1 .1 .1 .1 .0)) (a .1 .1 .1 .1 .1 .0) (now (a .1 .1 .1 .1 .1 .1 .0)) (now (e .1 .1 .1 .0))
     (now (e .1 .1 .1 .1 .0))) told r)
 correct κs a = (tt, λ r e p. p)
+
+pub version : (κs : Lfts 0) (a : Dens κs version-kinds.ps) → version-says.Pre κs a
+    × ((r : ℕ) (e : Dens κs version-kinds.ps) → version-says.Post κs a r e → r ≡ 131072)
+version κs a = (tt, λ r e p. p)
 
 pub empty-queue : (κs : Lfts 0) (a : Dens κs empty-queue-kinds.ps) → empty-queue-says.Pre κs a
     × ((r : Queue) (e : Dens κs empty-queue-kinds.ps) → empty-queue-says.Post κs a r e

@@ -19,7 +19,7 @@ use Rattle.alf.specs.Alternatives.{alternatives, rewritten, tries, tried, atRow
 use Rattle.alf.specs.Traces.{total}
 use Rattle.alf.specs.TableT.{names, rows, times, states}
 use Rattle.alf.proofs.TraceNearness.{steps-pos}
-use Rattle.trace_format.specs.Format.{codesOf}
+use Rattle.trace_format.specs.Format.{codesOf, fewestOf}
 use Rattle.trace_writer.proofs.Putting.{codes-all}
 use Rattle.matcher.specs.declared.answers.Matched.{Matched}
 use Rattle.matcher.specs.declared.tables.Total.{Total}
@@ -114,7 +114,7 @@ fed-is = refl
 
 row-full : (i : ℕ) → i < rows → length (codesOf names states i) ≡ names
 unfolding codesOf
-row-full i l = codes-all names times states rows (trace-good .lists .all) i l
+row-full i l = codes-all names (fewestOf times) times states rows (trace-good .lists .all) i l
 
 row-codes : (i : ℕ) → i < rows → Codes (codesOf names states i)
 unfolding codesOf

@@ -19,6 +19,8 @@
 --     `one-answer-for-all`, `one-match-for-all`, `one-number-for-all`, `one-value-for-all` (Answering)
 -- unknown given as no
 --     `unknown-as-no`, `unknown-as-no-matched`, `unknown-as-no-listed` (Answering)
+-- a time cut to 32 bits; `RL` for 2^32 - 1
+--     `long-listing`, `long-file` (LongTimes)
 -- row 0 answered, tried, changed
 --     `row-0-answered`, `row-0-tried`, `row-0-changed` (Answering)
 -- a report of contradictory alternatives turned round
@@ -84,3 +86,4 @@ pub mod AttachedJobs
 pub mod AttachedForC
 pub mod AttachedListsForC
 pub mod Activity
+pub mod LongTimes

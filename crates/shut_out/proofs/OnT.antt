@@ -174,7 +174,7 @@ stamps-rise (suc (suc (suc zero))) l = omega arith
 stamps-rise (suc (suc (suc (suc zero)))) l = omega arith
 stamps-rise (suc (suc (suc (suc (suc r))))) l = absurd (omega arith)
 
-stamps-small : (r : ℕ) → getD times r 0 < 2 ^ 32
+stamps-small : (r : ℕ) → getD times r 0 < 2 ^ 64
 unfolding times
 stamps-small zero = omega arith
 stamps-small (suc zero) = omega arith

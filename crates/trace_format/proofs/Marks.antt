@@ -10,9 +10,13 @@ module _ (a b : ℕ) where
   unfolding markOf
   mark-name e f = rw (e, f)
 
-  pub mark-row : a ≡ 82 → b ≡ 87 → Row ≡ markOf a b
+  pub mark-row : a ≡ 82 → b ≡ 87 → Row 4 ≡ markOf a b
   unfolding markOf
   mark-row e f = rw (e, f)
+
+  pub mark-long : a ≡ 82 → b ≡ 76 → Row 8 ≡ markOf a b
+  unfolding markOf
+  mark-long e f = rw (e, f)
 
   pub mark-end : a ≡ 69 → b ≡ 78 → End ≡ markOf a b
   unfolding markOf
@@ -22,9 +26,9 @@ module _ (a b : ℕ) where
   unfolding markOf
   mark-n e n = rw (e, ne-eqb b 77 n)
 
-  pub mark-r : a ≡ 82 → (b ≡ 87 → ⊥) → Other ≡ markOf a b
+  pub mark-r : a ≡ 82 → (b ≡ 87 → ⊥) → (b ≡ 76 → ⊥) → Other ≡ markOf a b
   unfolding markOf
-  mark-r e n = rw (e, ne-eqb b 87 n)
+  mark-r e n m = rw (e, ne-eqb b 87 n, ne-eqb b 76 m)
 
   pub mark-e : a ≡ 69 → (b ≡ 78 → ⊥) → Other ≡ markOf a b
   unfolding markOf

@@ -3,4 +3,8 @@ pub mod Places
 pub mod RecordsReadBack
 pub mod BytesAccepted
 pub mod Theorems
+pub mod Widths
 pub mod RoundTrips
+pub mod Rewritten
+pub mod OlderRecords
+pub mod OlderReader

@@ -13,7 +13,7 @@ use Rattle.alf.specs.Refusals.{RefusedWith, Passed}
 use Rattle.alf.proofs.Outcomes.{AllFixed, at-fixed, first-fixed, refused-passed, refused-unique}
 use Rattle.trace_format.specs.declared.Mark.{Mark}
 use Rattle.trace_format.specs.declared.Mark.the-variants.{Name, Row, End, Other}
-use Rattle.trace_format.specs.Records.{markHere, recordOrder, contents, Good, Before}
+use Rattle.trace_format.specs.Records.{markHere, widthIn, recordOrder, contents, Good, GoodRow, Before}
 use Rattle.trace_reader.specs.Reading.{Accepted, FileRefused}
 
 -- a good record that another follows
@@ -21,8 +21,8 @@ pub record GoesOn (file : List ℕ) (k r : ℕ) : Type 0 where
   pub passed : Passed (recordOrder file k r)
   pub more : markHere file k r ≡ End → ⊥
 
-named-row : {file : List ℕ} {k : ℕ} → Good Name file k 0 → Good Row file k 0 → ⊥
-named-row g h = let e : Name ≡ Row = sym (g .mark) ∙ h .mark in let z : _≡_ {A = ℕ} 0 1 = cc in omega arith
+named-row : {file : List ℕ} {k : ℕ} → Good Name file k 0 → GoodRow file k 0 → ⊥
+named-row g h = let e : Name ≡ Row _ = sym (g .mark) ∙ h .mark in let z : _≡_ {A = ℕ} 0 1 = cc in omega arith
 
 -- which of two places comes first
 data Order (k r k′ r′ : ℕ) : Type 0 where
@@ -65,10 +65,12 @@ module _ {file : List ℕ} {k r k′ r′ : ℕ} (here : Before file k r) (there
 
   earlier-rows : k ≡ k′ → r < r′ → GoesOn file k r
   earlier-rows e h =
-      let g : Good Row file k r = rw e (there .rows r h) in
+      let g : GoodRow file k r = rw e (there .rows r h) in
       record {
         passed = g .passed;
-        more = λ f. let u : Row ≡ End = sym (g .mark) ∙ f in let z : _≡_ {A = ℕ} 0 1 = cc in omega arith;
+        more = λ f.
+            let u : Row (widthIn file k r) ≡ End = sym (g .mark) ∙ f in
+            let z : _≡_ {A = ℕ} 0 1 = cc in omega arith;
       }
 
 pub accepted-unique :
@@ -105,7 +107,7 @@ accepted-refused {file} {k} {n} {number} {p} a f = go (order k n (f .names) (f .
 contents-fixed : (file : List ℕ) (k r : ℕ) (m : Mark) → AllFixed (contents file k r m)
 unfolding contents
 contents-fixed file k r Name = (at-fixed _ _, tt)
-contents-fixed file k r Row = (at-fixed _ _, (first-fixed _, tt))
+contents-fixed file k r (Row w) = (at-fixed _ _, (first-fixed _, tt))
 contents-fixed file k r End = (at-fixed _ _, (at-fixed _ _, tt))
 contents-fixed file k r Other = tt
 

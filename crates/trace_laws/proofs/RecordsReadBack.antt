@@ -1,20 +1,21 @@
 -- A record that stands in a file, read back: its mark, what it holds, and that it is whole.
 --   name-read, row-read, end-read    the three kinds of records
---   word-read                        four bytes give their number back
 --   split                            records one behind the other, parted at one of them
-use mathlib.Core.Path.{_≡_, refl, ap, _∙_}
+use mathlib.Core.Path.{_≡_, refl, sym, ap, _∙_}
+use mathlib.Core.Logic.{_⊎_, inl, inr}
 use mathlib.Core.Bool.{Bool, true, false}
-use mathlib.Core.List.{List, [], _∷_, _++_, append-assoc}
-use Prim.Native.Nat.{ℕ, zero, suc, _+_, _-_, _*_, _/_, _%_, _^_, _≤_, _<_}
+use mathlib.Core.List.{List, [], _∷_, _++_, append-assoc, append-nil}
+use Prim.Native.Nat.{ℕ, zero, suc, _+_, _^_, _≤_, _<_}
 use native.Mathlib.Omega.{arith}
-use native.Mathlib.Nat.{add-zero, add-assoc}
+use native.Mathlib.Nat.{add-zero}
 use lib.Dec.{eqb}
 use lib.ListN.{length, getD, take, drop, length-append}
-use lib.Seq.{getD-append-add, drop-append-add, take-append-seam}
+use lib.Seq.{getD-append-add, drop-append-add, drop-drop, drop-at, take-append-seam}
 use borrow.Author.Tests.{eqb-true, eqb-false}
 use Rattle.trace_format.specs.declared.Mark.the-variants.{Name, Row, End}
-use Rattle.trace_format.specs.Format.{word, nameRecord, rowRecord, endRecord}
-use Rattle.trace_format.specs.Records.{markOf, markAt, wordAt}
+use Rattle.trace_format.specs.Format.{bytesOf, Fits, rowLetter, nameRecord, rowRecord, endRecord}
+use Rattle.trace_format.specs.Records.{markOf, markAt, numberAt}
+use Rattle.trace_format.proofs.Numbers.{bytes-length, number-read}
 
 -- records one behind the other
 pub record Parted (whole front part : List ℕ) : Type 0 where
@@ -44,30 +45,12 @@ split all each step j (suc k) h tail = go (eqb j k) refl (λ l. split all each s
         let p = ih (omega (arith, eqb-false j k e)) in
         record { rest = p .rest; is = next ∙ p .is }
 
--- four bytes
-pub word-value :
-    (x : ℕ) →
-    x < 2 ^ 32 →
-    x % 256 + 256 * (x / 256 % 256) + 65536 * (x / 65536 % 256) + 16777216 * (x / 16777216 % 256) ≡ x
-word-value x h =
-    let a : ℕ = x / 256 in
-    let b : ℕ = a / 256 in
-    let c : ℕ = b / 256 in
-    let e₁ : x / 65536 ≡ b = omega arith in
-    let e₂ : x / 16777216 ≡ c = omega arith in
-    let f₂ : c % 256 ≡ c = omega arith in
-    rw (e₁, e₂, f₂) (omega arith)
-
 module _ (front l : List ℕ) where
   byte : (i : ℕ) → getD (front ++ l) (length front + i) 0 ≡ getD l i 0
   byte i = getD-append-add front l i 0
 
   byte₀ : getD (front ++ l) (length front) 0 ≡ getD l 0 0
   byte₀ = rw add-zero at (byte 0)
-
-  -- at a further place
-  byte-at : (j i : ℕ) → getD (front ++ l) (length front + j + i) 0 ≡ getD l (j + i) 0
-  byte-at j i = rw add-assoc (byte (j + i))
 
 pub record NameRead (file : List ℕ) (p : ℕ) (x : List ℕ) : Type 0 where
   pub mark : markAt file p ≡ Name
@@ -86,45 +69,56 @@ name-read front x rest =
       fits = rw (length-append front l, length-append x rest) (omega arith);
     }
 
-pub record RowRead (file : List ℕ) (p t : ℕ) (codes : List ℕ) : Type 0 where
-  pub mark : markAt file p ≡ Row
-  pub time : wordAt file (p + 2) ≡ t
-  pub held : take (length codes) (drop (p + 6) file) ≡ codes
-  pub fits : p + 6 + length codes ≤ length file
+pub record RowRead (file : List ℕ) (p w t : ℕ) (codes : List ℕ) : Type 0 where
+  pub mark : markAt file p ≡ Row w
+  pub time : numberAt w file (p + 2) ≡ t
+  pub held : take (length codes) (drop (p + 2 + w) file) ≡ codes
+  pub fits : p + 2 + w + length codes ≤ length file
+
+letter-mark : {w : ℕ} → (w ≡ 4) ⊎ (w ≡ 8) → markOf 82 (rowLetter w) ≡ Row w
+unfolding markOf rowLetter
+letter-mark (inl e) = rw e
+letter-mark (inr e) = rw e
 
 pub row-read :
-    (front : List ℕ) (t : ℕ) (codes rest : List ℕ) →
-    t < 2 ^ 32 →
-    RowRead (front ++ (rowRecord t codes ++ rest)) (length front) t codes
-unfolding rowRecord word markOf wordAt
-row-read front t codes rest h =
-    let w₀ : ℕ = t % 256 in
-    let w₁ : ℕ = t / 256 % 256 in
-    let w₂ : ℕ = t / 65536 % 256 in
-    let w₃ : ℕ = t / 16777216 % 256 in
-    let l : List ℕ = 82 ∷ 87 ∷ w₀ ∷ w₁ ∷ w₂ ∷ w₃ ∷ (codes ++ rest) in
+    (front : List ℕ) (w t : ℕ) (codes rest : List ℕ) →
+    Fits w t →
+    RowRead (front ++ (rowRecord w t codes ++ rest)) (length front) w t codes
+unfolding rowRecord
+row-read front w t codes rest f =
+    let long = bytes-length w t in
+    let tail : List ℕ = (bytesOf w t ++ codes) ++ rest in
+    let l : List ℕ = 82 ∷ rowLetter w ∷ tail in
+    let e : tail ≡ bytesOf w t ++ (codes ++ rest) = append-assoc (bytesOf w t) codes rest in
+    let timed : drop (length front + 2) (front ++ l) ≡ bytesOf w t ++ (codes ++ rest) =
+    drop-append-add front l 2 ∙ e
+    in
+    let coded : drop (length front + 2 + w) (front ++ l) ≡ codes ++ rest =
+    sym (drop-drop w (length front + 2) (front ++ l)) ∙ ap (drop w) timed
+    ∙ drop-at (bytesOf w t) (codes ++ rest) w long
+    in
     record {
-      mark = rw (byte₀ front l, byte front l 1);
-      time = rw (byte front l 2, byte-at front l 2 1, byte-at front l 2 2, byte-at front l 2 3) (word-value t h);
-      held = rw (drop-append-add front l 6) (take-append-seam codes rest);
-      fits = rw (length-append front l, length-append codes rest) (omega arith);
+      mark = rw (byte₀ front l, byte front l 1) (letter-mark (f .kind));
+      time = number-read (front ++ l) w t (length front + 2) (codes ++ rest) (f .small) timed;
+      held = rw coded (take-append-seam codes rest);
+      fits =
+          rw (length-append front l, e, length-append (bytesOf w t) (codes ++ rest), length-append codes rest, long)
+          (omega arith);
     }
 
 pub record EndRead (file : List ℕ) (p n : ℕ) : Type 0 where
   pub mark : markAt file p ≡ End
-  pub counted : wordAt file (p + 2) ≡ n
+  pub counted : numberAt 4 file (p + 2) ≡ n
   pub last : p + 6 ≡ length file
 
 pub end-read : (front : List ℕ) (n : ℕ) → n < 2 ^ 32 → EndRead (front ++ endRecord n) (length front) n
-unfolding endRecord word markOf wordAt
+unfolding endRecord markOf
 end-read front n h =
-    let w₀ : ℕ = n % 256 in
-    let w₁ : ℕ = n / 256 % 256 in
-    let w₂ : ℕ = n / 65536 % 256 in
-    let w₃ : ℕ = n / 16777216 % 256 in
-    let l : List ℕ = 69 ∷ 78 ∷ w₀ ∷ w₁ ∷ w₂ ∷ w₃ ∷ [] in
+    let l : List ℕ = 69 ∷ 78 ∷ bytesOf 4 n in
     record {
       mark = rw (byte₀ front l, byte front l 1);
-      counted = rw (byte front l 2, byte-at front l 2 1, byte-at front l 2 2, byte-at front l 2 3) (word-value n h);
-      last = rw (length-append front l) (omega arith);
+      counted =
+          number-read (front ++ l) 4 n (length front + 2) [] (omega arith)
+          (drop-append-add front l 2 ∙ sym (append-nil (bytesOf 4 n)));
+      last = rw (length-append front l, bytes-length 4 n) (omega arith);
     }

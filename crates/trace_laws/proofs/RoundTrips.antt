@@ -3,8 +3,9 @@
 --   writes-unique    likewise of a writing
 --   checks-unique, lists-unique    likewise of the check of a trace in lists, and of the lists alone
 --   rows-pass, lists-pass, trace-passes     a trace passes that check, in its parts and as a whole
+--   read-any         reading the bytes of a trace gives the trace
 --   read-write       reading what was written gives the same names, times and states
---   write-read       writing what was read gives the same bytes
+-- What writing makes of a file that was read is in Rewritten.antt.
 use mathlib.Core.Path.{_≡_, refl, sym, ap, _∙_}
 use mathlib.Core.List.{List}
 use mathlib.Core.Logic.{_⊎_, inl, inr}
@@ -20,7 +21,7 @@ use Rattle.alf.proofs.Outcomes.{at-fixed, first-fixed, refused-passed, refused-
 use Rattle.alf.proofs.Orders.{passed-both, fixed-both}
 use Rattle.trace_reader.specs.declared.Reading.{Reading}
 use Rattle.trace_reader.specs.declared.Reading.the-variants.{Read, Refused}
-use Rattle.trace_format.specs.Format.{fileOf, Trace}
+use Rattle.trace_format.specs.Format.{Fitting, fewestOf, fileIn, fileOf, Trace}
 use Rattle.trace_reader.specs.Reading.{FileRefused, RoomRefused, roomOrder, Got, Reads}
 use Rattle.trace_writer.specs.Writing.{lentOrder, rowsOrder, listsOrder, writeOrder, Writes, BadState}
 use Rattle.trace_writer.proofs.TraceChecks.{trace-fixed}
@@ -29,6 +30,7 @@ use Rattle.trace_format.proofs.RowByRow.{room-for}
 use Rattle.trace_laws.proofs.Places.{accepted-unique, accepted-refused, refusal-unique}
 use Rattle.trace_laws.proofs.Theorems.{exact-accepted, one-trace, refused-none, got-trace, room-fixed}
 use Rattle.trace_laws.proofs.Theorems.{OneReading}
+use Rattle.trace_laws.proofs.Widths.{fewest-fits}
 use Rattle.basics.proofs.Memory.{after-unique}
 
 module _ (file names times states : List ℕ) where
@@ -172,6 +174,36 @@ module _ {names times states : List ℕ} {n : ℕ} (t : Trace names times states
   writes-bytes {out} (Outcome.Refused r) h w =
       absurd (refused-passed (writeOrder names times states n (length out)) _ _ (writing-passes h) (w .outcome .by))
 
+  -- reading the bytes of a trace, whatever the widths of its times, gives its names, times and states
+  module _ (widths : ℕ → ℕ) (fitting : Fitting widths times n) where
+    pub read-any :
+        (n₀ t₀ s₀ : List ℕ) {n₁ t₁ s₁ : List ℕ} (r : Reading) →
+        length names ≤ length n₀ →
+        n ≤ length t₀ →
+        n * namesIn names ≤ length s₀ →
+        Reads (fileIn widths names times states n) n₀ t₀ s₀ n₁ t₁ s₁ r →
+        OneReading r n₁ t₁ s₁ (Read (namesIn names) n) (front names n₀) (front times t₀) (front states s₀)
+    unfolding Reads Passed
+    read-any n₀ t₀ s₀ r hn ht hs w =
+        reads-unique (fileIn widths names times states n) n₀ t₀ s₀ r (Read (namesIn names) n) w
+        (record {
+          ns = names;
+          ts = times;
+          ss = states;
+          trace = t;
+          widths = widths;
+          fitting = fitting;
+          bytes = refl;
+          named = refl;
+          room = (
+            (λ p a. omega (arith, a .given, t .slots .whole)),
+            ((λ p a. omega (arith, a .given)), ((λ p a. omega (arith, a .given)), tt)),
+          );
+          names-now = refl;
+          times-now = refl;
+          states-now = refl;
+        })
+
   -- reading what was written gives the same names, times and states
   pub read-write :
       (n₀ t₀ s₀ : List ℕ) {n₁ t₁ s₁ : List ℕ} (r : Reading) →
@@ -180,30 +212,4 @@ module _ {names times states : List ℕ} {n : ℕ} (t : Trace names times states
       n * namesIn names ≤ length s₀ →
       Reads (fileOf names times states n) n₀ t₀ s₀ n₁ t₁ s₁ r →
       OneReading r n₁ t₁ s₁ (Read (namesIn names) n) (front names n₀) (front times t₀) (front states s₀)
-  unfolding Reads Passed
-  read-write n₀ t₀ s₀ r hn ht hs w =
-      reads-unique (fileOf names times states n) n₀ t₀ s₀ r (Read (namesIn names) n) w
-      (record {
-        ns = names;
-        ts = times;
-        ss = states;
-        trace = t;
-        bytes = refl;
-        named = refl;
-        room = (
-          (λ p a. omega (arith, a .given, t .slots .whole)),
-          ((λ p a. omega (arith, a .given)), ((λ p a. omega (arith, a .given)), tt)),
-        );
-        names-now = refl;
-        times-now = refl;
-        states-now = refl;
-      })
-
--- writing what was read gives the same bytes
-pub write-read :
-    {file n₀ t₀ s₀ n₁ t₁ s₁ : List ℕ} {k n : ℕ} (g : Got file n₀ t₀ s₀ k n n₁ t₁ s₁)
-    {out out′ : List ℕ} (r : Outcome) →
-    length file ≤ length out →
-    Writes (g .ns) (g .ts) (g .ss) n out out′ r →
-    OneWriting r out′ (Outcome.Done (length file)) (front file out)
-write-read g r h w = rw (g .bytes) (writes-bytes (g .trace) r (rw (g .bytes) at h) w)
+  read-write = read-any (fewestOf times) (fewest-fits t)

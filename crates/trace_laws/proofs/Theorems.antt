@@ -13,24 +13,27 @@ use Rattle.basics.specs.declared.Outcome.{Outcome}
 use Rattle.basics.specs.declared.Outcome.the-variants as Outcome
 use Rattle.alf.proofs.Outcomes.{AllFixed, at-fixed}
 use Rattle.trace_reader.specs.declared.Reading.{Reading}
-use Rattle.trace_format.specs.Format.{fileOf, Trace}
+use Rattle.trace_format.specs.Format.{Fitting, fileIn, Trace}
+use Rattle.trace_format.specs.Records.{widthIn}
 use Rattle.trace_reader.specs.Reading.{Accepted, FileRefused, roomOrder, Got}
 use Rattle.trace_reader.specs.HeldLists.{namesOf, timesOf, statesOf}
-use Rattle.trace_reader.proofs.AcceptedTraces.{accepted-trace, accepted-bytes}
+use Rattle.trace_reader.proofs.AcceptedTraces.{accepted-trace, accepted-fits, accepted-bytes}
 use Rattle.trace_laws.proofs.Places.{accepted-unique, accepted-refused}
 use Rattle.trace_laws.proofs.BytesAccepted.{trace-accepted, held-names, held-times, held-states}
 
--- a trace whose bytes a file is
+-- a trace whose bytes a file is, with some widths of its times
 pub record TraceOf (file : List ℕ) (k n : ℕ) : Type 0 where
   pub names : List ℕ
   pub times : List ℕ
   pub states : List ℕ
   pub trace : Trace names times states n
-  pub bytes : file ≡ fileOf names times states n
+  pub widths : ℕ → ℕ
+  pub fitting : Fitting widths times n
+  pub bytes : file ≡ fileIn widths names times states n
   pub counted : k ≡ namesIn names
 
 pub exact-accepted : {file : List ℕ} {k n : ℕ} → TraceOf file k n → Accepted file k n
-exact-accepted t = rw (t .bytes, t .counted) (trace-accepted (t .trace))
+exact-accepted t = rw (t .bytes, t .counted) (trace-accepted (t .trace) (t .widths) (t .fitting))
 
 pub exact-trace : {file : List ℕ} {k n : ℕ} → ((i : ℕ) → getD file i 0 < 256) → Accepted file k n
     → TraceOf file k n
@@ -40,6 +43,8 @@ exact-trace {file} {k} {n} bytes a =
       times = timesOf file k n;
       states = statesOf file k n;
       trace = accepted-trace a bytes;
+      widths = widthIn file k;
+      fitting = accepted-fits a bytes;
       bytes = accepted-bytes a bytes;
       counted = sym (Rattle.trace_reader.proofs.AcceptedTraces.counted a);
     }
@@ -47,13 +52,13 @@ exact-trace {file} {k} {n} bytes a =
 -- what a trace of a file holds
 module _ {file : List ℕ} {k n : ℕ} (t : TraceOf file k n) where
   names-of : t .names ≡ namesOf file k
-  names-of = sym (rw (t .bytes, t .counted) (held-names (t .trace)))
+  names-of = sym (rw (t .bytes, t .counted) (held-names (t .trace) (t .widths) (t .fitting)))
 
   times-of : t .times ≡ timesOf file k n
-  times-of = sym (rw (t .bytes, t .counted) (held-times (t .trace)))
+  times-of = sym (rw (t .bytes, t .counted) (held-times (t .trace) (t .widths) (t .fitting)))
 
   states-of : t .states ≡ statesOf file k n
-  states-of = sym (rw (t .bytes, t .counted) (held-states (t .trace)))
+  states-of = sym (rw (t .bytes, t .counted) (held-states (t .trace) (t .widths) (t .fitting)))
 
 pub record Same (names times states : List ℕ) (n : ℕ) (names′ times′ states′ : List ℕ) (n′ : ℕ)
     : Type 0 where
@@ -83,7 +88,16 @@ module _ {file names times states : List ℕ} where
       → Got file names times states k n names′ times′
       states′ → TraceOf file k n
   got-trace g =
-      record { names = g .ns; times = g .ts; states = g .ss; trace = g .trace; bytes = g .bytes; counted = g .named }
+      record {
+        names = g .ns;
+        times = g .ts;
+        states = g .ss;
+        trace = g .trace;
+        widths = g .widths;
+        fitting = g .fitting;
+        bytes = g .bytes;
+        counted = g .named;
+      }
 
 pub room-fixed : (names times states : List ℕ) (k n : ℕ) → AllFixed (roomOrder names times states k n)
 room-fixed names times states k n = (at-fixed _ _, (at-fixed _ _, (at-fixed _ _, tt)))

@@ -1,5 +1,5 @@
 -- An accepted file is the bytes of a trace: of the names, times and states that it holds.
--- Main names: accepted-trace, accepted-bytes. Assumes that the file is a list of bytes.
+-- Main names: accepted-trace, accepted-fits, accepted-bytes. Assumes that the file is a list of bytes.
 use mathlib.Core.Path.{_≡_, refl, sym, ap, _∙_}
 use mathlib.Core.List.{List, _++_, append-assoc}
 use Prim.Native.Nat.{ℕ, zero, suc, _+_, _-_, _*_, _≤_, _<_}
@@ -8,18 +8,17 @@ use native.Mathlib.Numerals.{add-one}
 use lib.ListN.{length, getD, drop}
 use Rattle.alf.specs.Names.{namesIn, slotOf, nameAt, GoodSlot}
 use Rattle.names.specs.Check.{Slots}
-use Rattle.trace_format.specs.declared.Mark.the-variants.{Row}
-use Rattle.trace_format.specs.Format.{nameRecord, rowRecord, nameRecords, rowRecords, fileOf, Lists, Trace}
-use Rattle.trace_format.specs.Records.{place, nameEnd, nameIn, timeIn, codesIn, Good}
+use Rattle.trace_format.specs.Format.{nameRecord, rowRecord, nameRecords, rowRecords, fileIn, Lists, Trace, Fitting}
+use Rattle.trace_format.specs.Records.{place, nameEnd, nameIn, widthIn, timeIn, codesIn, GoodRow}
 use Rattle.trace_reader.specs.Reading.{Accepted}
 use Rattle.trace_reader.specs.HeldLists.{namesOf, timesOf, statesOf}
-use Rattle.trace_reader.proofs.GoodRecords.{NameFacts, RowFacts, EndFacts, good-name, good-row, good-end}
-use Rattle.trace_reader.proofs.CursorSteps.{place-zero}
-use Rattle.trace_reader.proofs.NameWalk.{end-zero}
+use Rattle.record_checks.proofs.GoodRecords.{NameFacts, RowFacts, EndFacts, good-name, good-row, good-end}
+use Rattle.record_checks.proofs.CursorSteps.{place-zero}
+use Rattle.record_checks.proofs.NameWalk.{end-zero}
 use Rattle.trace_reader.proofs.Copying.{names-length, times-length, states-length}
 use Rattle.trace_reader.proofs.SpeltRecords.{name-spelt, row-spelt, end-spelt}
 use Rattle.trace_reader.proofs.NameSlots.{slot-of-names, name-of-names}
-use Rattle.trace_reader.proofs.HeldRows.{time-of-times, codes-of-states, times-small, states-small}
+use Rattle.trace_reader.proofs.HeldRows.{time-of-times, codes-of-states, time-fits, times-small, states-small}
 
 module _ {file : List ℕ} {k n : ℕ} (accepted : Accepted file k n) where
   names : List ℕ
@@ -28,7 +27,7 @@ module _ {file : List ℕ} {k n : ℕ} (accepted : Accepted file k n) where
   name : (j : ℕ) → j < k → NameFacts file j
   name j h = good-name file j (accepted .before .names j h)
 
-  rows : (r : ℕ) → r < n → Good Row file k r
+  rows : (r : ℕ) → r < n → GoodRow file k r
   rows = accepted .before .rows
 
   row : (r : ℕ) → r < n → RowFacts file k r
@@ -92,8 +91,11 @@ module _ {file : List ℕ} {k n : ℕ} (accepted : Accepted file k n) where
           lists = lists;
           rising = rising;
           codes = λ i h. states-small file k n rows n (omega arith) i;
-          words = times-small file k n rows bytes n;
+          words = times-small file k n rows bytes n (omega arith);
         }
+
+    pub accepted-fits : Fitting (widthIn file k) (timesOf file k n) n
+    accepted-fits r h = rw (time-of-times file k n rows n r h) (time-fits file k n rows bytes r h)
 
     names-bytes : (j : ℕ) → j ≤ k → file ≡ nameRecords (namesOf file k) j ++ drop (nameEnd file j) file
     unfolding nameRecords
@@ -111,7 +113,7 @@ module _ {file : List ℕ} {k n : ℕ} (accepted : Accepted file k n) where
         (r : ℕ) →
         r ≤ n →
         drop (place file k 0) file
-        ≡ rowRecords k (timesOf file k n) (statesOf file k n) r ++ drop (place file k r) file
+        ≡ rowRecords k (widthIn file k) (timesOf file k n) (statesOf file k n) r ++ drop (place file k r) file
     unfolding rowRecords
     rows-bytes zero h = refl
     rows-bytes (suc r) h =
@@ -120,18 +122,19 @@ module _ {file : List ℕ} {k n : ℕ} (accepted : Accepted file k n) where
           time-of-times file k n rows n r h,
           codes-of-states file k n rows n r (omega arith) h,
           append-assoc
-              (rowRecords k (timesOf file k n) (statesOf file k n) r) (rowRecord (timeIn file k r) (codesIn file k r))
+              (rowRecords k (widthIn file k) (timesOf file k n) (statesOf file k n) r)
+              (rowRecord (widthIn file k r) (timeIn file k r) (codesIn file k r))
               (drop (place file k (suc r)) file),
         )
-        (ap (λ (l : List ℕ). rowRecords k (timesOf file k n) (statesOf file k n) r ++ l)
-        (rw add-one at (row-spelt file k r (row r h) bytes)))
+        (ap (λ (l : List ℕ). rowRecords k (widthIn file k) (timesOf file k n) (statesOf file k n) r ++ l)
+        (rw (add-one r) at (row-spelt file k r (row r h) bytes)))
 
-    pub accepted-bytes : file ≡ fileOf (namesOf file k) (timesOf file k n) (statesOf file k n) n
-    unfolding fileOf
+    pub accepted-bytes : file ≡ fileIn (widthIn file k) (namesOf file k) (timesOf file k n) (statesOf file k n) n
+    unfolding fileIn
     accepted-bytes =
         names-bytes k (omega arith)
         ∙ rw (counted, ← place-zero file k)
         (ap (λ (l : List ℕ). nameRecords (namesOf file k) k ++ l)
         (rows-bytes n (omega arith)
-        ∙ ap (λ (l : List ℕ). rowRecords k (timesOf file k n) (statesOf file k n) n ++ l)
+        ∙ ap (λ (l : List ℕ). rowRecords k (widthIn file k) (timesOf file k n) (statesOf file k n) n ++ l)
         (end-spelt file k n ends bytes)))

@@ -1,10 +1,11 @@
 -- A turn of each copying loop, and the lengths of what a file holds.
 --   slot-put                                       a name and zeros behind it are its slot
 --   name-there, name-fits, names-put               a name stands in the file, its slot has room, it is copied
+--   row-marked, width-is                           a row's mark stands in the file, and the width read there
 --   row-there, row-next, times-put                 a row stands in the file, the next one, its time is copied
 --   codes-fit, states-put                          its codes have room, they are copied
 --   slot-length, names-length, times-length, codes-length, states-length
-use mathlib.Core.Path.{_≡_, refl, sym, _∙_}
+use mathlib.Core.Path.{_≡_, refl, sym, ap, _∙_}
 use mathlib.Core.List.{List}
 use Prim.Native.Nat.{ℕ, zero, suc, _+_, _-_, _*_, _≤_, _<_}
 use native.Mathlib.Omega.{arith}
@@ -20,14 +21,15 @@ use Rattle.basics.proofs.PartByPart.{put-then, put-length}
 use Rattle.alf.specs.Names.{slotOf, isName}
 use Rattle.names.proofs.Names.{name-long}
 use Rattle.names.proofs.Slots.{slot-of}
-use Rattle.trace_format.specs.declared.Mark.the-variants.{Name, Row}
+use Rattle.trace_format.specs.declared.Mark.the-variants.{Name}
 use Rattle.trace_format.proofs.RowByRow.{room-for}
-use Rattle.trace_format.specs.Records.{place, nameEnd, nameIn, timeIn, codesIn, wordAt, Good}
+use Rattle.trace_format.specs.Records.{nameEnd, place, markAt, timeBytes, numberAt}
+use Rattle.trace_format.specs.Records.{nameIn, widthIn, timeIn, codesIn, Good, GoodRow}
 use Rattle.trace_reader.specs.HeldLists.{namesOf, timesOf, statesOf, SlotFits}
-use Rattle.trace_format.specs.Parts.{ByteIs}
-use Rattle.trace_reader.proofs.GoodRecords.{good-name, good-row}
-use Rattle.trace_reader.proofs.CursorSteps.{place-zero, place-row}
-use Rattle.trace_reader.proofs.NameWalk.{name-is}
+use Rattle.trace_format.specs.Parts.{ByteIs, TimeThere, RowMarked, WidthIs}
+use Rattle.record_checks.proofs.GoodRecords.{good-name, good-row}
+use Rattle.record_checks.proofs.CursorSteps.{place-zero, place-row}
+use Rattle.record_checks.proofs.NameWalk.{name-is}
 
 pub slot-length : (name : List ℕ) → length (slotOf name) ≡ 32
 unfolding slotOf
@@ -81,30 +83,43 @@ module _ (file : List ℕ) where
       names-put p s = rw add-one (put-then p (rw (name-is file i there byte) at s))
 
 -- rows
-module _ (file : List ℕ) (k n : ℕ) (rows : (r : ℕ) → r < n → Good Row file k r) where
-  pub row-there : (r q : ℕ) → r < n → q ≡ place file k r → q + 6 + k ≤ length file
-  row-there r q h e = rw e (good-row file k r (rows r h) .fits)
+module _ (file : List ℕ) (k n : ℕ) (rows : (r : ℕ) → r < n → GoodRow file k r) where
+  pub row-marked : (r q : ℕ) → r < n → q ≡ place file k r → RowMarked file q
+  row-marked r q h e =
+      let f = good-row file k r (rows r h) in
+      rw e (record { marked = omega (arith, f .fits); row = f .mark })
 
-  pub row-next : (r q : ℕ) → q ≡ place file k r → q + 6 + k ≡ place file k (r + 1)
-  row-next r q e = rw e (sym (place-row file k r))
+  -- the row where a copy stands, and the width that was read there
+  module _ (r : ℕ) {q w : ℕ} (there : q ≡ place file k r) (width : WidthIs (timeBytes (markAt file q)) w) where
+    pub width-is : w ≡ widthIn file k r
+    width-is = width .is ∙ ap (λ (p : ℕ). timeBytes (markAt file p)) there
+
+    pub row-there : r < n → q + 2 + w + k ≤ length file
+    row-there h = omega (arith, there, width-is, good-row file k r (rows r h) .fits)
+
+    pub time-there : r < n → TimeThere w file (q + 2)
+    time-there h = record { kind = width .kind; whole = omega (arith, row-there h) }
+
+    pub row-next : q + 2 + w + k ≡ place file k (r + 1)
+    row-next = omega (arith, place-row file k r, there, width-is)
+
+    pub times-put : {t : ℕ} {out₀ out : List ℕ} → t ≡ numberAt w file (q + 2)
+        → Put out₀ 0 (timesOf file k r) out r
+        → Put out₀ 0 (timesOf file k (r + 1)) (set out r t) (r + 1)
+    unfolding timesOf timeIn
+    times-put read p =
+        rw add-one (put-then p (record { bytes = rw (read, there, width-is); next = omega arith }))
 
   pub times-length : (r : ℕ) → length (timesOf file k r) ≡ r
   unfolding timesOf
   times-length zero = refl
   times-length (suc r) = rw (length-append, times-length r) (omega arith)
 
-  pub times-put : (r t : ℕ) {out₀ out : List ℕ} {q : ℕ} → q ≡ place file k r → t ≡ wordAt file (q + 2)
-      → Put out₀ 0 (timesOf file k r) out r
-      → Put out₀ 0 (timesOf file k (r + 1)) (set out r t) (r + 1)
-  unfolding timesOf timeIn
-  times-put r t there read p =
-      rw add-one (put-then p (record { bytes = rw (read, there); next = omega arith }))
-
   pub codes-length : (r : ℕ) → r < n → length (codesIn file k r) ≡ k
   unfolding codesIn
   codes-length r h =
-      length-take-le k (drop (place file k r + 6) file)
-      (rw length-drop (omega (arith, row-there r (place file k r) h refl)))
+      length-take-le k (drop (place file k r + 2 + widthIn file k r) file)
+      (rw length-drop (omega (arith, good-row file k r (rows r h) .fits)))
 
   pub states-length : (r : ℕ) → r ≤ n → length (statesOf file k r) ≡ r * k
   unfolding statesOf
@@ -112,22 +127,26 @@ module _ (file : List ℕ) (k n : ℕ) (rows : (r : ℕ) → r < n → Good Row 
   states-length (suc r) h =
       rw (length-append, states-length r (omega arith), codes-length r h, ← add-one r, add-mul r 1 k, one-mul)
 
-  module _ (r : ℕ) {q to : ℕ} {out₀ out : List ℕ} (there : q ≡ place file k r)
-      (p : Put out₀ 0 (statesOf file k r) out to) where
-    pub codes-fit : r < n → n * k ≤ length out₀ → Room out to (take (q + 6 + k - (q + 6)) (drop (q + 6) file))
+  module _ (r : ℕ) {q w to : ℕ} {out₀ out : List ℕ} (there : q ≡ place file k r)
+      (width : WidthIs (timeBytes (markAt file q)) w) (p : Put out₀ 0 (statesOf file k r) out to) where
+    pub codes-fit :
+        r < n → n * k ≤ length out₀ → Room out to (take (q + 2 + w + k - (q + 2 + w)) (drop (q + 2 + w) file))
     codes-fit h room =
         omega (
           arith,
-          length-take (q + 6 + k - (q + 6)) (drop (q + 6) file),
+          length-take (q + 2 + w + k - (q + 2 + w)) (drop (q + 2 + w) file),
           states-length r (omega arith),
           room-for r n k h,
           p .next,
           put-length p,
         )
 
-    pub states-put : {out′ : List ℕ} {to′ : ℕ} → Put out to (take (q + 6 + k - (q + 6)) (drop (q + 6) file)) out′ to′
+    pub states-put : {out′ : List ℕ} {to′ : ℕ}
+        → Put out to (take (q + 2 + w + k - (q + 2 + w)) (drop (q + 2 + w) file)) out′ to′
         → Put out₀ 0 (statesOf file k (r + 1)) out′ to′
     unfolding statesOf codesIn
     states-put h =
-        let size : q + 6 + k - (q + 6) ≡ k = omega arith in
-        rw add-one (put-then p (rw (size, there) at h))
+        let size : q + 2 + w + k - (q + 2 + w) ≡ k = omega arith in
+        let from : q + 2 + w ≡ place file k r + 2 + widthIn file k r =
+        omega (arith, there, width-is r there width)
+        in rw add-one (put-then p (rw (size, from) at h))

@@ -1,6 +1,7 @@
 -- Times and states in one list each: what stands at row r is what the record of row r holds.
 --   time-of-times, codes-of-states   row r's time and codes
---   times-small, states-small        every time is a word, every code at most 7
+--   time-fits                        a time fits into its bytes
+--   times-small, states-small        every time has 64 bits, every code is at most 7
 use mathlib.Core.Path.{_≡_, refl, _∙_}
 use mathlib.Core.Bool.{Bool, true, false}
 use mathlib.Core.List.{List, [], _∷_, _++_}
@@ -10,12 +11,13 @@ use lib.Dec.{eqb, ltb}
 use lib.ListN.{length, getD, take, drop, length-drop, List·getD-append, List·getD-eq-default}
 use lib.Seq.{take-all, take-append-le, drop-append-le, drop-at, getD-at, getD-append-add, getD-take, getD-drop}
 use borrow.Author.Tests.{eqb-true, eqb-false, ltb-true, ltb-false}
-use Rattle.trace_format.specs.declared.Mark.the-variants.{Row}
-use Rattle.trace_format.specs.Format.{codesOf}
+use Rattle.trace_format.specs.Format.{codesOf, Fits}
 use Rattle.trace_format.proofs.RowByRow.{room-for}
-use Rattle.trace_format.specs.Records.{place, wordAt, timeIn, codesIn, Good}
+use Rattle.trace_format.proofs.MarkBytes.{row-kind}
+use Rattle.trace_format.proofs.Numbers.{number-small, fits-small}
+use Rattle.trace_format.specs.Records.{place, widthIn, timeIn, codesIn, GoodRow}
 use Rattle.trace_reader.specs.HeldLists.{timesOf, statesOf}
-use Rattle.trace_reader.proofs.GoodRecords.{good-row}
+use Rattle.record_checks.proofs.GoodRecords.{good-row}
 use Rattle.trace_reader.proofs.Copying.{times-length, states-length, codes-length}
 
 -- a law of each element of two lists is one of their join
@@ -43,7 +45,7 @@ one-all : (P : ℕ → Type 0) (x : ℕ) → P 0 → P x → (i : ℕ) → P (ge
 one-all P x z h zero = h
 one-all P x z h (suc i) = none-all P z i
 
-module _ (file : List ℕ) (k n : ℕ) (rows : (r : ℕ) → r < n → Good Row file k r) where
+module _ (file : List ℕ) (k n : ℕ) (rows : (r : ℕ) → r < n → GoodRow file k r) where
   pub time-of-times : (m r : ℕ) → r < m → getD (timesOf file k m) r 0 ≡ timeIn file k r
   unfolding timesOf
   time-of-times zero r h = absurd (omega arith)
@@ -85,24 +87,27 @@ module _ (file : List ℕ) (k n : ℕ) (rows : (r : ℕ) → r < n → Good Row 
           rw (drop-append-le (r * k) (statesOf file k m) (codesIn file k m) s)
           (take-append-le k (drop (r * k) (statesOf file k m)) (codesIn file k m) t ∙ ih l)
 
-  pub times-small : ((i : ℕ) → getD file i 0 < 256) → (m i : ℕ) → getD (timesOf file k m) i 0 < 2 ^ 32
-  unfolding timesOf timeIn wordAt
-  times-small bytes zero i = none-all (λ x. x < 2 ^ 32) (omega arith) i
-  times-small bytes (suc m) i =
-      join-all (λ x. x < 2 ^ 32) (timesOf file k m) _ (times-small bytes m)
-      (one-all (λ x. x < 2 ^ 32) _ (omega arith)
-      (omega (
-        arith,
-        bytes (place file k m + 2),
-        bytes (place file k m + 2 + 1),
-        bytes (place file k m + 2 + 2),
-        bytes (place file k m + 2 + 3),
-      ))) i
+  pub time-fits : ((i : ℕ) → getD file i 0 < 256) → (r : ℕ) → r < n → Fits (widthIn file k r) (timeIn file k r)
+  unfolding timeIn
+  time-fits bytes r h =
+      record {
+        kind = row-kind _ _ (good-row file k r (rows r h) .mark);
+        small = number-small file bytes (widthIn file k r) (place file k r + 2);
+      }
 
-  code-at : (r i : ℕ) → i < k → getD (codesIn file k r) i 0 ≡ getD file (place file k r + 6 + i) 0
+  pub times-small : ((i : ℕ) → getD file i 0 < 256) → (m : ℕ) → m ≤ n → (i : ℕ) → getD (timesOf file k m) i 0 < 2 ^ 64
+  unfolding timesOf
+  times-small bytes zero h i = none-all (λ x. x < 2 ^ 64) (omega arith) i
+  times-small bytes (suc m) h i =
+      join-all (λ x. x < 2 ^ 64) (timesOf file k m) _ (times-small bytes m (omega arith))
+      (one-all (λ x. x < 2 ^ 64) _ (omega arith) (fits-small (time-fits bytes m h))) i
+
+  code-at : (r i : ℕ) → i < k
+      → getD (codesIn file k r) i 0 ≡ getD file (place file k r + 2 + widthIn file k r + i) 0
   unfolding codesIn
   code-at r i l =
-      getD-take k (drop (place file k r + 6) file) i 0 l ∙ getD-drop (place file k r + 6) file i 0
+      let p : ℕ = place file k r + 2 + widthIn file k r in
+      getD-take k (drop p file) i 0 l ∙ getD-drop p file i 0
 
   code-small : (r : ℕ) → r < n → (i : ℕ) → getD (codesIn file k r) i 0 ≤ 7
   code-small r h i = go (ltb i k) refl
@@ -110,9 +115,9 @@ module _ (file : List ℕ) (k n : ℕ) (rows : (r : ℕ) → r < n → Good Row 
       go : (b : Bool) → ltb i k ≡ b → getD (codesIn file k r) i 0 ≤ 7
       go true e =
           let l : i < k = ltb-true i k e in
-          let no : 7 < getD file (place file k r + 6 + i) 0 → ⊥ =
+          let no : 7 < getD file (place file k r + 2 + widthIn file k r + i) 0 → ⊥ =
           λ a.
-          good-row file k r (rows r h) .codes (place file k r + 6 + i)
+          good-row file k r (rows r h) .codes (place file k r + 2 + widthIn file k r + i)
           (record { from = omega arith; to = omega arith; above = a })
           in rw (code-at r i l) (omega arith)
       go false e =

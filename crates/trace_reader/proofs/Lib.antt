@@ -1,10 +1,5 @@
--- Laws of lists, of the records of a file and of what the checks of a record come to.
-pub mod NameWalk
-pub mod Orders
-pub mod Cursors
-pub mod RowCursors
-pub mod GoodRecords
-pub mod CursorSteps
+-- Laws of what the records of a file hold, and of what reading comes to.
+pub mod FileChecks
 pub mod Copying
 pub mod SpeltRecords
 pub mod NameSlots

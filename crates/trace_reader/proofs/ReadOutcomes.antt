@@ -12,13 +12,20 @@ use Rattle.basics.specs.declared.Refusal.{Refusal}
 use Rattle.alf.specs.Refusals.{RefusedWith, Passed}
 use Rattle.trace_reader.specs.declared.Reading.{Reading}
 use Rattle.trace_reader.specs.declared.Reading.the-variants.{Read, Refused}
-use Rattle.trace_format.specs.Records.{nameEnd}
+use Rattle.trace_format.specs.Records.{nameEnd, widthIn}
 use Rattle.trace_format.proofs.RowByRow.{codes-bound}
 use Rattle.trace_reader.specs.Reading.{Accepted, Reads}
 use Rattle.trace_reader.specs.HeldLists.{namesOf, timesOf, statesOf, NamesFit, RowsFit}
-use Rattle.trace_reader.specs.Steps.{Checked}
-use Rattle.trace_reader.proofs.CursorSteps.{place-zero}
-use Rattle.trace_reader.proofs.AcceptedTraces.{few-names, few-rows, counted, accepted-trace, accepted-bytes}
+use Rattle.trace_reader.specs.Checking.{Checked}
+use Rattle.record_checks.proofs.CursorSteps.{place-zero}
+use Rattle.trace_reader.proofs.AcceptedTraces.{
+  few-names,
+  few-rows,
+  counted,
+  accepted-trace,
+  accepted-fits,
+  accepted-bytes,
+}
 
 abbrev Short : Reading → ℕ → Type 0
 Short r needed = r ≡ Refused (refusal 9 needed)
@@ -89,6 +96,8 @@ module _ {file : List ℕ} {k n : ℕ} (accepted : Accepted file k n) (names tim
               ts = timesOf file k n;
               ss = statesOf file k n;
               trace = accepted-trace accepted bytes;
+              widths = widthIn file k;
+              fitting = accepted-fits accepted bytes;
               bytes = accepted-bytes accepted bytes;
               named = sym (counted accepted);
               room = (

@@ -8,8 +8,8 @@ use mathlib.Core.List.{List, [], _∷_, _++_}
 use lib.ListN.{length}
 use Rattle.basics.specs.Memory.{front}
 use Rattle.alf.specs.Names.{slotOf}
-use Rattle.trace_format.specs.declared.Mark.the-variants.{Name, Row}
-use Rattle.trace_format.specs.Records.{nameEnd, place, nameIn, timeIn, codesIn, Good}
+use Rattle.trace_format.specs.declared.Mark.the-variants.{Name}
+use Rattle.trace_format.specs.Records.{nameEnd, place, nameIn, timeIn, codesIn, Good, GoodRow}
 
 -- of the first k names; of the first r rows behind k names
 unfoldable pub namesOf : List ℕ → ℕ → List ℕ
@@ -32,7 +32,7 @@ pub record NamesFit (file : List ℕ) (k : ℕ) (out : List ℕ) : Type 0 where
 -- behind k names stand n good rows, for each of which there are so many elements of room
 pub record RowsFit (file : List ℕ) (k at n each : ℕ) (out : List ℕ) : Type 0 where
   pub there : at ≡ place file k 0
-  pub rows : (r : ℕ) → r < n → Good Row file k r
+  pub rows : (r : ℕ) → r < n → GoodRow file k r
   pub room : n * each ≤ length out
 
 -- the names are in place, and the next record is known

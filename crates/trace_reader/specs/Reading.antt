@@ -12,7 +12,7 @@ use Rattle.alf.specs.Refusals.{Order, check, no-room, RefusedWith, Bare, Passed
 use Rattle.trace_format.specs.declared.Mark.the-variants.{End}
 use Rattle.trace_reader.specs.declared.Reading.{Reading}
 use Rattle.trace_reader.specs.declared.Reading.the-variants.{Read, Refused}
-use Rattle.trace_format.specs.Format.{Trace, fileOf}
+use Rattle.trace_format.specs.Format.{Trace, Fitting, fileIn}
 use Rattle.trace_format.specs.Records.{recordOrder, Good, Before}
 use Rattle.basics.specs.Memory.{front}
 
@@ -42,13 +42,16 @@ pub record RoomRefused (file names times states : List ℕ) (number p : ℕ) : T
   pub accepted : Accepted file k n
   pub refused : RefusedWith (roomOrder names times states k n) number p
 
--- the file is the bytes of a trace of k names and n rows, for which there is room and which now stands in the lists
+-- the file is the bytes of a trace of k names and n rows, for which there is room and which now stands in the lists;
+-- how many bytes each row's time has does not matter
 pub record Got (file names times states : List ℕ) (k n : ℕ) (names′ times′ states′ : List ℕ) : Type 0 where
   pub ns : List ℕ
   pub ts : List ℕ
   pub ss : List ℕ
   pub trace : Trace ns ts ss n
-  pub bytes : file ≡ fileOf ns ts ss n
+  pub widths : ℕ → ℕ
+  pub fitting : Fitting widths ts n
+  pub bytes : file ≡ fileIn widths ns ts ss n
   pub named : k ≡ namesIn ns
   pub room : Passed (roomOrder names times states k n)
   pub names-now : names′ ≡ front ns names

@@ -7,7 +7,8 @@ ghost use Rattle.alf.specs.Names.{slotOf};
 ghost use Rattle.trace_reader.specs.HeldLists.{timesOf, statesOf, NamesFit, NamesDone, RowsFit, SlotFits};
 use basics::puts::put;
 use trace_format::parts::byte_at;
-use trace_format::parts::word_at;
+use trace_format::parts::time_at;
+use trace_format::parts::width_at;
 
 // Writes n zeros, and returns the place behind them.
 fn clear(out: &mut [u8], at: usize, n: usize) -> usize
@@ -50,15 +51,16 @@ pub fn copy_names(file: &[u8], k: usize, out: &mut [u8]) -> usize
 }
 
 // Copies the times of n rows of k codes each.
-pub fn copy_times(file: &[u8], k: usize, at: usize, n: usize, out: &mut [u32])
+pub fn copy_times(file: &[u8], k: usize, at: usize, n: usize, out: &mut [u64])
     requires { ⌜ RowsFit (now file) k at n 1 (now out) ⌝ }
     ensures { λ _. ⌜ now (out .exit) ≡ front (timesOf (now (file .entry)) k n) (now (out .entry)) ⌝ }
 {
     let mut q = at;
     let mut r = 0;
     while r < n {
-        out[r] = word_at(file, q + 2);
-        q = q + 6 + k;
+        let w = width_at(file, q);
+        out[r] = time_at(file, q + 2, w);
+        q = q + 2 + w + k;
         r += 1;
     }
 }
@@ -72,7 +74,8 @@ pub fn copy_states(file: &[u8], k: usize, at: usize, n: usize, out: &mut [u8])
     let mut to = 0;
     let mut r = 0;
     while r < n {
-        let from = q + 6;
+        let w = width_at(file, q);
+        let from = q + 2 + w;
         let end = from + k;
         to = put(&file[from..end], out, to);
         q = end;

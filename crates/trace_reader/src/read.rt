@@ -23,7 +23,7 @@ fn fill(
     k: usize,
     n: usize,
     names: &mut [u8],
-    times: &mut [u32],
+    times: &mut [u64],
     states: &mut [u8],
 ) -> Reading
     requires { ⌜ Accepted (now file) k n ⌝ }
@@ -50,7 +50,7 @@ fn fill(
 }
 
 // Reads a trace file into three lists: names in slots, times, states row by row.
-pub fn read_trace(file: &[u8], names: &mut [u8], times: &mut [u32], states: &mut [u8]) -> Reading
+pub fn read_trace(file: &[u8], names: &mut [u8], times: &mut [u64], states: &mut [u8]) -> Reading
     ensures { λ r.
         ⌜ Reads (now (file .entry)) (now (names .entry)) (now (times .entry)) (now (states .entry))
         (now (names .exit))

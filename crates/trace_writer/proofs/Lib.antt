@@ -1,6 +1,5 @@
 -- The laws of this crate.
 pub mod StableNames
-pub mod PutRecords
 pub mod Putting
 pub mod RowOrders
 pub mod TraceChecks

@@ -3,13 +3,14 @@
 --   names-size, names-grow             the bytes of a name more
 --   name-fits, names-put, names-none   there is room for a name more, it is written; none is
 --   codes-all, rows-length             the codes of a row, the bytes of some rows
+--   size-next, size-mono, size-grow    one row more
 --   row-fits, rows-put, rows-none      there is room for a row more, it is written; none is
 use mathlib.Core.Path.{_≡_, refl, sym, _∙_}
 use mathlib.Core.Bool.{Bool, true, false}
 use mathlib.Core.List.{List}
+use mathlib.Core.Logic.{⊎-elim}
 use Prim.Native.Nat.{ℕ, zero, suc, _+_, _-_, _*_, _≤_, _<_}
 use native.Mathlib.Omega.{arith}
-use native.Mathlib.Nat.{zero-mul}
 use native.Mathlib.Numerals.{add-one}
 use lib.Dec.{eqb}
 use lib.ListN.{length, getD, take, drop, length-append, length-drop, length-take}
@@ -18,12 +19,14 @@ use borrow.Author.Tests.{eqb-true, eqb-false}
 use Rattle.alf.specs.Names.{nameAt, slot}
 use Rattle.names.specs.Check.{NameLength}
 use Rattle.names.proofs.Slots.{slot-part, slot-length, name-part}
-use Rattle.trace_format.specs.Format.{nameRecord, rowRecord, nameRecords, rowRecords, codesOf}
+use Rattle.trace_format.specs.Format.{nameRecord, rowRecord, nameRecords, rowRecords, codesOf, fewestOf}
+use Rattle.trace_format.proofs.Numbers.{bytes-length}
 use Rattle.basics.specs.Memory.{Put}
 use Rattle.basics.proofs.PartByPart.{put-none, put-then, put-length}
-use Rattle.trace_writer.specs.Putting.{NamesSize, NameFits}
-use Rattle.trace_writer.proofs.PutRecords.{word-length}
-use Rattle.trace_format.proofs.RowByRow.{next-to, room-for}
+use Rattle.trace_writer.specs.Putting.{NamesSize, rowsSize, RowsSize}
+use Rattle.trace_format.specs.Parts.{FewestIs}
+use Rattle.record_puts.specs.Fitting.{NameFits, RowFits}
+use Rattle.trace_format.proofs.RowByRow.{room-for}
 
 pub record SlotName (names : List ℕ) (i n : ℕ) : Type 0 where
   pub few : n ≤ 32
@@ -93,42 +96,86 @@ pub names-none : (names out : List ℕ) → Put out 0 (nameRecords names 0) out 
 unfolding nameRecords
 names-none names out = put-none
 
-pub rows-none : (k : ℕ) (times states out : List ℕ) (at : ℕ) → Put out at (rowRecords k times states 0) out at
+pub rows-none : (k : ℕ) (widths : ℕ → ℕ) (times states out : List ℕ) (at : ℕ)
+    → Put out at (rowRecords k widths times states 0) out at
 unfolding rowRecords
-rows-none k times states out at = put-none
+rows-none k widths times states out at = put-none
+
+-- the size of some rows grows with them
+module _ (k : ℕ) (widths : ℕ → ℕ) where
+  pub size-next : (r : ℕ) → rowsSize k widths (r + 1) ≡ rowsSize k widths r + (2 + widths r + k)
+  unfolding rowsSize
+  size-next r = rw (add-one r)
+
+  pub size-mono : (r n : ℕ) → r ≤ n → rowsSize k widths r ≤ rowsSize k widths n
+  size-mono r zero h = let e : r ≡ 0 = omega arith in rw e (omega arith)
+  size-mono r (suc n) h = go (eqb r (suc n)) refl (size-mono r n)
+    where
+      go :
+          (b : Bool) →
+          eqb r (suc n) ≡ b →
+          (r ≤ n → rowsSize k widths r ≤ rowsSize k widths n) →
+          rowsSize k widths r ≤ rowsSize k widths (suc n)
+      go true e ih = rw (eqb-true r (suc n) e) (omega arith)
+      go false e ih =
+          omega (arith, ih (omega (arith, eqb-false r (suc n) e)), rw (add-one n) at (size-next n))
+
+pub size-none : (k : ℕ) (times : List ℕ) → RowsSize k times 0 0
+unfolding rowsSize
+size-none k times = record { is = refl; few = omega arith }
+
+pub size-grow : {k r size w : ℕ} (times : List ℕ) → k ≤ 32 → RowsSize k times r size → FewestIs (getD times r 0) w
+    → RowsSize k times (r + 1) (size + (2 + w + k))
+size-grow {k} {r} {size} {w} times h z f =
+    record {
+      is = omega (arith, size-next k (fewestOf times) r, z .is, f .is);
+      few = ⊎-elim (λ e. omega (arith, z .few)) (λ e. omega (arith, z .few)) (f .kind);
+    }
 
 -- rows
-module _ (k : ℕ) (times states : List ℕ) (n : ℕ) (all : length states ≡ n * k) where
+module _ (k : ℕ) (widths : ℕ → ℕ) (times states : List ℕ) (n : ℕ) (all : length states ≡ n * k) where
   pub codes-all : (r : ℕ) → r < n → length (codesOf k states r) ≡ k
   unfolding codesOf
   codes-all r h =
       length-take-le k (drop (r * k) states) (rw length-drop (omega (arith, room-for r n k h, all)))
 
-  pub rows-length : (r : ℕ) → r ≤ n → length (rowRecords k times states r) ≡ r * (6 + k)
-  unfolding rowRecords rowRecord
-  rows-length zero h = sym (zero-mul (6 + k))
+  pub rows-length : (r : ℕ) → r ≤ n → length (rowRecords k widths times states r) ≡ rowsSize k widths r
+  unfolding rowRecords rowRecord rowsSize
+  rows-length zero h = refl
   rows-length (suc r) h =
-      rw (length-append, length-append, rows-length r (omega arith), codes-all r h, word-length (getD times r 0))
-      (omega (arith, rw add-one at (next-to r (6 + k))))
+      rw (
+        length-append,
+        length-append,
+        rows-length r (omega arith),
+        codes-all r h,
+        bytes-length (widths r) (getD times r 0),
+      )
+      (omega arith)
 
+-- the writer's rows
+module _ (k : ℕ) (times states : List ℕ) (n : ℕ) (all : length states ≡ n * k) where
   module _ (r : ℕ) {from q at : ℕ} {out₀ out : List ℕ} (there : from ≡ r * k)
-      (p : Put out₀ at (rowRecords k times states r) out q) where
-    pub row-fits : r < n → at + n * (6 + k) ≤ length out₀
-        → q + 6 + length (take (from + k - from) (drop from states)) ≤ length out
+      (p : Put out₀ at (rowRecords k (fewestOf times) times states r) out q) where
+    pub row-fits : r < n → at + rowsSize k (fewestOf times) n ≤ length out₀
+        → RowFits (getD times r 0) (take (from + k - from) (drop from states)) out q
     row-fits h room =
-        omega (
-          arith,
-          length-take (from + k - from) (drop from states),
-          rows-length r (omega arith),
-          room-for r n (6 + k) h,
-          p .next,
-          put-length p,
-        )
+        record {
+          room =
+              omega (
+                arith,
+                length-take (from + k - from) (drop from states),
+                rows-length k (fewestOf times) times states n all r (omega arith),
+                size-next k (fewestOf times) r,
+                size-mono k (fewestOf times) (r + 1) n (omega arith),
+                p .next,
+                put-length p,
+              );
+        }
 
     pub rows-put : {q′ : ℕ} {out′ : List ℕ}
-        → Put out q (rowRecord (getD times r 0) (take (from + k - from) (drop from states))) out′ q′
-        → Put out₀ at (rowRecords k times states (r + 1)) out′ q′
+        → Put out q (rowRecord (fewestOf times r) (getD times r 0) (take (from + k - from) (drop from states))) out′ q′
+        → Put out₀ at (rowRecords k (fewestOf times) times states (r + 1)) out′ q′
     unfolding rowRecords codesOf
     rows-put h =
         let size : from + k - from ≡ k = omega arith in
-        rw add-one (put-then p (rw (size, there) at h))
+        rw (add-one r) (put-then p (rw (size, there) at h))

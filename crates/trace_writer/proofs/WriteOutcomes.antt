@@ -5,7 +5,6 @@ use mathlib.Core.List.{List}
 use mathlib.Core.Logic.{inl}
 use Prim.Native.Nat.{ℕ, _+_, _*_, _≤_, _<_}
 use native.Mathlib.Omega.{arith}
-use native.Mathlib.Nat.{mul-le-mul}
 use lib.ListN.{length, length-append}
 use Rattle.alf.specs.Names.{namesIn}
 use Rattle.basics.specs.declared.Refusal.{Refusal}
@@ -13,12 +12,13 @@ use Rattle.basics.specs.declared.Outcome.{Outcome}
 use Rattle.basics.specs.declared.Outcome.the-variants.{Done, Refused}
 use Rattle.alf.specs.Refusals.{RefusedWith, RefusedBy, Passed, Comes}
 use Rattle.alf.proofs.Orders.{Is, plainly, by-first, refused-then, passed-both}
-use Rattle.trace_format.specs.Format.{nameRecords, rowRecords, endRecord, fileOf}
+use Rattle.trace_format.specs.Format.{nameRecords, rowRecords, endRecord, fewestOf, fileIn, fileOf}
+use Rattle.trace_format.proofs.Numbers.{bytes-length}
 use Rattle.trace_writer.specs.Writing.{listsOrder, writeOrder, Writes}
 use Rattle.basics.specs.Memory.{Put, after}
 use Rattle.basics.proofs.PartByPart.{put-then, put-front, put-length}
-use Rattle.trace_writer.specs.Putting.{SlotsLent, SlotsFit, NamesSize, RowsFit, Good}
-use Rattle.trace_writer.proofs.PutRecords.{word-length}
+use Rattle.trace_writer.specs.Putting.{SlotsLent, SlotsFit, NamesSize, TimesLent}
+use Rattle.trace_writer.specs.Putting.{rowsSize, RowsSize, RowsFit, Good}
 use Rattle.trace_writer.proofs.Putting.{rows-length}
 use Rattle.trace_writer.proofs.TraceChecks.{rows-lent}
 
@@ -52,38 +52,39 @@ module _ {names times states : List ℕ} {n k : ℕ} (g : Good names times state
   pub names-lent : SlotsLent names k
   names-lent = record { there = rw (g .named .counted) (omega arith); few = few-names }
 
-  rows-few : n * (6 + k) ≤ 2490330
-  rows-few = let h : 6 + k ≤ 38 = omega (arith, few-names) in mul-le-mul few-rows h
+  pub times-lent : TimesLent k times n
+  times-lent = record { all = g .named .all .lists .times-all; few = few-rows; few-names = few-names }
 
-  pub size-small : {s : ℕ} → NamesSize names k s → s + n * (6 + k) + 6 ≤ 2491456
-  size-small size = omega (arith, size .few, few-names, rows-few)
+  rows-bytes : length (rowRecords k (fewestOf times) times states n) ≡ rowsSize k (fewestOf times) n
+  rows-bytes = rows-length k (fewestOf times) times states n (rows-lent (g .named) .states-all) n (omega arith)
 
-  rows-size : length (rowRecords k times states n) ≡ n * (6 + k)
-  rows-size = rows-length k times states n (rows-lent (g .named) .states-all) n (omega arith)
-
-  pub file-length : length (fileOf names times states n) ≡ length (nameRecords names k) + n * (6 + k) + 6
-  unfolding fileOf endRecord
+  file-length :
+      length (fileOf names times states n) ≡ length (nameRecords names k) + rowsSize k (fewestOf times) n + 6
+  unfolding fileIn endRecord
   file-length =
       let e : namesIn names ≡ k = sym (g .named .counted) in
-      rw (e, length-append, length-append, rows-size, word-length n) (omega arith)
+      rw (e, length-append, length-append, rows-bytes, bytes-length 4 n) (omega arith)
 
-  module _ (out : List ℕ) {s : ℕ} (size : NamesSize names k s) where
-    all-size : length (fileOf names times states n) ≡ s + n * (6 + k) + 6
-    all-size = omega (arith, file-length, size .is)
+  pub sizes-small : {s t : ℕ} → NamesSize names k s → RowsSize k times n t → s + t + 6 ≤ 2753600
+  sizes-small size rows = omega (arith, size .few, rows .few, few-names, few-rows)
+
+  module _ (out : List ℕ) {s t : ℕ} (size : NamesSize names k s) (rows : RowsSize k times n t) where
+    all-size : length (fileOf names times states n) ≡ s + t + 6
+    all-size = omega (arith, file-length, size .is, rows .is)
 
     pub writes-9 :
         {o : Outcome} →
-        Is o 9 (s + n * (6 + k) + 6) →
-        length out < s + n * (6 + k) + 6 →
+        Is o 9 (s + t + 6) →
+        length out < s + t + 6 →
         Writes names times states n out out o
     unfolding RefusedWith
     writes-9 {o} e h =
         stopped out e
-        (plainly _ 9 (s + n * (6 + k) + 6)
-        (refused-then (listsOrder names times states n) _ 9 (s + n * (6 + k) + 6) (g .passed)
+        (plainly _ 9 (s + t + 6)
+        (refused-then (listsOrder names times states n) _ 9 (s + t + 6) (g .passed)
         (inl (refl, record { given = omega (arith, all-size); there = sym all-size }))))
 
-    module _ (room : s + n * (6 + k) + 6 ≤ length out) where
+    module _ (room : s + t + 6 ≤ length out) where
       pub slots-fit : SlotsFit names k out
       slots-fit = record { there = names-lent .there; room = omega (arith, size .is) }
 
@@ -92,25 +93,27 @@ module _ {names times states : List ℕ} {n k : ℕ} (g : Good names times state
         rows-fit =
             record {
               lent = rows-lent (g .named);
-              room = omega (arith, size .is, names-put .next, put-length names-put);
+              room = omega (arith, size .is, rows .is, names-put .next, put-length names-put);
             }
 
-        module _ {out₂ : List ℕ} {end : ℕ} (rows-put : Put out₁ at (rowRecords k times states n) out₂ end) where
+        module _ {out₂ : List ℕ} {end : ℕ}
+            (rows-put : Put out₁ at (rowRecords k (fewestOf times) times states n) out₂ end) where
           pub end-fits : end + 6 ≤ length out₂
           end-fits =
               omega (
                 arith,
                 size .is,
+                rows .is,
                 names-put .next,
                 rows-put .next,
-                rows-size,
+                rows-bytes,
                 put-length names-put,
                 put-length rows-put,
               )
 
           pub file-written : {out₃ : List ℕ} {all : ℕ} → Put out₂ end (endRecord n) out₃ all
               → Writes names times states n out out₃ (Done all)
-          unfolding Comes Passed after fileOf
+          unfolding Comes Passed after fileIn
           file-written {out₃} {all} end-put =
               let e : namesIn names ≡ k = sym (g .named .counted) in
               let file : Put out 0 (fileOf names times states n) out₃ all =

@@ -12,7 +12,7 @@ use names::check_names;
 use trace_format::parts::codes_to;
 
 // Whether there are 1 to 32 slots, and lists of exactly n entries.
-fn lists_fit(names: &[u8], times: &[u32], states: &[u8], n: usize) -> bool
+fn lists_fit(names: &[u8], times: &[u64], states: &[u8], n: usize) -> bool
     ensures { λ r. ⌜ Decides r (AllLists (now (names .entry)) (now (times .entry)) (now (states .entry)) n) ⌝ }
 {
     let k = names.len() / 32;
@@ -41,7 +41,7 @@ fn lists_fit(names: &[u8], times: &[u32], states: &[u8], n: usize) -> bool
 }
 
 // Whether the time of row r is above the last row's.
-fn is_later(times: &[u32], r: usize) -> bool
+fn is_later(times: &[u64], r: usize) -> bool
     requires { ⌜ r < length (now times) ⌝ }
     ensures { λ b. ⌜ Decides b (Later (now (times .entry)) r) ⌝ }
 {
@@ -55,7 +55,7 @@ fn is_later(times: &[u32], r: usize) -> bool
 }
 
 // Some of the rows of k codes, from row `first` on, one by one: 13, then 15; done, k.
-pub fn check_rows(k: usize, times: &[u32], states: &[u8], first: usize, many: usize) -> Outcome
+pub fn check_rows(k: usize, times: &[u64], states: &[u8], first: usize, many: usize) -> Outcome
     requires { ⌜ SomeRows k (now times) (now states) first many ⌝ }
     ensures { λ r. ⌜ Comes (rowsOrder k (now (times .entry)) (now (states .entry)) first many) (λ m. m ≡ k) r ⌝ }
 {
@@ -78,7 +78,7 @@ pub fn check_rows(k: usize, times: &[u32], states: &[u8], first: usize, many: us
 }
 
 // The lists as they are lent: 18, 12; done, how many names.
-pub fn check_lists(names: &[u8], times: &[u32], states: &[u8], n: usize) -> Outcome
+pub fn check_lists(names: &[u8], times: &[u64], states: &[u8], n: usize) -> Outcome
     ensures { λ r. ⌜ ChecksLists (now (names .entry)) (now (times .entry)) (now (states .entry)) n r ⌝ }
 {
     if !lists_fit(names, times, states, n) {
@@ -88,7 +88,7 @@ pub fn check_lists(names: &[u8], times: &[u32], states: &[u8], n: usize) -> Outc
 }
 
 // A trace in lists: names in slots, n times, and states row by row; done, how many names.
-pub fn check_trace(names: &[u8], times: &[u32], states: &[u8], n: usize) -> Outcome
+pub fn check_trace(names: &[u8], times: &[u64], states: &[u8], n: usize) -> Outcome
     ensures { λ r. ⌜ ChecksTrace (now (names .entry)) (now (times .entry)) (now (states .entry)) n r ⌝ }
 {
     match check_lists(names, times, states, n) {

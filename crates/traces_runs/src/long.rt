@@ -46,7 +46,7 @@ fn put_file(out: &mut [u8], n: u32) -> usize
 
 fn read_long(file: &[u8]) {
     let mut names = [0u8; 32];
-    let mut times = [0u32; 65536];
+    let mut times = [0u64; 65536];
     let mut states = [0u8; 65536];
     show_reading(read_trace(file, &mut names, &mut times, &mut states));
 }

@@ -1,8 +1,10 @@
 // Runs of the trace reader and writer: document 01's example, files cut at every byte, each refusal at its boundary.
 // The files come from standard input, one a line, in hexadecimal digits.
+mod again;
 mod long;
 
 ghost use Prim.Native.Nat.{_≤_};
+use crate::again::read_again;
 use crate::long::read_rows;
 use basics::Outcome;
 use libc::STDIN_FILENO;
@@ -46,7 +48,7 @@ fn read_into(file: &[u8], a: usize, b: usize, c: usize)
     requires { ⌜ (a ≤ 1024) × (b ≤ 4) × (c ≤ 64) ⌝ }
 {
     let mut names = [0u8; 1024];
-    let mut times = [0u32; 4];
+    let mut times = [0u64; 4];
     let mut states = [0u8; 64];
     show_reading(read_trace(file, &mut names[0..a], &mut times[0..b], &mut states[0..c]));
 }
@@ -77,7 +79,7 @@ fn same(out: [u8; 64]) -> [u8; 64] {
 }
 
 // Two rows of one name, written into so much room; whether the document's example comes of it.
-fn write_rows(names: &[u8], times: &[u32], states: &[u8], n: usize, room: usize, file: &[u8])
+fn write_rows(names: &[u8], times: &[u64], states: &[u8], n: usize, room: usize, file: &[u8])
     requires { ⌜ room ≤ 64 ⌝ }
 {
     let mut out = [0u8; 64];
@@ -89,7 +91,7 @@ fn write_rows(names: &[u8], times: &[u32], states: &[u8], n: usize, room: usize,
 }
 
 // A name of one letter; the time of the first of two rows, and the state of the second.
-fn write_one(letter: u8, time: u32, state: u8, n: usize, room: usize, file: &[u8])
+fn write_one(letter: u8, time: u64, state: u8, n: usize, room: usize, file: &[u8])
     requires { ⌜ room ≤ 64 ⌝ }
 {
     let mut name = [0u8; 32];
@@ -101,7 +103,7 @@ fn write_one(letter: u8, time: u32, state: u8, n: usize, room: usize, file: &[u8
 
 // A list of names that is no slot long.
 fn write_short(file: &[u8]) {
-    let times = [0u32, 10];
+    let times = [0u64, 10];
     let states = [0u8, 1];
     write_rows(b"A", &times, &states, 2, 64, file);
 }
@@ -161,12 +163,25 @@ fn show_example(file: &[u8]) {
     write_example(file);
 }
 
-// A line that is empty or starts with `#` is a remark, one with half a byte is broken.
+// A file of four rows: cut at every byte, read, and written again.
+fn show_four(digits: &[u8]) {
+    let bytes = bytes_of(digits);
+    let n = size_of(digits);
+    read_cut(&bytes[0..n]);
+    read_again(&bytes[0..n]);
+}
+
+// A line that is empty or starts with `#` is a remark, one with half a byte is broken. One that starts with `!` has a
+// file of four rows behind it.
 fn show_line(line: &[u8], first: bool) -> bool {
     if line.len() == 0 {
         return first;
     }
     if line[0] == b'#' {
+        return first;
+    }
+    if line[0] == b'!' {
+        show_four(&line[1..]);
         return first;
     }
     if line.len() % 2 == 1 {

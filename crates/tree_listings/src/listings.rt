@@ -46,7 +46,7 @@ fn fill_answers(names: usize, n: usize, tree: &[u8], states: &[u8], answers: &mu
 fn list_filled(
     names: usize,
     tree: &[u8],
-    times: &[u32],
+    times: &[u64],
     states: &[u8],
     answers: &mut [u8],
     out: &mut [u8],
@@ -63,7 +63,7 @@ fn list_filled(
 fn list_front(
     names: usize,
     tree: &[u8],
-    times: &[u32],
+    times: &[u64],
     states: &[u8],
     answers: &mut [u8],
     out: &mut [u8],
@@ -79,7 +79,7 @@ fn list_front(
 fn list_lent(
     names: usize,
     tree: &[u8],
-    times: &[u32],
+    times: &[u64],
     states: &[u8],
     answers: &mut [u8; 65535],
     out: &mut [u8],
@@ -92,7 +92,7 @@ fn list_lent(
 }
 
 // An accepted tree on a good trace.
-fn list_good(names: usize, tree: &[u8], times: &[u32], states: &[u8], out: &mut [u8]) -> Outcome
+fn list_good(names: usize, tree: &[u8], times: &[u64], states: &[u8], out: &mut [u8]) -> Outcome
     requires { ⌜ Answered names (length (now times)) (now tree) (now states) ⌝ }
     ensures { λ r. ⌜ Delivers (patternListing names (now (times .entry)) (now (states .entry))
         (expression (now (tree .entry)) names)) (now (out .entry)) (now (out .exit)) r ⌝ }
@@ -107,7 +107,7 @@ pub fn list(
     names: usize,
     n: usize,
     tree: &[u8],
-    times: &[u32],
+    times: &[u64],
     states: &[u8],
     out: &mut [u8],
 ) -> Outcome

@@ -6,18 +6,16 @@
 --   leaf-ready, right-fillable, left-fillable, part-ready     what is asked before
 use Prim.Native.Nat.{ℕ, _+_, _-_, _*_, _<_, _≤_}
 use native.Mathlib.Omega.{arith}
-use mathlib.Core.Path.{_≡_, refl, sym, _∙_}
+use mathlib.Core.Path.{_≡_, refl, _∙_}
 use mathlib.Core.Bool.{Bool, true, false, not}
 use mathlib.Core.List.{List}
 use lib.Dec.{eqb}
 use lib.ListN.{length}
-use borrow.Author.Tests.{lt-ltb}
-use Rattle.trees.specs.Parts.{Ends, EndsBoolean, EndsVector, Start}
-use Rattle.trees.proofs.Starts.{of-vector, ends-pos}
+use Rattle.trees.specs.Parts.{EndsBoolean, EndsVector, Start}
+use Rattle.trees.proofs.Starts.{ends-pos}
 use Rattle.evaluator.specs.Rows.{stateOf}
 use Rattle.evaluator.proofs.Booleans.{lastByte}
-use Rattle.answer_table.specs.Tables.{entry, stored, leafOver, operated, Rows, Column, Part, OperatorPart}
-use Rattle.window_answers.specs.Filling.{Stands}
+use Rattle.answer_table.specs.Tables.{entry, stored, leafOver, operated, Column, Part, OperatorPart}
 use Rattle.window_answers.specs.Filling.{Leaf, LeafFilled, Fillable, Filled}
 use Rattle.answer_table.proofs.Stored.{stored-same}
 use Rattle.answer_table.proofs.Shifts.{As, Like, moved, leaf-as, operated-as}
@@ -149,16 +147,14 @@ module _ {t : List ℕ} {end : ℕ} {states : List ℕ} {names first size : ℕ}
           long = l;
         }
 
-    pub part-ready : length mid ≡ 65536
-        → OperatorPart (lastByte t end) ((m - 1) * 256) ((end - 1 - 1) * 256) size ((end - 1) * 256) mid
-    part-ready l =
-        let p = ends-pos (left-ends h small g) in
-        let q = g .before in
-        record {
-          byte = operator-byte h small;
-          most = f .rows .most;
-          left = omega arith;
-          right = omega arith;
-          room = omega (arith, f .few);
-          long = l;
-        }
+  pub part-ready : {p q : ℕ} {last : List ℕ} → length last ≡ 65536 → p + 256 ≤ (end - 1) * 256
+      → q + 256 ≤ (end - 1) * 256 → OperatorPart (lastByte t end) p q size ((end - 1) * 256) last
+  part-ready l p q =
+      record {
+        byte = operator-byte h small;
+        most = f .rows .most;
+        left = p;
+        right = q;
+        room = omega (arith, f .few);
+        long = l;
+      }

@@ -4,13 +4,13 @@
 use Prim.Native.Nat.{ℕ, zero, suc, _+_, _-_, _*_, _<_, _≤_, min, max}
 use native.Mathlib.Omega.{arith}
 use native.Mathlib.Nat.{add-zero, add-suc}
-use mathlib.Core.Path.{_≡_, refl, sym, _∙_}
+use mathlib.Core.Path.{_≡_, _∙_}
 use mathlib.Core.Bool.{true}
 use mathlib.Core.List.{List}
 use lib.ListN.{length}
 use Rattle.basics.specs.Words.{greatest}
 use Rattle.alf.specs.Values.{stateAt}
-use Rattle.trees.specs.Parts.{EndsVector, vectorAt}
+use Rattle.trees.specs.Parts.{vectorAt}
 use Rattle.trees.proofs.Starts.{of-vector}
 use Rattle.basics.proofs.Extremes.{greatest-same, greatest-zero}
 use Rattle.alf.proofs.RowsAreAlternatives.{best-short}

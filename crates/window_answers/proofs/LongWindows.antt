@@ -10,7 +10,7 @@ use mathlib.Core.Logic.{_⊎_, inl, inr}
 use borrow.Author.Tests.{ne-eqb}
 use Rattle.alf.specs.Expressions.{Boolean, Vector, edge, join, while}
 use Rattle.alf.specs.Expressions.{Join, followed-by, either-order, with-or-then, any-order, with, or-else}
-use Rattle.alf.specs.Windows.{Window, NO, followedBy, either, together, held, joined, answer}
+use Rattle.alf.specs.Windows.{Window, NO, followedBy, either, together, joined, answer}
 use Rattle.basics.proofs.Bools.{below?}
 use Rattle.basics.proofs.Extremes.{greatest-zero}
 use Rattle.window_answers.specs.Lengths.{joinedLength, longest}

@@ -7,15 +7,14 @@
 --   operands-off                          two vector expressions answer no on windows without an event
 use Prim.Native.Nat.{ℕ, _-_, _<_, _≤_, min}
 use native.Mathlib.Omega.{arith}
-use mathlib.Core.Path.{_≡_, refl, sym, _∙_}
-use mathlib.Core.Bool.{Bool, true, false, not}
+use mathlib.Core.Path.{_≡_, refl}
+use mathlib.Core.Bool.{true, not}
 use mathlib.Core.Logic.{_⊎_, inl, inr}
 use mathlib.Core.List.{List}
 use lib.Dec.{eqb}
-use lib.ListN.{length}
 use borrow.Author.Tests.{lt-ltb, le-ltb, eq-eqb, ne-eqb}
-use Rattle.alf.specs.Windows.{Window, joined, answer}
-use Rattle.alf.specs.Decoder.{joinAt, edgeAt, isBoolean, isVector, under, stackAt}
+use Rattle.alf.specs.Windows.{Window, answer}
+use Rattle.alf.specs.Decoder.{isBoolean, isVector, under, stackAt}
 use Rattle.basics.proofs.Bools.{below?, equal?}
 use Rattle.alf.proofs.Made.{Made}
 use Rattle.alf.proofs.Parts.{made-last}
@@ -26,7 +25,6 @@ use Rattle.trees.proofs.Starts.{of-boolean, of-vector, ends-pos}
 use Rattle.trees.proofs.Vectors.{boolean-under, vector-under}
 use Rattle.evaluator.specs.Rows.{stateOf}
 use Rattle.evaluator.proofs.Booleans.{lastByte}
-use Rattle.window_answers.specs.Spans.{answerOn}
 use Rattle.answer_table.specs.Tables.{OperatorByte, leafOver, operated}
 use Rattle.window_answers.proofs.NoEvent.{no-event}
 use Rattle.answer_table.proofs.Shifts.{Off}

@@ -2,9 +2,8 @@
 use Prim.Native.Nat.{_+_, _-_, _≤_}
 use mathlib.Core.Path.{refl}
 use native.Mathlib.Omega.{arith}
-use borrow.Author.Needs.{needs}
 use Rattle.evaluator.specs.Rows.{stateOf}
-use Rattle.answer_table.proofs.Rows.{earlier-row}
+use Rattle.evaluator.proofs.Traces.{earlier-row}
 use Rattle.answer_table.proofs.Cells.{States, states-first, states-next}
 use Rattle.answer_table.proofs.columns.column.Statement.{statement}
 use Rattle.answer_table.proofs.columns.column.Tie as tie

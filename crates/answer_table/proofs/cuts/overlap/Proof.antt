@@ -1,14 +1,13 @@
 -- `cuts::overlap` meets its contract. The loop's invariant: `best` is the greatest over the rows passed.
-use Prim.Native.Nat.{_+_, _-_, _≤_}
+use Prim.Native.Nat.{_-_, _≤_}
 use native.Mathlib.Omega.{arith}
 use denote.Ref.{now}
 use borrow.Author.Needs.{needs}
 use mathlib.Core.Path.{_≡_, refl}
 use Rattle.basics.specs.Words.{greatest}
 use Rattle.answer_table.specs.Tables.{stored}
-use Rattle.answer_table.proofs.Rows.{greatest-step}
 use Rattle.answer_table.proofs.Stored.{stored-none}
-use Rattle.answer_table.proofs.Joining.{shared, shared-entry, shared-all}
+use Rattle.answer_table.proofs.Joining.{greatest-step, shared, shared-entry, shared-all}
 use Rattle.answer_table.proofs.cuts.overlap.Statement.{statement}
 use Rattle.answer_table.proofs.cuts.overlap.Tie as tie
 

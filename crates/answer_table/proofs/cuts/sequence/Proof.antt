@@ -1,5 +1,5 @@
 -- `cuts::sequence` meets its contract. The loop's invariant: `best` is the greatest over the rows passed.
-use Prim.Native.Nat.{_+_, _-_, _≤_}
+use Prim.Native.Nat.{_-_, _≤_}
 use native.Mathlib.Omega.{arith}
 use borrow.Author.Needs.{needs}
 use mathlib.Core.Path.{_≡_, refl}
@@ -7,8 +7,7 @@ use Rattle.basics.specs.Words.{greatest}
 use Rattle.alf.specs.Windows.{followedBy}
 use Rattle.basics.proofs.Listed.{all-passed}
 use Rattle.answer_table.specs.Tables.{stored}
-use Rattle.answer_table.proofs.Rows.{greatest-step}
-use Rattle.answer_table.proofs.Joining.{split, min-of}
+use Rattle.answer_table.proofs.Joining.{greatest-step, split, min-of}
 use Rattle.answer_table.proofs.cuts.sequence.Statement.{statement}
 use Rattle.answer_table.proofs.cuts.sequence.Tie as tie
 

@@ -2,7 +2,6 @@
 use Prim.Native.Nat.{_-_, _≤_}
 use mathlib.Core.Path.{refl}
 use native.Mathlib.Omega.{arith}
-use borrow.Author.Needs.{needs}
 use Rattle.answer_table.specs.Tables.{entry, leafOver, Part}
 use Rattle.answer_table.proofs.Stored.{part-first, part-next, part-last}
 use Rattle.answer_table.proofs.parts.leaf_part.Statement.{statement}

@@ -2,7 +2,6 @@
 -- and `x` is a condition's answer so far.
 use Prim.Native.Nat.{_-_, _≤_}
 use native.Mathlib.Omega.{arith}
-use borrow.Author.Needs.{needs}
 use Rattle.answer_table.specs.Tables.{entry, leafOver, SoFar, Row}
 use Rattle.answer_table.proofs.Cells.{far-first, far-again, far-next}
 use Rattle.answer_table.proofs.Stored.{row-first, row-next, row-last}

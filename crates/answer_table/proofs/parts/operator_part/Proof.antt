@@ -1,7 +1,6 @@
 -- `parts::operator_part` meets its contract. The loop's invariant: the windows from the rows before `a` are written.
 use Prim.Native.Nat.{_-_, _≤_}
 use native.Mathlib.Omega.{arith}
-use borrow.Author.Needs.{needs}
 use Rattle.answer_table.specs.Tables.{stored, operated, Part}
 use Rattle.answer_table.proofs.Stored.{part-first, part-next, part-last}
 use Rattle.answer_table.proofs.Kept.{part-kept, operated-kept}

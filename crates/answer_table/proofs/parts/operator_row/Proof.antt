@@ -3,7 +3,6 @@ use Prim.Native.Nat.{_+_, _-_, _≤_}
 use mathlib.Core.Path.{_≡_, _∙_}
 use denote.Ref.{now}
 use native.Mathlib.Omega.{arith}
-use borrow.Author.Needs.{needs}
 use Rattle.answer_table.specs.Tables.{stored, operated, Row}
 use Rattle.answer_table.proofs.Stored.{row-first, row-next, row-last}
 use Rattle.answer_table.proofs.Kept.{row-kept, operated-kept}

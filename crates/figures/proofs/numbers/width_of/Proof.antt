@@ -8,13 +8,13 @@ use Rattle.figures.proofs.numbers.width_of.Statement.{statement}
 use Rattle.figures.proofs.numbers.width_of.Tie as tie
 
 abbrev Inv-loop : tie.InvT-loop
-Inv-loop n m₀ w₀ m w = (1 ≤ w) × (w + width m ≡ width n + 1)
+Inv-loop n m₀ w₀ m w = (1 ≤ w) × (m ≤ n) × (w + width m ≡ width n + 1)
 
 abbrev μ-loop : tie.MeasureT-loop
 μ-loop n m₀ w₀ m w = m
 
 loop-holds : tie.Need-loop-holds Inv-loop μ-loop
-loop-holds c = (omega arith, omega arith)
+loop-holds c = (omega arith, omega arith, omega arith)
 
 add-w : tie.Need-add-w Inv-loop μ-loop
 add-w c =
@@ -27,10 +27,12 @@ loop-less c = omega arith
 loop-again : tie.Need-loop-again Inv-loop μ-loop
 loop-again c = (
   omega arith,
+  omega (arith, c .before .loop .inv),
   omega (
     arith,
     c .before .loop .inv,
     width-more (c .before .loop .m)
+        (omega (arith, c .before .loop .inv, c .before .before .fits .n .fits))
         (c .loop-test .taken),
   ),
 )

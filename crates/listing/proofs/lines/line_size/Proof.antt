@@ -4,9 +4,6 @@ use Rattle.listing.proofs.RowByRow.{line-size}
 use Rattle.listing.proofs.lines.line_size.Statement.{statement}
 use Rattle.listing.proofs.lines.line_size.Tie as tie
 
-cast-width-of : tie.Need-cast-width-of
-cast-width-of c = search needs
-
 width-of-requires : tie.Need-width-of-requires
 width-of-requires c κs = search needs
 
@@ -28,7 +25,6 @@ pub line-size-spec : {M : Type 1} → statement M
 line-size-spec =
     tie.close
     (tie.spec
-    cast-width-of
     width-of-requires
     code-size-requires
     add-result

@@ -37,9 +37,6 @@ worded : (c : tie.After-put-code)
     → Left (entry (told c)) (bytes "\n" ∷ []) (c .put-code .last .1 .1 .0) (c .put-code .result)
 worded c = going-on (timed (told c)) (c .put-code .ensures)
 
-cast-put-decimal-then : tie.Need-cast-put-decimal-then
-cast-put-decimal-then c = search needs
-
 slice-aggregate-put-decimal-then : tie.Need-slice-aggregate-put-decimal-then
 slice-aggregate-put-decimal-then c = search needs
 
@@ -70,7 +67,6 @@ pub put-line-spec : {M : Type 1} → statement M
 put-line-spec =
     tie.close
     (tie.spec
-    cast-put-decimal-then
     slice-aggregate-put-decimal-then
     put-decimal-then-requires
     put-code-requires

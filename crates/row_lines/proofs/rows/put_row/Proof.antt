@@ -117,12 +117,11 @@ put-row-spec =
     (tie.spec
     (λ c. search needs)  -- cast-i
     (λ c κs. search needs)  -- of-row-requires
-    (λ c. search needs)  -- cast-put-decimal
     (λ c κs. going-room (begun (c .before)))  -- put-decimal-requires
     (λ c. search needs)  -- mul-put-letters
     put-letters-requires
     push-requires
-    (λ c. search needs)  -- cast-put-decimal-2
+    (λ c. search needs)  -- cast-put-decimal
     (λ c κs. going-room (parted (c .before .before .before)))  -- put-decimal-requires-2
     put-members-requires
     push-requires-2

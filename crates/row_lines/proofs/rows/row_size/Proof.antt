@@ -19,11 +19,10 @@ row-size-spec =
     (tie.spec
     (λ c. search needs)  -- cast-of-row
     (λ c κs. search needs)  -- of-row-requires
-    (λ c. search needs)  -- cast-width-of
     (λ c κs. search needs)  -- width-of-requires
     (λ c. search needs)  -- mul-result
     (λ c. search needs)  -- add-result
-    (λ c. search needs)  -- cast-width-of-2
+    (λ c. search needs)  -- cast-width-of
     (λ c κs. search needs)  -- width-of-requires-2
     (λ c. search needs)  -- add-result-2
     (λ c κs. search needs)  -- members-size-requires

@@ -1,20 +1,13 @@
 -- `word_at` meets its contract.
-use native.Mathlib.Omega.{arith}
 use borrow.Author.Needs.{needs}
-use Rattle.trace_format.specs.Records.{wordAt}
+use Rattle.trace_format.proofs.Numbers.{word-is}
 use Rattle.trace_format.proofs.parts.word_at.Statement.{statement}
 use Rattle.trace_format.proofs.parts.word_at.Tie as tie
 
 returns : tie.Need-returns
-unfolding wordAt
 returns c =
-    omega (
-      arith,
-      c .before .before .before .byte-at .ensures .is,
-      c .before .before .byte-at2 .ensures .is,
-      c .before .byte-at3 .ensures .is,
-      c .byte-at4 .ensures .is,
-    )
+    word-is _ _ (c .before .before .before .byte-at .ensures) (c .before .before .byte-at2 .ensures)
+    (c .before .byte-at3 .ensures) (c .byte-at4 .ensures)
 
 pub word-at-spec : {M : Type 1} → statement M
 word-at-spec =
@@ -33,5 +26,4 @@ word-at-spec =
     (λ c. search needs)  -- add-result-2
     (λ c. search needs)  -- mul-result-3
     (λ c. search needs)  -- add-result-3
-    (λ c. search needs)  -- cast-result
     returns)

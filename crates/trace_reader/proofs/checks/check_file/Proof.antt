@@ -4,8 +4,9 @@ use borrow.Author.Needs.{needs}
 use Prim.Native.Nat.{_-_}
 use lib.ListN.{length}
 use Rattle.trace_format.specs.Records.{Before}
-use Rattle.trace_reader.specs.Steps.{Stands}
-use Rattle.trace_reader.proofs.CursorSteps.{start-stands, start-before, goes-on, file-refused, file-accepted}
+use Rattle.record_checks.specs.Steps.{Stands}
+use Rattle.record_checks.proofs.CursorSteps.{start-stands, start-before}
+use Rattle.trace_reader.proofs.FileChecks.{goes-on, file-refused, file-accepted}
 use Rattle.trace_reader.proofs.checks.check_file.Statement.{statement}
 use Rattle.trace_reader.proofs.checks.check_file.Tie as tie
 
@@ -33,20 +34,20 @@ returns c =
 
 returns-2 : tie.Need-returns-2 Inv-loop μ-loop
 returns-2 c =
-    let after-mark = c .before .before in
-    let after-check-record = after-mark .before .before in
+    let after-kind = c .before .before in
+    let after-check-record = after-kind .before .before in
     let turn = after-check-record .before in
     file-accepted (turn .loop .s)
     (after-check-record .check-record .ensures)
-    (turn .loop .inv .1) (after-mark .mark .given .1) (c .if1 .taken)
+    (turn .loop .inv .1) (after-kind .kind .given .1) (c .if1 .taken)
 
 pass-requires : tie.Need-pass-requires Inv-loop μ-loop
 pass-requires c κs =
-    let after-mark = c .before .before in
-    let after-check-record = after-mark .before .before in
+    let after-kind = c .before .before in
+    let after-check-record = after-kind .before .before in
     let turn = after-check-record .before in
     goes-on _ (after-check-record .check-record .ensures)
-    (turn .loop .inv .0) (after-mark .mark .given .1) (c .if1 .left)
+    (turn .loop .inv .0) (after-kind .kind .given .1) (c .if1 .left)
 
 loop-less : tie.Need-loop-less Inv-loop μ-loop
 loop-less c = omega (arith, c .pass .ensures .further, c .pass .ensures .stands .within)
@@ -69,7 +70,7 @@ check-file-spec =
     check-record-requires
     (λ c. search needs)  -- enum-known-r
     returns
-    (λ c. search needs)  -- enum-known-mark
+    (λ c. search needs)  -- enum-known-kind
     returns-2
     pass-requires
     loop-less

@@ -7,7 +7,7 @@ use Rattle.basics.specs.Memory.{Put}
 use Rattle.basics.proofs.PartByPart.{put-none, put-length, put-front}
 use Rattle.trace_format.specs.Records.{nameEnd}
 use Rattle.trace_reader.specs.HeldLists.{namesOf}
-use Rattle.trace_reader.proofs.NameWalk.{end-zero, next-name}
+use Rattle.record_checks.proofs.NameWalk.{end-zero, next-name}
 use Rattle.trace_reader.proofs.Copying.{name-there, name-fits, names-put, names-length}
 use Rattle.trace_reader.proofs.copies.copy_names.Statement.{statement}
 use Rattle.trace_reader.proofs.copies.copy_names.Tie as tie

@@ -2,13 +2,20 @@
 use native.Mathlib.Omega.{arith}
 use borrow.Author.Needs.{needs}
 use mathlib.Core.Path.{_≡_}
-use Prim.Native.Nat.{_-_, _*_, _≤_}
+use Prim.Native.Nat.{_+_, _-_, _*_, _≤_}
 use lib.ListN.{length}
 use Rattle.basics.specs.Memory.{Put}
 use Rattle.basics.proofs.PartByPart.{put-none, put-length, put-front}
 use Rattle.trace_format.specs.Records.{place}
 use Rattle.trace_reader.specs.HeldLists.{statesOf}
-use Rattle.trace_reader.proofs.Copying.{row-there, row-next, codes-fit, states-put, states-length}
+use Rattle.trace_reader.proofs.Copying.{
+  row-marked,
+  row-there,
+  row-next,
+  codes-fit,
+  states-put,
+  states-length,
+}
 use Rattle.trace_reader.proofs.copies.copy_states.Statement.{statement}
 use Rattle.trace_reader.proofs.copies.copy_states.Tie as tie
 
@@ -23,40 +30,53 @@ loop-holds : tie.Need-loop-holds Inv-loop μ-loop
 unfolding statesOf
 loop-holds c = (search needs, c .before .before .pre .there, put-none)
 
-add-from : tie.Need-add-from Inv-loop μ-loop
-add-from c =
+width-at-requires : tie.Need-width-at-requires Inv-loop μ-loop
+width-at-requires c κs =
     let turn = c .before in
     let start = turn .before .before .before in
-    omega (arith, row-there _ _ _ (start .pre .rows) _ _ (c .loop-test .taken) (turn .loop .inv .1))
+    row-marked _ _ _ (start .pre .rows) _ _ (c .loop-test .taken) (turn .loop .inv .1)
+
+-- the row where the turn stands, behind the width that was read
+there : (c : tie.After-width-at Inv-loop μ-loop) →
+    c .before .before .loop .q + 2 + c .width-at .result + c .before .before .before .before .before .args .k
+    ≤ length (c .before .before .before .before .before .args .file .now)
+there c =
+    let entered = c .before in
+    let turn = entered .before in
+    let start = turn .before .before .before in
+    row-there _ _ _ (start .pre .rows) _ (turn .loop .inv .1) (c .width-at .ensures) (entered .loop-test .taken)
+
+add-from : tie.Need-add-from Inv-loop μ-loop
+add-from c = omega (arith, there c)
+
+add-from-2 : tie.Need-add-from-2 Inv-loop μ-loop
+add-from-2 c = omega (arith, there c)
 
 add-end : tie.Need-add-end Inv-loop μ-loop
-add-end c =
-    let turn = c .before in
-    let start = turn .before .before .before in
-    omega (arith, row-there _ _ _ (start .pre .rows) _ _ (c .loop-test .taken) (turn .loop .inv .1))
+add-end c = omega (arith, there c)
 
 part-put-end : tie.Need-part-put-end Inv-loop μ-loop
-part-put-end c =
-    let turn = c .before in
-    let start = turn .before .before .before in
-    omega (arith, row-there _ _ _ (start .pre .rows) _ _ (c .loop-test .taken) (turn .loop .inv .1))
+part-put-end c = omega (arith, there c)
 
 put-requires : tie.Need-put-requires Inv-loop μ-loop
 put-requires c κs =
-    let entered = c .before .before in
+    let measured = c .before .before in
+    let entered = measured .before in
     let turn = entered .before in
     let start = turn .before .before .before in
-    codes-fit _ _ _ (start .pre .rows) _ (turn .loop .inv .1) (turn .loop .inv .2) (entered .loop-test .taken)
-    (start .pre .room)
+    codes-fit _ _ _ (start .pre .rows) _ (turn .loop .inv .1) (measured .width-at .ensures) (turn .loop .inv .2)
+    (entered .loop-test .taken) (start .pre .room)
 
 loop-again : tie.Need-loop-again Inv-loop μ-loop
 loop-again c =
     let put = c .before .before in
-    let turn = put .before .before .before .before in
-    let start = turn .before .before .before in (
+    let measured = put .before .before .before in
+    let turn = measured .before .before in
+    let start = turn .before .before .before in
+    let width = measured .width-at .ensures in (
       search needs,
-      row-next _ _ _ (start .pre .rows) _ _ (turn .loop .inv .1),
-      states-put _ _ _ (start .pre .rows) _ (turn .loop .inv .1) (turn .loop .inv .2) (put .put .ensures),
+      row-next _ _ _ (start .pre .rows) _ (turn .loop .inv .1) width,
+      states-put _ _ _ (start .pre .rows) _ (turn .loop .inv .1) width (turn .loop .inv .2) (put .put .ensures),
     )
 
 same-length : tie.Need-same-length Inv-loop μ-loop
@@ -77,7 +97,9 @@ copy-states-spec =
     Inv-loop
     μ-loop
     loop-holds
+    width-at-requires
     add-from
+    add-from-2
     add-end
     (λ c. search needs)  -- sub-put
     (λ c. search needs)  -- part-put-start

@@ -6,7 +6,7 @@ use Prim.Native.Nat.{_+_, _-_, _*_, _≤_}
 use native.Mathlib.Nat.{zero-mul}
 use Rattle.basics.specs.Memory.{Put}
 use Rattle.basics.proofs.PartByPart.{put-length}
-use Rattle.trace_format.specs.Format.{rowRecords}
+use Rattle.trace_format.specs.Format.{rowRecords, fewestOf}
 use Rattle.trace_format.proofs.RowByRow.{next-to, room-for}
 use Rattle.trace_writer.proofs.Putting.{rows-none, row-fits, rows-put}
 use Rattle.trace_writer.proofs.write.put_rows.Statement.{statement}
@@ -14,13 +14,13 @@ use Rattle.trace_writer.proofs.write.put_rows.Tie as tie
 
 abbrev Inv-loop : tie.InvT-loop
 Inv-loop k times states n out₀ at q₀ from₀ r₀ out q from r =
-    (r ≤ n) × (from ≡ r * k) × Put out₀ at (rowRecords k times states r) out q
+    (r ≤ n) × (from ≡ r * k) × Put out₀ at (rowRecords k (fewestOf times) times states r) out q
 
 abbrev μ-loop : tie.MeasureT-loop
 μ-loop k times states n out₀ at q₀ from₀ r₀ out q from r = n - r
 
 loop-holds : tie.Need-loop-holds Inv-loop μ-loop
-loop-holds c = (search needs, sym (zero-mul _), rows-none _ _ _ _ _)
+loop-holds c = (search needs, sym (zero-mul _), rows-none _ _ _ _ _ _)
 
 add-to : tie.Need-add-to Inv-loop μ-loop
 add-to c =
@@ -47,7 +47,8 @@ put-row-requires c κs =
     let entered = c .before .before .before in
     let turn = entered .before in
     let start = turn .before .before .before .before in
-    row-fits _ _ _ _ (start .pre .lent .states-all) _ (turn .loop .inv .1) (turn .loop .inv .2)
+    row-fits _ (start .args .times .now) (start .args .states .now) _ (start .pre .lent .states-all) _
+    (turn .loop .inv .1) (turn .loop .inv .2)
     (entered .loop-test .taken) (start .pre .room)
 
 loop-again : tie.Need-loop-again Inv-loop μ-loop
@@ -57,7 +58,8 @@ loop-again c =
     let start = turn .before .before .before .before in (
       search needs,
       rw (turn .loop .inv .1) (next-to _ _),
-      rows-put _ _ _ _ (start .pre .lent .states-all) _ (turn .loop .inv .1) (turn .loop .inv .2)
+      rows-put _ (start .args .times .now) (start .args .states .now) _ (start .pre .lent .states-all) _
+          (turn .loop .inv .1) (turn .loop .inv .2)
           (put .put-row .ensures),
     )
 
@@ -78,8 +80,8 @@ put-rows-spec =
     μ-loop
     loop-holds
     add-to
-    (λ c. search needs)  -- mul-put-row
-    (λ c. search needs)  -- shared-slice-read-put-row
+    (λ c. search needs)  -- mul-t12
+    (λ c. search needs)  -- shared-slice-read-t14
     (λ c. search needs)  -- sub-put-row
     (λ c. search needs)  -- part-put-row-start
     part-put-row-end

@@ -106,14 +106,14 @@ pub +fill-spec : {M : Type 1} → statement M
       left-fillable (entry t o .pre .1) (is-vector t o) (omega (arith, l .before .if2 .left)) g
           (c .before .fill .ensures .long),
     ))
-    (λ c. places t c .0)
     (λ c. let p = places t c in omega arith)
     (λ c. let p = places t c in omega arith)
     (λ c. let p = places t c in omega arith)
     (λ c. let p = places t c in omega arith)
-    (λ c κs. let l = located t (c .before) in let o = opened t l in
-    part-ready (entry t o .pre .1) (is-vector t o) (omega (arith, l .before .if2 .left)) (l .start-of .ensures)
-    (c .before .fill2 .ensures .long))
+    (λ c. let p = places t c in omega arith)
+    (λ c κs. let l = located t (c .before) in let o = opened t l in let p = places t (c .before) in
+    part-ready (entry t o .pre .1) (is-vector t o) (omega (arith, l .before .if2 .left))
+    (c .before .fill2 .ensures .long) (omega arith) (omega arith))
     (λ c. let f = c .before .before in let l = located t f in let o = opened t l in
     operator-filled (is-vector t o) (omega (arith, l .before .if2 .left)) (l .start-of .ensures)
     (f .before .before .fill .ensures) (f .fill2 .ensures) (entry t o .pre .1 .rows .most)

@@ -6,7 +6,7 @@ use mathlib.Core.Path.{_≡_, refl}
 use Rattle.basics.specs.Words.{greatest}
 use Rattle.basics.proofs.Listed.{all-passed}
 use Rattle.answer_table.specs.Tables.{stored}
-use Rattle.answer_table.proofs.Rows.{greatest-step}
+use Rattle.answer_table.proofs.Joining.{greatest-step}
 use Rattle.window_answers.proofs.rows.best_of.Statement.{statement}
 use Rattle.window_answers.proofs.rows.best_of.Tie as tie
 

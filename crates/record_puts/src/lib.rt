@@ -1,0 +1,2 @@
+// Trace files: a record is written.
+pub mod puts;
