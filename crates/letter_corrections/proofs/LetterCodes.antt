@@ -10,7 +10,7 @@ use lib.Seq.{take-all}
 use Rattle.basics.specs.Memory.{Put}
 use Rattle.basics.proofs.PartByPart.{copy-more}
 use Rattle.basics.proofs.PartByPart.{put-as}
-use Rattle.letter_corrections.specs.Letters.{stateOf}
+use Rattle.state_letters.specs.Letters.{stateOf}
 
 pub map-at : (f : ℕ → ℕ) (xs : List ℕ) (i : ℕ) → i < length xs → getD (map f xs) i 0 ≡ f (getD xs i 0)
 map-at f [] i h = absurd (omega arith)

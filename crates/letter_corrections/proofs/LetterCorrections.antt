@@ -28,7 +28,7 @@ use Rattle.basics.specs.Memory.{after}
 use Rattle.judging.proofs.Verdicts.{judged-good, judged-not}
 use Rattle.call_laws.proofs.Unique.{outcome-unique}
 use Rattle.basics.proofs.Memory.{after-unique}
-use Rattle.letter_corrections.specs.Letters.{stateOf}
+use Rattle.state_letters.specs.Letters.{stateOf}
 use Rattle.letter_corrections.specs.Correcting.{LettersFit, lettersOrder, CorrectsLetters, Stores}
 
 -- 18 and 10 are not asked

@@ -7,7 +7,7 @@ use Rattle.alf.specs.States.{among}
 use Rattle.alf.specs.Names.{isDecimal}
 use Rattle.basics.specs.Text.{bytes}
 use Rattle.figures.specs.Numbers.{reading}
-use Rattle.letter_corrections.specs.Letters.{stateOf}
+use Rattle.state_letters.specs.Letters.{stateOf}
 use Rattle.letter_corrections.specs.RowNumbers.{rowNumber}
 
 -- the eight states, in the order of their codes

@@ -12,7 +12,7 @@ use Rattle.alf.specs.Refusals.{Order, check, bad-lists, Comes}
 use Rattle.alf.specs.Traces.{corrected}
 use Rattle.judging.specs.Orders.{Rows, codesCorrection}
 use Rattle.basics.specs.Memory.{after}
-use Rattle.letter_corrections.specs.Letters.{stateOf}
+use Rattle.state_letters.specs.Letters.{stateOf}
 
 -- k names, n rows, so many states and letters
 pub record LettersFit (k n states letters : ℕ) : Type 0 where

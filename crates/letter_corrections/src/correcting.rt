@@ -6,7 +6,7 @@ ghost use lib.ListN.{length};
 ghost use Rattle.basics.specs.Memory.{Put, Room};
 ghost use Rattle.basics.specs.Memory.{Holds};
 ghost use Rattle.basics.specs.Deciding.{Decides};
-ghost use Rattle.letter_corrections.specs.Letters.{stateOf};
+ghost use Rattle.state_letters.specs.Letters.{stateOf};
 ghost use Rattle.letter_corrections.specs.Correcting.{LettersFit, Stores, CorrectsLetters};
 ghost use Rattle.letter_corrections.specs.RowNumbers.{goneOn, rowNumber};
 use alf::RowNo;
@@ -15,24 +15,8 @@ use basics::puts::put;
 use basics::refusing::refuse;
 use judging::checks::Verdict;
 use judging::checks::rows_fit;
+use state_letters::code_of;
 use update_calls::correcting::judge_correction;
-
-// The code of a state's letter, in either case; 8 where the byte is none.
-fn code_of(b: u8) -> u8
-    ensures { λ r. ⌜ r ≡ stateOf b ⌝ }
-{
-    match b {
-        b'0' => 0,
-        b'1' => 1,
-        b'X' | b'x' => 2,
-        b'H' | b'h' => 3,
-        b'L' | b'l' => 4,
-        b'W' | b'w' => 5,
-        b'Z' | b'z' => 6,
-        b'U' | b'u' => 7,
-        _ => 8,
-    }
-}
 
 // The codes of letters, at the front of a list; how many.
 fn put_codes(letters: &[u8], out: &mut [u8]) -> usize

@@ -58,7 +58,7 @@ use Rattle.jobs.specs.declared.sums.Adding.the-variants.{Added}
 use Rattle.jobs.specs.Counting.{CountsIn, CountsText}
 use Rattle.jobs.specs.Lines.{lineOf, TableLine}
 use Rattle.jobs.specs.Sums.{noSums, addedAll, sumsOf}
-use Rattle.letter_corrections.specs.Letters.{stateOf}
+use Rattle.state_letters.specs.Letters.{stateOf}
 use Rattle.letter_corrections.specs.Correcting.{CorrectsLetters}
 use Rattle.jobs.proofs.SumLaws.{sums-exact}
 use Rattle.shut_out.specs.Asked.{letters, rises}

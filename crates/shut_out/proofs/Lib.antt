@@ -35,6 +35,8 @@
 --     `other-sums` (EveryJob)
 -- a listing of other answers, a line of other totals, than those of the tree
 --     `other-listing`, `other-line` (EveryTreeText); `no-other-listing`, `no-other-totals-line` (NothingElse)
+-- a text refused that is a trace; a refused text of which something was written
+--     `made-and-refused`, `wrote-and-refused`, `make-trace-attached` (MadeTraces)
 -- an activity listing refused on T, or with another text
 --     `activity`, `activity-on-T`, `no-other-activity`, `activity-attached` (Activity)
 -- a part of it refused on T or in a block of the program, or with another text
@@ -87,3 +89,4 @@ pub mod AttachedForC
 pub mod AttachedListsForC
 pub mod Activity
 pub mod LongTimes
+pub mod MadeTraces

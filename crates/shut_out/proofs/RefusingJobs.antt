@@ -35,7 +35,7 @@ use Rattle.row_listings.proofs.TextListings.{vector-one, boolean-one}
 use Rattle.row_listings.proofs.ListingTheorems.{lists-unique}
 use Rattle.jobs.specs.Counting.{countOrder, TotalsText, CountsIn, CountsText}
 use Rattle.jobs.specs.Lines.{lineOf, TableLine}
-use Rattle.letter_corrections.specs.Letters.{stateOf}
+use Rattle.state_letters.specs.Letters.{stateOf}
 use Rattle.letter_corrections.specs.Correcting.{lettersOrder, CorrectsLetters}
 use Rattle.jobs.proofs.TextCounts.{counts-unique}
 use Rattle.letter_corrections.proofs.LetterCorrections.{letters-unique}

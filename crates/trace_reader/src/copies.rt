@@ -24,7 +24,7 @@ fn clear(out: &mut [u8], at: usize, n: usize) -> usize
 }
 
 // Writes a name as a slot: its bytes, then zeros.
-fn put_slot(name: &[u8], out: &mut [u8], at: usize) -> usize
+pub fn put_slot(name: &[u8], out: &mut [u8], at: usize) -> usize
     requires { ⌜ SlotFits (now name) (now out) at ⌝ }
     ensures { λ r. ⌜ Put (now (out .entry)) at (slotOf (now (name .entry))) (now (out .exit)) r ⌝ }
 {

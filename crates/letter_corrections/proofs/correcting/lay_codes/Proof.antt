@@ -2,7 +2,7 @@
 use native.Mathlib.Omega.{arith}
 use lib.ListN.{length-map}
 use Rattle.basics.proofs.PartByPart.{held}
-use Rattle.letter_corrections.specs.Letters.{stateOf}
+use Rattle.state_letters.specs.Letters.{stateOf}
 use Rattle.letter_corrections.proofs.correcting.lay_codes.Statement.{statement}
 use Rattle.letter_corrections.proofs.correcting.lay_codes.Tie as tie
 

@@ -6,7 +6,7 @@ use mathlib.Core.List.{map}
 use lib.ListN.{length, take, length-map}
 use Rattle.basics.specs.Memory.{Put}
 use Rattle.basics.proofs.PartByPart.{put-length}
-use Rattle.letter_corrections.specs.Letters.{stateOf}
+use Rattle.state_letters.specs.Letters.{stateOf}
 use Rattle.letter_corrections.proofs.LetterCodes.{codes-more, codes-all}
 use borrow.Author.Needs.{needs}
 use Rattle.letter_corrections.proofs.correcting.put_codes.Statement.{statement}

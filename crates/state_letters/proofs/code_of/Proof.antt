@@ -1,4 +1,4 @@
--- `correcting::code_of` meets its contract.
+-- `code_of` meets its contract.
 use native.Mathlib.Omega.{arith}
 use mathlib.Core.Path.{refl}
 use mathlib.Core.List.{List, [], _∷_}
@@ -6,9 +6,9 @@ use Prim.Native.Nat.{ℕ}
 use Rattle.alf.specs.States.{among}
 use Rattle.basics.specs.Text.{bytes}
 use Rattle.basics.proofs.ByteMatches.{ranged, keyed}
-use Rattle.letter_corrections.specs.Letters.{stateOf}
-use Rattle.letter_corrections.proofs.correcting.code_of.Statement.{statement}
-use Rattle.letter_corrections.proofs.correcting.code_of.Tie as tie
+use Rattle.state_letters.specs.Letters.{stateOf}
+use Rattle.state_letters.proofs.code_of.Statement.{statement}
+use Rattle.state_letters.proofs.code_of.Tie as tie
 
 abbrev single : List (List ℕ)
 single =

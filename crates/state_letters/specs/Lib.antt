@@ -1,0 +1,2 @@
+-- The letters of the states.
+pub mod Letters

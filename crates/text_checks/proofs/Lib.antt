@@ -1,0 +1,3 @@
+-- The laws of the checks.
+pub mod StateWords
+pub mod TimeWords

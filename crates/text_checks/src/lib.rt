@@ -1,0 +1,3 @@
+// A trace as a text, checked word by word.
+pub mod states;
+pub mod times;

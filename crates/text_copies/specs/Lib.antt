@@ -1,0 +1,2 @@
+-- What the copies of a text's trace ask and give.
+pub mod Copies

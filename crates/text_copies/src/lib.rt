@@ -1,0 +1,2 @@
+// The trace that a text is, copied out of the text. It cannot fail.
+pub mod copies;

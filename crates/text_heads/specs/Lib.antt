@@ -1,0 +1,2 @@
+-- What the checks of a head ask and give.
+pub mod Heads

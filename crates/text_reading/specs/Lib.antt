@@ -1,0 +1,2 @@
+-- What reading a text as a trace comes to.
+pub mod Reading

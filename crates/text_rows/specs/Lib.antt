@@ -1,0 +1,2 @@
+-- What the checks of rows ask and give.
+pub mod Rows

@@ -1,0 +1,1 @@
+// A trace as a text: theorems alone.
