@@ -27,8 +27,9 @@ Counts match_it(void)
     dachsmond_expression e = dachsmond_read_expression(names, 32 * trace.names, (const uint8_t *)PATTERN,
                                                        strlen(PATTERN), true);
     stop_if("read_expression", e.number, e.place);
+    dachsmond_rules rules = dachsmond_old_rules();
     dachsmond_counted t =
-        dachsmond_totals(trace.names, trace.rows, e.tree, e.len, states, trace.rows * trace.names);
+        dachsmond_totals(rules, trace.names, trace.rows, e.tree, e.len, states, trace.rows * trace.names);
     stop_if("totals", t.number, t.place);
     return (Counts){t.yes, t.no, t.unknown};
 }

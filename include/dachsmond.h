@@ -28,6 +28,13 @@
 extern "C" {
 #endif
 
+/* The rules of evaluation, which every call that evaluates takes; hold them fixed through a trace and its corrections.
+   equal_branches: `c ? a : b` with c unknown has the value of its branches where both have the same; else, and always
+   where it is false, it is X. */
+typedef struct {
+    bool equal_branches;
+} dachsmond_rules;
+
 /* What came of a call: done, with a count of what it made, or refused. */
 typedef struct {
     uint8_t number;
@@ -115,6 +122,9 @@ dachsmond_told dachsmond_write_expression(const uint8_t *names, size_t names_len
 /* The version of the library, as DACHSMOND_VERSION is that of the header. */
 uint32_t dachsmond_version(void);
 
+/* Document 01's rules, those of every table made before version 2.0: start from them, and set what is to be otherwise. */
+dachsmond_rules dachsmond_old_rules(void);
+
 /* A trace file into three lists, names in slots, times, and states: 11 to 17, then 9 for the first short list. */
 dachsmond_trace dachsmond_read_trace(const uint8_t *file, size_t file_len, uint8_t *names, size_t names_len,
                                      uint64_t *times, size_t times_len, uint8_t *states, size_t states_len);
@@ -127,40 +137,41 @@ dachsmond_told dachsmond_write_trace(const uint8_t *names, size_t names_len, con
 dachsmond_changed dachsmond_changes_at(size_t names, size_t n, const uint8_t *states, size_t states_len, uint32_t row);
 
 /* The state of a boolean tree at a row, as the count told: 18, 10, 15, 19. */
-dachsmond_told dachsmond_row_state(size_t names, size_t n, const uint8_t *tree, size_t tree_len, const uint8_t *states,
-                                   size_t states_len, uint32_t row);
+dachsmond_told dachsmond_row_state(dachsmond_rules rules, size_t names, size_t n, const uint8_t *tree, size_t tree_len,
+                                   const uint8_t *states, size_t states_len, uint32_t row);
 
 /* The value of a boolean tree at a row, as the count told: 18, 10, 15, 19. */
-dachsmond_told dachsmond_row_value(size_t names, size_t n, const uint8_t *tree, size_t tree_len, const uint8_t *states,
-                                   size_t states_len, uint32_t row);
+dachsmond_told dachsmond_row_value(dachsmond_rules rules, size_t names, size_t n, const uint8_t *tree, size_t tree_len,
+                                   const uint8_t *states, size_t states_len, uint32_t row);
 
 /* The values of a boolean tree at all n rows into a list of exactly n; how many: 18, 10, 15. */
-dachsmond_told dachsmond_values(size_t names, size_t n, const uint8_t *tree, size_t tree_len, const uint8_t *states,
-                                size_t states_len, uint8_t *out, size_t out_len);
+dachsmond_told dachsmond_values(dachsmond_rules rules, size_t names, size_t n, const uint8_t *tree, size_t tree_len,
+                                const uint8_t *states, size_t states_len, uint8_t *out, size_t out_len);
 
 /* The answer of a vector tree at a row, the greatest over all windows that end there: 18, 10, 15, 19. It is worked out
    as the tree is written, each part of it once on each window of at most 16 events, so its cost does not grow with the
    row; the states are all looked through once for 15. */
-dachsmond_answered dachsmond_row_answer(size_t names, size_t n, const uint8_t *tree, size_t tree_len,
-                                        const uint8_t *states, size_t states_len, uint32_t row);
+dachsmond_answered dachsmond_row_answer(dachsmond_rules rules, size_t names, size_t n, const uint8_t *tree,
+                                        size_t tree_len, const uint8_t *states, size_t states_len, uint32_t row);
 
 /* The answer of a vector tree on the window of rows a to b; a window without an event answers no, and so does one of
    more events than the tree's longest alternative has steps: 18, 10, 15, 19. It costs no more than a row's answer. */
-dachsmond_answered dachsmond_window_answer(size_t names, size_t n, const uint8_t *tree, size_t tree_len,
-                                           const uint8_t *states, size_t states_len, uint32_t a, uint32_t b);
+dachsmond_answered dachsmond_window_answer(dachsmond_rules rules, size_t names, size_t n, const uint8_t *tree,
+                                           size_t tree_len, const uint8_t *states, size_t states_len, uint32_t a,
+                                           uint32_t b);
 
 /* The answer of a vector tree at a row by its alternatives, and how many of them were tried: 18, 10, 15, 19. */
-dachsmond_matched dachsmond_match_row(size_t names, size_t n, const uint8_t *tree, size_t tree_len,
-                                      const uint8_t *states, size_t states_len, uint32_t row);
+dachsmond_matched dachsmond_match_row(dachsmond_rules rules, size_t names, size_t n, const uint8_t *tree,
+                                      size_t tree_len, const uint8_t *states, size_t states_len, uint32_t row);
 
 /* The answers of all n rows and the numbers tried into two lists of exactly n; how many: 18, 10, 15. */
-dachsmond_told dachsmond_match_all(size_t names, size_t n, const uint8_t *tree, size_t tree_len, const uint8_t *states,
-                                   size_t states_len, uint8_t *answers, size_t answers_len, uint32_t *tried,
-                                   size_t tried_len);
+dachsmond_told dachsmond_match_all(dachsmond_rules rules, size_t names, size_t n, const uint8_t *tree, size_t tree_len,
+                                   const uint8_t *states, size_t states_len, uint8_t *answers, size_t answers_len,
+                                   uint32_t *tried, size_t tried_len);
 
 /* How many of the n rows answer yes, no and unknown, together n - 1: 18, 10, 15. */
-dachsmond_counted dachsmond_totals(size_t names, size_t n, const uint8_t *tree, size_t tree_len, const uint8_t *states,
-                                   size_t states_len);
+dachsmond_counted dachsmond_totals(dachsmond_rules rules, size_t names, size_t n, const uint8_t *tree, size_t tree_len,
+                                   const uint8_t *states, size_t states_len);
 
 /* The alternatives of a vector tree into four lists: steps of each alternative, tests of each step, and for each test
    its edge's number and where its operand ends in the tree; how many alternatives: 18, 10, 9. */
@@ -173,16 +184,16 @@ dachsmond_told dachsmond_contradictions(size_t names, const uint8_t *tree, size_
                                         size_t flags_len);
 
 /* The new states become the row, and the answers from it on that can depend on it are written anew: 18, 10, 15, 19. */
-dachsmond_told dachsmond_correct(size_t names, size_t n, const uint8_t *tree, size_t tree_len, uint8_t *states,
-                                 size_t states_len, uint8_t *answers, size_t answers_len, uint32_t row,
-                                 const uint8_t *new_states, size_t new_len);
+dachsmond_told dachsmond_correct(dachsmond_rules rules, size_t names, size_t n, const uint8_t *tree, size_t tree_len,
+                                 uint8_t *states, size_t states_len, uint8_t *answers, size_t answers_len,
+                                 uint32_t row, const uint8_t *new_states, size_t new_len);
 
 /* A queue before the first push. */
 dachsmond_queue dachsmond_empty_queue(void);
 
 /* One row more: its answer, how many alternatives were tried, and the queue with the row in it: 18, 10, 15. */
-dachsmond_pushed dachsmond_push(size_t names, const uint8_t *tree, size_t tree_len, dachsmond_queue queue,
-                                const uint8_t *row, size_t row_len);
+dachsmond_pushed dachsmond_push(dachsmond_rules rules, size_t names, const uint8_t *tree, size_t tree_len,
+                                dachsmond_queue queue, const uint8_t *row, size_t row_len);
 
 /* Alternatives handed in: lists as `dachsmond_rewrite` writes them, of exactly as many entries as they say, over the tree
    in which their operands end. Lists that are not accepted are refused with 10. */
@@ -193,46 +204,46 @@ dachsmond_told dachsmond_listed_fits(size_t names, const uint8_t *tree, size_t t
                                      size_t edges_len, const uint16_t *operands, size_t operands_len);
 
 /* Their answer at a row, and how many of them were tried: 18, 10, 15, 19. */
-dachsmond_matched dachsmond_listed_match_row(size_t names, size_t n, const uint8_t *tree, size_t tree_len,
-                                             const uint8_t *steps, size_t steps_len, const uint8_t *tests,
-                                             size_t tests_len, const uint8_t *edges, size_t edges_len,
-                                             const uint16_t *operands, size_t operands_len, const uint8_t *states,
-                                             size_t states_len, uint32_t row);
+dachsmond_matched dachsmond_listed_match_row(dachsmond_rules rules, size_t names, size_t n, const uint8_t *tree,
+                                             size_t tree_len, const uint8_t *steps, size_t steps_len,
+                                             const uint8_t *tests, size_t tests_len, const uint8_t *edges,
+                                             size_t edges_len, const uint16_t *operands, size_t operands_len,
+                                             const uint8_t *states, size_t states_len, uint32_t row);
 
 /* Their answers at all n rows and the numbers tried into two lists of exactly n; how many: 18, 10, 15. */
-dachsmond_told dachsmond_listed_match_all(size_t names, size_t n, const uint8_t *tree, size_t tree_len,
-                                          const uint8_t *steps, size_t steps_len, const uint8_t *tests,
-                                          size_t tests_len, const uint8_t *edges, size_t edges_len,
-                                          const uint16_t *operands, size_t operands_len, const uint8_t *states,
-                                          size_t states_len, uint8_t *answers, size_t answers_len, uint32_t *tried,
-                                          size_t tried_len);
+dachsmond_told dachsmond_listed_match_all(dachsmond_rules rules, size_t names, size_t n, const uint8_t *tree,
+                                          size_t tree_len, const uint8_t *steps, size_t steps_len,
+                                          const uint8_t *tests, size_t tests_len, const uint8_t *edges,
+                                          size_t edges_len, const uint16_t *operands, size_t operands_len,
+                                          const uint8_t *states, size_t states_len, uint8_t *answers,
+                                          size_t answers_len, uint32_t *tried, size_t tried_len);
 
 /* How many of the n rows they answer with yes, no and unknown, together n - 1: 18, 10, 15. */
-dachsmond_counted dachsmond_listed_totals(size_t names, size_t n, const uint8_t *tree, size_t tree_len,
-                                          const uint8_t *steps, size_t steps_len, const uint8_t *tests,
-                                          size_t tests_len, const uint8_t *edges, size_t edges_len,
-                                          const uint16_t *operands, size_t operands_len, const uint8_t *states,
-                                          size_t states_len);
+dachsmond_counted dachsmond_listed_totals(dachsmond_rules rules, size_t names, size_t n, const uint8_t *tree,
+                                          size_t tree_len, const uint8_t *steps, size_t steps_len,
+                                          const uint8_t *tests, size_t tests_len, const uint8_t *edges,
+                                          size_t edges_len, const uint16_t *operands, size_t operands_len,
+                                          const uint8_t *states, size_t states_len);
 
 /* One row more: their answer, how many of them were tried, and the queue with the row in it: 18, 10, 15. */
-dachsmond_pushed dachsmond_listed_push(size_t names, const uint8_t *tree, size_t tree_len, const uint8_t *steps,
-                                       size_t steps_len, const uint8_t *tests, size_t tests_len, const uint8_t *edges,
-                                       size_t edges_len, const uint16_t *operands, size_t operands_len,
-                                       dachsmond_queue queue, const uint8_t *row, size_t row_len);
+dachsmond_pushed dachsmond_listed_push(dachsmond_rules rules, size_t names, const uint8_t *tree, size_t tree_len,
+                                       const uint8_t *steps, size_t steps_len, const uint8_t *tests, size_t tests_len,
+                                       const uint8_t *edges, size_t edges_len, const uint16_t *operands,
+                                       size_t operands_len, dachsmond_queue queue, const uint8_t *row, size_t row_len);
 
 /* The listing of the answers of a vector tree at all n rows, a line for each with its time and a last line with the
    totals, at the front of `out`; its length: 18, 10, 15, 9. */
-dachsmond_told dachsmond_list(size_t names, size_t n, const uint8_t *tree, size_t tree_len, const uint64_t *times,
-                              size_t times_len, const uint8_t *states, size_t states_len, uint8_t *out,
-                              size_t out_len);
+dachsmond_told dachsmond_list(dachsmond_rules rules, size_t names, size_t n, const uint8_t *tree, size_t tree_len,
+                              const uint64_t *times, size_t times_len, const uint8_t *states, size_t states_len,
+                              uint8_t *out, size_t out_len);
 
 /* The line of the table's heading at the front of `out`; its length: 9. */
 dachsmond_told dachsmond_table_heading(uint8_t *out, size_t out_len);
 
 /* The line of a pattern with the totals of its vector tree on n rows, at the front of `out`; its length: 18, 10, 15, 9.
    The pattern stands there as it is handed in, but a byte of it below 32 is shown as a space. */
-dachsmond_told dachsmond_table_line(size_t names, size_t n, const uint8_t *tree, size_t tree_len,
-                                    const uint8_t *states, size_t states_len, const uint8_t *pattern,
+dachsmond_told dachsmond_table_line(dachsmond_rules rules, size_t names, size_t n, const uint8_t *tree,
+                                    size_t tree_len, const uint8_t *states, size_t states_len, const uint8_t *pattern,
                                     size_t pattern_len, uint8_t *out, size_t out_len);
 
 /* The line of a pattern that was refused with a number at a place, at the front of `out`; its length: 9. */

@@ -9,6 +9,14 @@
 //!
 //! It is built beside libdachsmond.a (`rt staticlib dachsmond`, x86-64), as tests/rust-example does.
 
+/// The rules of evaluation, which every call that evaluates takes; hold them fixed through a trace and its corrections.
+/// equal_branches: `c ? a : b` with c unknown has the value of its branches where both have the same; else it is X.
+#[repr(C)]
+#[derive(Clone, Copy, Debug)]
+pub struct Rules {
+    pub equal_branches: bool,
+}
+
 /// What came of a call: done, with a count of what it made, or refused.
 #[repr(C)]
 #[derive(Clone, Copy, Debug)]
@@ -146,6 +154,9 @@ calls! {
     /// The text of a tree, with only needed brackets, at the front of `out`; its length: 18, 12, 10, 1, 9.
     write_expression = dachsmond_write_expression(names: &[u8], tree: &[u8], vector: bool, out: &mut [u8]) -> Told;
 
+    /// Document 01's rules, those of every table made before version 2.0.
+    old_rules = dachsmond_old_rules() -> Rules;
+
     /// A trace file into three lists, names in slots, times, and states: 11 to 17, then 9 for the first short list.
     read_trace = dachsmond_read_trace(file: &[u8], names: &mut [u8], times: &mut [u64], states: &mut [u8]) -> Trace;
 
@@ -157,34 +168,40 @@ calls! {
     changes_at = dachsmond_changes_at(names: usize, n: usize, states: &[u8], row: u32) -> Changed;
 
     /// The state of a boolean tree at a row, as the count told: 18, 10, 15, 19.
-    row_state = dachsmond_row_state(names: usize, n: usize, tree: &[u8], states: &[u8], row: u32) -> Told;
+    row_state = dachsmond_row_state(rules: Rules, names: usize, n: usize, tree: &[u8], states: &[u8],
+        row: u32) -> Told;
 
     /// The value of a boolean tree at a row, as the count told: 18, 10, 15, 19.
-    row_value = dachsmond_row_value(names: usize, n: usize, tree: &[u8], states: &[u8], row: u32) -> Told;
+    row_value = dachsmond_row_value(rules: Rules, names: usize, n: usize, tree: &[u8], states: &[u8],
+        row: u32) -> Told;
 
     /// The values of a boolean tree at all n rows into a list of exactly n; how many: 18, 10, 15.
-    values = dachsmond_values(names: usize, n: usize, tree: &[u8], states: &[u8], out: &mut [u8]) -> Told;
+    values = dachsmond_values(rules: Rules, names: usize, n: usize, tree: &[u8], states: &[u8],
+        out: &mut [u8]) -> Told;
 
     /// The answer of a vector tree at a row, the greatest over all windows that end there: 18, 10, 15, 19. It is worked
     /// out as the tree is written, on windows of at most 16 events, so its cost does not grow with the row; the states
     /// are all looked through once for 15.
-    row_answer = dachsmond_row_answer(names: usize, n: usize, tree: &[u8], states: &[u8], row: u32) -> Answered;
+    row_answer = dachsmond_row_answer(rules: Rules, names: usize, n: usize, tree: &[u8], states: &[u8],
+        row: u32) -> Answered;
 
     /// The answer of a vector tree on the window of rows a to b; a window without an event answers no, and so does one
     /// of more events than the tree's longest alternative has steps: 18, 10, 15, 19. It costs no more than a row's
     /// answer.
-    window_answer = dachsmond_window_answer(names: usize, n: usize, tree: &[u8], states: &[u8], a: u32,
+    window_answer = dachsmond_window_answer(rules: Rules, names: usize, n: usize, tree: &[u8], states: &[u8], a: u32,
         b: u32) -> Answered;
 
     /// The answer of a vector tree at a row by its alternatives, and how many of them were tried: 18, 10, 15, 19.
-    match_row = dachsmond_match_row(names: usize, n: usize, tree: &[u8], states: &[u8], row: u32) -> Matched;
+    match_row = dachsmond_match_row(rules: Rules, names: usize, n: usize, tree: &[u8], states: &[u8],
+        row: u32) -> Matched;
 
     /// The answers of all n rows and the numbers tried into two lists of exactly n; how many: 18, 10, 15.
-    match_all = dachsmond_match_all(names: usize, n: usize, tree: &[u8], states: &[u8], answers: &mut [u8],
+    match_all = dachsmond_match_all(rules: Rules, names: usize, n: usize, tree: &[u8], states: &[u8],
+        answers: &mut [u8],
         tried: &mut [u32]) -> Told;
 
     /// How many of the n rows answer yes, no and unknown, together n - 1: 18, 10, 15.
-    totals = dachsmond_totals(names: usize, n: usize, tree: &[u8], states: &[u8]) -> Counted;
+    totals = dachsmond_totals(rules: Rules, names: usize, n: usize, tree: &[u8], states: &[u8]) -> Counted;
 
     /// The alternatives of a vector tree into four lists: steps of each alternative, tests of each step, and for
     /// each test its edge's number and where its operand ends in the tree; how many alternatives: 18, 10, 9.
@@ -196,14 +213,15 @@ calls! {
 
     /// The new states become the row, and the answers from it on that can depend on it are written anew: 18, 10,
     /// 15, 19.
-    correct = dachsmond_correct(names: usize, n: usize, tree: &[u8], states: &mut [u8], answers: &mut [u8],
+    correct = dachsmond_correct(rules: Rules, names: usize, n: usize, tree: &[u8], states: &mut [u8],
+        answers: &mut [u8],
         row: u32, new_states: &[u8]) -> Told;
 
     /// A queue before the first push.
     empty_queue = dachsmond_empty_queue() -> Queue;
 
     /// One row more: its answer, how many alternatives were tried, and the queue with the row in it: 18, 10, 15.
-    push = dachsmond_push(names: usize, tree: &[u8], queue: Queue, row: &[u8]) -> Pushed;
+    push = dachsmond_push(rules: Rules, names: usize, tree: &[u8], queue: Queue, row: &[u8]) -> Pushed;
 
     /// How many alternatives are handed in, lists as `rewrite` writes them and of exactly as many entries as they say,
     /// over the tree in which their operands end, where they are accepted: 18, 10.
@@ -211,31 +229,36 @@ calls! {
         operands: &[u16]) -> Told;
 
     /// The answer of such lists at a row, and how many of them were tried: 18, 10, 15, 19.
-    listed_match_row = dachsmond_listed_match_row(names: usize, n: usize, tree: &[u8], steps: &[u8], tests: &[u8],
+    listed_match_row = dachsmond_listed_match_row(rules: Rules, names: usize, n: usize, tree: &[u8],
+        steps: &[u8], tests: &[u8],
         edges: &[u8], operands: &[u16], states: &[u8], row: u32) -> Matched;
 
     /// The answers of such lists at all n rows and the numbers tried into two lists of exactly n; how many: 18, 10, 15.
-    listed_match_all = dachsmond_listed_match_all(names: usize, n: usize, tree: &[u8], steps: &[u8], tests: &[u8],
+    listed_match_all = dachsmond_listed_match_all(rules: Rules, names: usize, n: usize, tree: &[u8],
+        steps: &[u8], tests: &[u8],
         edges: &[u8], operands: &[u16], states: &[u8], answers: &mut [u8], tried: &mut [u32]) -> Told;
 
     /// How many of the n rows such lists answer with yes, no and unknown, together n - 1: 18, 10, 15.
-    listed_totals = dachsmond_listed_totals(names: usize, n: usize, tree: &[u8], steps: &[u8], tests: &[u8],
+    listed_totals = dachsmond_listed_totals(rules: Rules, names: usize, n: usize, tree: &[u8], steps: &[u8],
+        tests: &[u8],
         edges: &[u8], operands: &[u16], states: &[u8]) -> Counted;
 
     /// One row more for such lists: their answer, how many of them were tried, and the queue with the row in it: 18, 10, 15.
-    listed_push = dachsmond_listed_push(names: usize, tree: &[u8], steps: &[u8], tests: &[u8], edges: &[u8],
+    listed_push = dachsmond_listed_push(rules: Rules, names: usize, tree: &[u8], steps: &[u8], tests: &[u8],
+        edges: &[u8],
         operands: &[u16], queue: Queue, row: &[u8]) -> Pushed;
 
     /// The listing of the answers of a vector tree at all n rows, a line for each with its time and a last line with
     /// the totals, at the front of `out`; its length: 18, 10, 15, 9.
-    list = dachsmond_list(names: usize, n: usize, tree: &[u8], times: &[u64], states: &[u8], out: &mut [u8]) -> Told;
+    list = dachsmond_list(rules: Rules, names: usize, n: usize, tree: &[u8], times: &[u64], states: &[u8],
+        out: &mut [u8]) -> Told;
 
     /// The line of the table's heading at the front of `out`; its length: 9.
     table_heading = dachsmond_table_heading(out: &mut [u8]) -> Told;
 
     /// The line of a pattern with the totals of its vector tree on n rows, at the front of `out`; its length: 18, 10,
     /// 15, 9. The pattern stands there as it is handed in, but a byte of it below 32 is shown as a space.
-    table_line = dachsmond_table_line(names: usize, n: usize, tree: &[u8], states: &[u8], pattern: &[u8],
+    table_line = dachsmond_table_line(rules: Rules, names: usize, n: usize, tree: &[u8], states: &[u8], pattern: &[u8],
         out: &mut [u8]) -> Told;
 
     /// The line of a pattern that was refused with a number at a place, at the front of `out`; its length: 9.

@@ -40,6 +40,20 @@ static void show_answers(const char *what, const uint8_t *answers)
     printf("\n");
 }
 
+#define OLD dachsmond_old_rules()
+
+/* `A ? 1 : 1` on table T, where A is unknown in row 3: X by document 01's rules, 1 by the rule of equal branches */
+static void show_rules(void)
+{
+    static const uint8_t TEXT[] = "A ? 1 : 1";
+    dachsmond_expression e = dachsmond_read_expression(NAMES, sizeof NAMES, TEXT, 9, false);
+    dachsmond_rules equal = OLD;
+    equal.equal_branches = true;
+    dachsmond_told a = dachsmond_row_value(OLD, 3, 6, e.tree, e.len, STATES, sizeof STATES, 3);
+    dachsmond_told b = dachsmond_row_value(equal, 3, 6, e.tree, e.len, STATES, sizeof STATES, 3);
+    printf("A ? 1 : 1 with A unknown: %zu, by equal branches %zu\n", a.count, b.count);
+}
+
 /* case 1 of table T by matching, its totals and the queue, and case 12, the same with row 3 corrected to 001 */
 static void show_matching(void)
 {
@@ -47,19 +61,19 @@ static void show_matching(void)
     uint8_t states[sizeof STATES], answers[6], pushed[6];
     uint32_t tried[6];
     dachsmond_expression e = dachsmond_read_expression(NAMES, sizeof NAMES, TEXT, 4, true);
-    dachsmond_match_all(3, 6, e.tree, e.len, STATES, sizeof STATES, answers, 6, tried, 6);
+    dachsmond_match_all(OLD, 3, 6, e.tree, e.len, STATES, sizeof STATES, answers, 6, tried, 6);
     show_answers("01 A", answers);
-    dachsmond_counted c = dachsmond_totals(3, 6, e.tree, e.len, STATES, sizeof STATES);
+    dachsmond_counted c = dachsmond_totals(OLD, 3, 6, e.tree, e.len, STATES, sizeof STATES);
     printf("yes %u no %u unknown %u\n", c.yes, c.no, c.unknown);
     dachsmond_queue queue = dachsmond_empty_queue();
     for (int i = 0; i < 6; i++) {
-        dachsmond_pushed p = dachsmond_push(3, e.tree, e.len, queue, STATES + 3 * i, 3);
+        dachsmond_pushed p = dachsmond_push(OLD, 3, e.tree, e.len, queue, STATES + 3 * i, 3);
         pushed[i] = p.answer;
         queue = p.queue;
     }
     show_answers("row by row", pushed);
     memcpy(states, STATES, sizeof STATES);
-    dachsmond_correct(3, 6, e.tree, e.len, states, sizeof states, answers, 6, 3, NEW, 3);
+    dachsmond_correct(OLD, 3, 6, e.tree, e.len, states, sizeof states, answers, 6, 3, NEW, 3);
     show_answers("row 3 corrected", answers);
 }
 
@@ -74,22 +88,22 @@ static void show_listed(void)
     dachsmond_expression e = dachsmond_read_expression(NAMES, sizeof NAMES, TEXT, 11, true);
     dachsmond_told k = dachsmond_rewrite(3, e.tree, e.len, steps, 64, tests, 1024, edges, 4096, operands, 4096);
     printf("01 A | 10 B: %zu alternatives, accepted %d\n", k.count, !dachsmond_listed_fits(3, LISTS).number);
-    dachsmond_listed_match_all(3, 6, LISTS, STATES, sizeof STATES, answers, 6, tried, 6);
+    dachsmond_listed_match_all(OLD, 3, 6, LISTS, STATES, sizeof STATES, answers, 6, tried, 6);
     show_answers("by lists", answers);
     printf("tried %u %u %u %u %u %u\n", tried[0], tried[1], tried[2], tried[3], tried[4], tried[5]);
-    dachsmond_matched m = dachsmond_listed_match_row(3, 6, LISTS, STATES, sizeof STATES, 4);
+    dachsmond_matched m = dachsmond_listed_match_row(OLD, 3, 6, LISTS, STATES, sizeof STATES, 4);
     printf("row 4: answer %u, tried %u\n", m.answer, m.tries);
-    dachsmond_counted c = dachsmond_listed_totals(3, 6, LISTS, STATES, sizeof STATES);
+    dachsmond_counted c = dachsmond_listed_totals(OLD, 3, 6, LISTS, STATES, sizeof STATES);
     printf("yes %u no %u unknown %u\n", c.yes, c.no, c.unknown);
     dachsmond_queue queue = dachsmond_empty_queue();
     for (int i = 0; i < 6; i++) {
-        dachsmond_pushed p = dachsmond_listed_push(3, LISTS, queue, STATES + 3 * i, 3);
+        dachsmond_pushed p = dachsmond_listed_push(OLD, 3, LISTS, queue, STATES + 3 * i, 3);
         pushed[i] = p.answer;
         queue = p.queue;
     }
     show_answers("row by row", pushed);
     edges[1] = 83;
-    c = dachsmond_listed_totals(3, 6, LISTS, STATES, sizeof STATES);
+    c = dachsmond_listed_totals(OLD, 3, 6, LISTS, STATES, sizeof STATES);
     k = dachsmond_listed_fits(3, LISTS);
     printf("edge 83: accepted %d, totals refused with %u at %zu\n", !k.number, c.number, c.place);
 }
@@ -101,11 +115,11 @@ static void show_texts(void)
     static const uint64_t TIMES[] = {0, 10, 20, 35, 40, 55};
     uint8_t out[200];
     dachsmond_expression e = dachsmond_read_expression(NAMES, sizeof NAMES, BAD, 4, true);
-    dachsmond_told w = dachsmond_list(3, 6, e.tree, e.len, TIMES, 6, STATES, sizeof STATES, out, sizeof out);
+    dachsmond_told w = dachsmond_list(OLD, 3, 6, e.tree, e.len, TIMES, 6, STATES, sizeof STATES, out, sizeof out);
     printf("%.*s", (int)w.count, (const char *)out);
     w = dachsmond_table_heading(out, sizeof out);
     printf("%.*s", (int)w.count, (const char *)out);
-    w = dachsmond_table_line(3, 6, e.tree, e.len, STATES, sizeof STATES, BAD, 4, out, sizeof out);
+    w = dachsmond_table_line(OLD, 3, 6, e.tree, e.len, STATES, sizeof STATES, BAD, 4, out, sizeof out);
     printf("%.*s", (int)w.count, (const char *)out);
     w = dachsmond_table_refused(BAD, 7, 5, 7, out, sizeof out);
     printf("%.*s", (int)w.count, (const char *)out);
@@ -137,4 +151,5 @@ int main(void)
     show_matching();
     show_listed();
     show_texts();
+    show_rules();
 }

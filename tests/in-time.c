@@ -40,6 +40,8 @@ static void timed(clock_t from, const char *call, size_t a, size_t b)
     if (took > most) most = took, strcpy(slowest, written(call, a, b));
 }
 
+/* by the rule of equal branches, which evaluates both branches and compares them */
+static const dachsmond_rules rules = {true};
 #define ON 1, n, tree, len, states, n
 /* no, unknown, yes */
 static int rank(uint8_t answer) { return answer == 1 ? 2 : answer == 2 ? 1 : 0; }
@@ -47,7 +49,7 @@ static int rank(uint8_t answer) { return answer == 1 ? 2 : answer == 2 ? 1 : 0; 
 static int on_window(size_t a, size_t b)
 {
     clock_t from = clock();
-    dachsmond_answered window = dachsmond_window_answer(ON, a, b);
+    dachsmond_answered window = dachsmond_window_answer(rules, ON, a, b);
     timed(from, "window", a, b);
     if (window.number) fail("a window is refused", a, b);
     return rank(window.answer);
@@ -57,9 +59,9 @@ static int on_window(size_t a, size_t b)
 static void at_row(size_t row, bool each)
 {
     size_t from = row < STEPS ? 0 : row - STEPS;
-    dachsmond_matched matched = dachsmond_match_row(ON, row);
+    dachsmond_matched matched = dachsmond_match_row(rules, ON, row);
     clock_t start = clock();
-    dachsmond_answered answered = dachsmond_row_answer(ON, row);
+    dachsmond_answered answered = dachsmond_row_answer(rules, ON, row);
     int best = 0;
     timed(start, "row", row, row);
     if (matched.number || answered.number || matched.answer != answered.answer) fail("another answer", row, row);
@@ -195,7 +197,7 @@ int main(void)
     srand(1);
     for (int i = 0; i < RANDOM; i++) {
         len = 0, n = FEW, put_random(2 + i % 5);
-        if (len <= 256 && !dachsmond_match_row(ON, 1).number) on_traces(false);
+        if (len <= 256 && !dachsmond_match_row(rules, ON, 1).number) on_traces(false);
     }
     printf("%lu calls on %lu patterns; the slowest took %.3f s: %s\n", calls, patterns, most, slowest);
     return failed;

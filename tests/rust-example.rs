@@ -2,7 +2,9 @@
 //! row by row. It prints what `dachsmond` prints as its first look.
 #![no_main] // on Arm the toolchain's emulator does not start Rust's runtime
 
-use dachsmond::{empty_queue, push, read_expression, read_trace, table_heading, table_line, table_total, totals};
+use dachsmond::{
+    empty_queue, old_rules, push, read_expression, read_trace, table_heading, table_line, table_total, totals,
+};
 
 const T: &[u8] = include_bytes!("cli/t.trace");
 const PATTERNS: [&str; 8] = [
@@ -21,7 +23,7 @@ fn counted(names: usize, tree: &[u8], states: &[u8]) -> [u32; 4] {
     let mut queue = empty_queue();
     let mut counts = [0; 4];
     for row in states.chunks(names) {
-        let p = push(names, tree, queue, row);
+        let p = push(old_rules(), names, tree, queue, row);
         assert_eq!(p.number, 0);
         counts[p.answer as usize] += 1;
         queue = p.queue;
@@ -44,9 +46,9 @@ pub extern "C" fn main() -> i32 {
     for pattern in PATTERNS {
         let e = read_expression(&slots, pattern.as_bytes(), true);
         let tree = &e.tree[..e.len];
-        let c = totals(t.names, t.rows, tree, &states);
+        let c = totals(old_rules(), t.names, t.rows, tree, &states);
         assert_eq!(counted(t.names, tree, &states), [c.no, c.yes, c.unknown, 1]);
-        let told = table_line(t.names, t.rows, tree, &states, pattern.as_bytes(), &mut line);
+        let told = table_line(old_rules(), t.names, t.rows, tree, &states, pattern.as_bytes(), &mut line);
         show(&line, told.count);
         sums = [sums[0] + c.yes as u64, sums[1] + c.unknown as u64, sums[2] + c.no as u64];
     }

@@ -37,6 +37,8 @@ static dachsmond_pushed pushed;
 
 #define LISTS steps, steps_len, tests, tests_len, edges, edges_len, operands, edges_len
 #define TRACE states, n *k
+static dachsmond_rules rules;
+static void old_rules(void) { rules = dachsmond_old_rules(); }
 static void version(void) { told.count = dachsmond_version(); }
 static void check_names(void) { told = dachsmond_check_names(names, 32 * k); }
 static void read_expression(void) { expression = dachsmond_read_expression(names, 32 * k, text, text_len, vector); }
@@ -53,39 +55,39 @@ static void write_trace(void)
     told = dachsmond_write_trace(names, 32 * k, times, n, TRACE, n, out, sizeof out);
 }
 static void changes_at(void) { changed = dachsmond_changes_at(k, n, TRACE, n - 1); }
-static void row_state(void) { told = dachsmond_row_state(k, n, tree, tree_len, TRACE, n - 1); }
-static void row_value(void) { told = dachsmond_row_value(k, n, tree, tree_len, TRACE, n - 1); }
-static void values(void) { told = dachsmond_values(k, n, tree, tree_len, TRACE, answers, n); }
-static void row_answer(void) { answered = dachsmond_row_answer(k, n, tree, tree_len, TRACE, n - 1); }
-static void window_answer(void) { answered = dachsmond_window_answer(k, n, tree, tree_len, TRACE, 0, n - 1); }
-static void match_row(void) { matched = dachsmond_match_row(k, n, tree, tree_len, TRACE, n - 1); }
-static void match_all(void) { told = dachsmond_match_all(k, n, tree, tree_len, TRACE, answers, n, tried, n); }
-static void totals(void) { counted = dachsmond_totals(k, n, tree, tree_len, TRACE); }
+static void row_state(void) { told = dachsmond_row_state(rules, k, n, tree, tree_len, TRACE, n - 1); }
+static void row_value(void) { told = dachsmond_row_value(rules, k, n, tree, tree_len, TRACE, n - 1); }
+static void values(void) { told = dachsmond_values(rules, k, n, tree, tree_len, TRACE, answers, n); }
+static void row_answer(void) { answered = dachsmond_row_answer(rules, k, n, tree, tree_len, TRACE, n - 1); }
+static void window_answer(void) { answered = dachsmond_window_answer(rules, k, n, tree, tree_len, TRACE, 0, n - 1); }
+static void match_row(void) { matched = dachsmond_match_row(rules, k, n, tree, tree_len, TRACE, n - 1); }
+static void match_all(void) { told = dachsmond_match_all(rules, k, n, tree, tree_len, TRACE, answers, n, tried, n); }
+static void totals(void) { counted = dachsmond_totals(rules, k, n, tree, tree_len, TRACE); }
 static void rewrite(void)
 {
     told = dachsmond_rewrite(k, tree, tree_len, steps, sizeof steps, tests, sizeof tests, edges, sizeof edges, operands,
                              4096);
 }
 static void contradictions(void) { told = dachsmond_contradictions(k, tree, tree_len, flags, sizeof flags); }
-static void correct(void) { told = dachsmond_correct(k, n, tree, tree_len, TRACE, answers, n, 0, row, k); }
+static void correct(void) { told = dachsmond_correct(rules, k, n, tree, tree_len, TRACE, answers, n, 0, row, k); }
 static void empty_queue(void) { queue = dachsmond_empty_queue(); }
-static void push(void) { pushed = dachsmond_push(k, tree, tree_len, queue, row, k); }
+static void push(void) { pushed = dachsmond_push(rules, k, tree, tree_len, queue, row, k); }
 static void listed_fits(void) { told = dachsmond_listed_fits(k, tree, tree_len, LISTS); }
 static void listed_match_row(void)
 {
-    matched = dachsmond_listed_match_row(k, n, tree, tree_len, LISTS, TRACE, n - 1);
+    matched = dachsmond_listed_match_row(rules, k, n, tree, tree_len, LISTS, TRACE, n - 1);
 }
 static void listed_match_all(void)
 {
-    told = dachsmond_listed_match_all(k, n, tree, tree_len, LISTS, TRACE, answers, n, tried, n);
+    told = dachsmond_listed_match_all(rules, k, n, tree, tree_len, LISTS, TRACE, answers, n, tried, n);
 }
-static void listed_totals(void) { counted = dachsmond_listed_totals(k, n, tree, tree_len, LISTS, TRACE); }
-static void listed_push(void) { pushed = dachsmond_listed_push(k, tree, tree_len, LISTS, queue, row, k); }
-static void list(void) { told = dachsmond_list(k, n, tree, tree_len, times, n, TRACE, out, sizeof out); }
+static void listed_totals(void) { counted = dachsmond_listed_totals(rules, k, n, tree, tree_len, LISTS, TRACE); }
+static void listed_push(void) { pushed = dachsmond_listed_push(rules, k, tree, tree_len, LISTS, queue, row, k); }
+static void list(void) { told = dachsmond_list(rules, k, n, tree, tree_len, times, n, TRACE, out, sizeof out); }
 static void table_heading(void) { told = dachsmond_table_heading(out, sizeof out); }
 static void table_line(void)
 {
-    told = dachsmond_table_line(k, n, tree, tree_len, TRACE, text, text_len, out, sizeof out);
+    told = dachsmond_table_line(rules, k, n, tree, tree_len, TRACE, text, text_len, out, sizeof out);
 }
 static void table_refused(void) { told = dachsmond_table_refused(text, text_len, 255, SIZE_MAX, out, sizeof out); }
 static void table_total(void)
@@ -103,7 +105,8 @@ static struct {
                  F(window_answer),    F(match_row),        F(match_all),        F(totals),         F(rewrite),
                  F(contradictions),   F(correct),          F(empty_queue),      F(push),           F(listed_fits),
                  F(listed_match_row), F(listed_match_all), F(listed_totals),    F(listed_push),    F(list),
-                 F(table_heading),    F(table_line),       F(table_refused),    F(table_total),    F(version)};
+                 F(table_heading),    F(table_line),       F(table_refused),    F(table_total),    F(version),
+                 F(old_rules)};
 enum { FUNCTIONS = sizeof functions / sizeof *functions };
 
 static uint8_t *bottom;
@@ -170,6 +173,7 @@ static void *all(void *unused)
     for (size_t i = 1; i < 40; i += 2) states[i] = 1;
     row[0] = 1;
     call(empty_queue);
+    call(old_rules);
     booleans();
     vectors();
     by_hand();

@@ -104,4 +104,9 @@ void do_changes(void)
     end_line(0);
 }
 
-int main(void) { return answer_cases(); }
+int main(int count, char **words)
+{
+    (void)words;
+    equal_branches = count > 1;
+    return answer_cases();
+}

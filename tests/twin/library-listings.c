@@ -26,7 +26,7 @@ void do_listing(void)
 {
     Asked a = take_asked();
     Bytes times = take_bytes(), out = lend(take_number());
-    say_text(dachsmond_list(a.names, a.n, a.tree.at, a.tree.length, (const uint64_t *)times.at, times.length / 8,
+    say_text(dachsmond_list(rules, a.names, a.n, a.tree.at, a.tree.length, (const uint64_t *)times.at, times.length / 8,
                             a.states.at, a.states.length, out.at, out.length), out);
 }
 
@@ -40,7 +40,7 @@ void do_line(void)
 {
     Asked a = take_asked();
     Bytes pattern = take_bytes(), out = lend(take_number());
-    say_text(dachsmond_table_line(a.names, a.n, a.tree.at, a.tree.length, a.states.at, a.states.length, pattern.at,
+    say_text(dachsmond_table_line(rules, a.names, a.n, a.tree.at, a.tree.length, a.states.at, a.states.length, pattern.at,
                                   pattern.length, out.at, out.length), out);
 }
 

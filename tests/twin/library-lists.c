@@ -41,7 +41,7 @@ void do_listed_fits(void)
 void do_listed_row(void)
 {
     Asked a = take_asked();
-    dachsmond_matched r = dachsmond_listed_match_row(a.names, a.n, TREE(a), LISTS(a), STATES(a), take_number());
+    dachsmond_matched r = dachsmond_listed_match_row(rules, a.names, a.n, TREE(a), LISTS(a), STATES(a), take_number());
     if (!refused(r.number, r.place, r.answer | r.tries)) printf("row %u %u", r.answer, r.tries);
     end_line(0);
 }
@@ -50,7 +50,7 @@ void do_listed_all(void)
 {
     Asked a = take_asked();
     Bytes out = lend(take_number()), tried = lend(4 * take_number());
-    dachsmond_told r = dachsmond_listed_match_all(a.names, a.n, TREE(a), LISTS(a), STATES(a), out.at, out.length,
+    dachsmond_told r = dachsmond_listed_match_all(rules, a.names, a.n, TREE(a), LISTS(a), STATES(a), out.at, out.length,
                                                   (uint32_t *)tried.at, tried.length / 4);
     if (!refused(r.number, r.place, r.count)) printf("done %zu", r.count);
     end_line(sum_of(sum_of(0, out.at, out.length), tried.at, tried.length));
@@ -59,7 +59,7 @@ void do_listed_all(void)
 void do_listed_totals(void)
 {
     Asked a = take_asked();
-    dachsmond_counted r = dachsmond_listed_totals(a.names, a.n, TREE(a), LISTS(a), STATES(a));
+    dachsmond_counted r = dachsmond_listed_totals(rules, a.names, a.n, TREE(a), LISTS(a), STATES(a));
     if (!refused(r.number, r.place, r.yes | r.no | r.unknown)) printf("totals %u %u %u", r.yes, r.no, r.unknown);
     end_line(0);
 }
@@ -75,8 +75,8 @@ static dachsmond_queue take_queue(void)
 
 static dachsmond_pushed push(const Asked *a, int listed, dachsmond_queue queue, const uint8_t *row, size_t size)
 {
-    if (listed) return dachsmond_listed_push(a->names, TREE((*a)), LISTS((*a)), queue, row, size);
-    return dachsmond_push(a->names, TREE((*a)), queue, row, size);
+    if (listed) return dachsmond_listed_push(rules, a->names, TREE((*a)), LISTS((*a)), queue, row, size);
+    return dachsmond_push(rules, a->names, TREE((*a)), queue, row, size);
 }
 
 /* Rows of a size, one after the other, up to the first that is refused; a row of no states is one push. */

@@ -19,7 +19,7 @@ void do_values(void)
 {
     Asked a = take_asked();
     Bytes out = lend(take_number());
-    dachsmond_told r = dachsmond_values(ASKED(a), out.at, out.length);
+    dachsmond_told r = dachsmond_values(rules, ASKED(a), out.at, out.length);
     if (!refused(r.number, r.place, r.count)) printf("done %zu", r.count);
     end_line(sum_of(0, out.at, out.length));
 }
@@ -28,8 +28,8 @@ void do_row_state(void)
 {
     Asked a = take_asked();
     uint32_t row = take_number();
-    dachsmond_told s = dachsmond_row_state(ASKED(a), row);
-    dachsmond_told v = dachsmond_row_value(ASKED(a), row);
+    dachsmond_told s = dachsmond_row_state(rules, ASKED(a), row);
+    dachsmond_told v = dachsmond_row_value(rules, ASKED(a), row);
     if (s.number != v.number || s.place != v.place) printf("two refusals");
     else if (!refused(s.number, s.place, s.count | v.count)) printf("row %zu %zu", s.count, v.count);
     end_line(0);
@@ -39,7 +39,7 @@ void do_row_answer(void)
 {
     Asked a = take_asked();
     uint32_t row = take_number();
-    dachsmond_answered r = dachsmond_row_answer(ASKED(a), row);
+    dachsmond_answered r = dachsmond_row_answer(rules, ASKED(a), row);
     if (!refused(r.number, r.place, r.answer)) printf("row %u", r.answer);
     end_line(0);
 }
@@ -48,7 +48,7 @@ void do_window(void)
 {
     Asked a = take_asked();
     uint32_t from = take_number(), to = take_number();
-    dachsmond_answered r = dachsmond_window_answer(ASKED(a), from, to);
+    dachsmond_answered r = dachsmond_window_answer(rules, ASKED(a), from, to);
     if (!refused(r.number, r.place, r.answer)) printf("window %u", r.answer);
     end_line(0);
 }
@@ -56,7 +56,7 @@ void do_window(void)
 void do_match_row(void)
 {
     Asked a = take_asked();
-    dachsmond_matched r = dachsmond_match_row(ASKED(a), take_number());
+    dachsmond_matched r = dachsmond_match_row(rules, ASKED(a), take_number());
     if (!refused(r.number, r.place, r.answer | r.tries)) printf("row %u %u", r.answer, r.tries);
     end_line(0);
 }
@@ -66,7 +66,7 @@ void do_match_all(void)
     Asked a = take_asked();
     Bytes out = lend(take_number()), tried = lend(4 * take_number());
     dachsmond_told r =
-        dachsmond_match_all(ASKED(a), out.at, out.length, (uint32_t *)tried.at, tried.length / 4);
+        dachsmond_match_all(rules, ASKED(a), out.at, out.length, (uint32_t *)tried.at, tried.length / 4);
     if (!refused(r.number, r.place, r.count)) printf("done %zu", r.count);
     end_line(sum_of(sum_of(0, out.at, out.length), tried.at, tried.length));
 }
@@ -74,7 +74,7 @@ void do_match_all(void)
 void do_totals(void)
 {
     Asked a = take_asked();
-    dachsmond_counted r = dachsmond_totals(ASKED(a));
+    dachsmond_counted r = dachsmond_totals(rules, ASKED(a));
     if (!refused(r.number, r.place, r.yes | r.no | r.unknown)) printf("totals %u %u %u", r.yes, r.no, r.unknown);
     end_line(0);
 }
@@ -85,7 +85,7 @@ void do_correction(void)
     Bytes answers = take_bytes();
     uint32_t row = take_number();
     Bytes fresh = take_bytes();
-    dachsmond_told r = dachsmond_correct(ASKED(a), answers.at, answers.length, row, fresh.at, fresh.length);
+    dachsmond_told r = dachsmond_correct(rules, ASKED(a), answers.at, answers.length, row, fresh.at, fresh.length);
     if (!refused(r.number, r.place, r.count)) printf("done %zu", r.count);
     end_line(sum_of(sum_of(0, a.states.at, a.states.length), answers.at, answers.length));
 }

@@ -73,4 +73,12 @@ void do_changes(void)
     end_line(0);
 }
 
-int main(void) { return answer_cases(); }
+dachsmond_rules rules;
+
+int main(int count, char **words)
+{
+    (void)words;
+    rules = dachsmond_old_rules();
+    if (count > 1) rules.equal_branches = true;
+    return answer_cases();
+}

@@ -5,6 +5,9 @@
 #include "calls.h"
 #include "lines.h"
 
+/* The rules of every call that evaluates: the new ones where the program has an argument. */
+extern dachsmond_rules rules;
+
 /* Whether a call was refused, which is said; the other fields of what it tells are 0 then. */
 bool refused(unsigned number, size_t place, uint64_t others);
 #endif

@@ -73,6 +73,7 @@ long tries_at(const Alternatives *all, const Trace *trace, long row);
 
 /* windows.c */
 int reduce(int state);
+extern int equal_branches; /* the rule for a ternary of an unknown choice; the program's argument sets it */
 int value_at(const Node *node, const Trace *trace, long row);
 int state_at(const Node *node, const Trace *trace, long row);
 int edge_answer(int edge, int from, int to);

@@ -54,6 +54,9 @@ int state_at(const Node *n, const Trace *t, long row)
     return n->kind == NAME ? t->states[row * t->names + n->code] : value_at(n, t, row);
 }
 
+/* By the rule of equal branches a ternary of an unknown choice has its branches' value where both have the same. */
+int equal_branches;
+
 int value_at(const Node *n, const Trace *t, long row)
 {
     if (n->kind == NAME) return reduce(state_at(n, t, row));
@@ -61,7 +64,9 @@ int value_at(const Node *n, const Trace *t, long row)
     if (n->kind == NOT) return not_of(reduce(value_at(n->a, t, row)));
     if (n->kind == ASK) {
         int c = reduce(value_at(n->a, t, row));
-        return c == X ? X : value_at(c == 1 ? n->b : n->c, t, row);
+        if (c != X) return value_at(c == 1 ? n->b : n->c, t, row);
+        int b = value_at(n->b, t, row);
+        return equal_branches && b == value_at(n->c, t, row) ? b : X;
     }
     return operated(n->kind, state_at(n->a, t, row), state_at(n->b, t, row));
 }

@@ -8,6 +8,7 @@ use mathlib.Core.Path.{_≡_, refl}
 use mathlib.Core.Bool.{true}
 use mathlib.Core.List.{[], _∷_}
 use Rattle.basics.specs.Words.{greatest, least, some, all}
+use Rattle.alf.specs.declared.Rules.{Rules}
 use Rattle.alf.specs.States.{X, U, reduce, table, among, matches, inCells, inLines, relations}
 use Rattle.alf.specs.Expressions.{edge, join, while, with, on-right, Vector}
 use Rattle.alf.specs.Values.{value, recordedOr, state, stateAt}
@@ -33,31 +34,32 @@ pub not-dropped-contradictory : contradictory 1 both-one ≡ true
 unfolding contradictory possible literalsAt halves isName some all asked digitAsked letterAsked reduce
 not-dropped-contradictory = refl
 
-pub not-dropped : rowAnswer (stateAt 1 (X ∷ X ∷ [])) both 1 ≡ 2
+pub not-dropped : (ρ : Rules) → rowAnswer (stateAt ρ 1 (X ∷ X ∷ [])) both 1 ≡ 2
 unfolding rowAnswer numbered best answer joined together greatest value recordedOr state edgeOn asked digitAsked
     letterAsked reduce
-not-dropped = refl
+not-dropped ρ = refl
 
-pub not-left-aligned : rowAnswer (stateAt names states) (join with (edge fall C) pulse) 2 ≡ 2
+pub not-left-aligned : (ρ : Rules) → rowAnswer (stateAt ρ names states) (join with (edge fall C) pulse) 2 ≡ 2
 unfolding states rowAnswer numbered best answer joined together followedBy greatest value recordedOr state edgeOn
     asked digitAsked letterAsked reduce
-not-left-aligned = refl
+not-left-aligned ρ = refl
 
-pub not-last-row-only : rowAnswer (stateAt names states) (while on-right pulse A) 2 ≡ 0
+pub not-last-row-only : (ρ : Rules) → rowAnswer (stateAt ρ names states) (while on-right pulse A) 2 ≡ 0
 unfolding states rowAnswer numbered best answer joined followedBy greatest least held certainty value recordedOr state
     edgeOn asked digitAsked letterAsked reduce
-not-last-row-only = refl
+not-last-row-only ρ = refl
 
 pub u-equals-u : relations U U .equal ≡ X
 unfolding relations table inLines inCells among matches
 u-equals-u = refl
 
-pub not-only-row-r : rowAnswer (stateAt names (corrected names states 3 (0 ∷ 0 ∷ 1 ∷ []))) (edge rise A) 4 ≡ 1
+pub not-only-row-r : (ρ : Rules)
+    → rowAnswer (stateAt ρ names (corrected names states 3 (0 ∷ 0 ∷ 1 ∷ []))) (edge rise A) 4 ≡ 1
 unfolding states corrected rowAnswer numbered best answer greatest value recordedOr state edgeOn asked digitAsked
     letterAsked reduce
-not-only-row-r = refl
+not-only-row-r ρ = refl
 
-pub not-only-row-r-before : rowAnswer (stateAt names states) (edge rise A) 4 ≡ 2
+pub not-only-row-r-before : (ρ : Rules) → rowAnswer (stateAt ρ names states) (edge rise A) 4 ≡ 2
 unfolding states rowAnswer numbered best answer greatest value recordedOr state edgeOn asked digitAsked letterAsked
     reduce
-not-only-row-r-before = refl
+not-only-row-r-before ρ = refl

@@ -13,6 +13,7 @@ use native.Mathlib.Omega.{arith}
 use lib.ListN.{length, getD, take, drop, List·getD-append}
 use lib.Seq.{getD-take, getD-drop, getD-append-add, length-take-le}
 use Rattle.basics.specs.Words.{greatestOf}
+use Rattle.alf.specs.declared.Rules.{Rules}
 use Rattle.alf.specs.Expressions.{Vector, Over, VectorOver}
 use Rattle.alf.specs.Values.{rowOf, stateAt}
 use Rattle.alf.specs.Windows.{rowAnswer}
@@ -54,21 +55,21 @@ pub record SameRows (names K : ℕ) (states states′ : List ℕ) (i j : ℕ) : 
 
 module _ (names : ℕ) (p : Vector) (over : VectorOver names p) (states states′ : List ℕ) (i j : ℕ)
     (s : SameRows names (stepsOf p) states states′ i j) where
-  near : Near (Over names) (stateAt names states) (stateAt names states′) (stepsOf p) i j
-  near = record { room = s .room; agree = λ d h k c o. state-same names _ _ (λ n l. s .same d n h k l) c o }
+  near : (ρ : Rules) → Near (Over names) (stateAt ρ names states) (stateAt ρ names states′) (stepsOf p) i j
+  near ρ = record { room = s .room; agree = λ d h k c o. state-same names _ _ (λ n l. s .same d n h k l) _ c o }
 
   asks : All (Asks (Over names)) (alternatives p)
   asks = alternatives-ask (Over names) p (over-asked names p over)
 
-  pub rows-near : rowAnswer (stateAt names states) p i ≡ rowAnswer (stateAt names states′) p j
-  rows-near =
-      same-answer (stateAt names states) p i
-      ∙ answers-near _ _ _ (stepsOf p) i j (alternatives p) (steps-pos p) near asks (steps-within p)
-      ∙ sym (same-answer (stateAt names states′) p j)
+  pub rows-near : (ρ : Rules) → rowAnswer (stateAt ρ names states) p i ≡ rowAnswer (stateAt ρ names states′) p j
+  rows-near ρ =
+      same-answer (stateAt ρ names states) p i
+      ∙ answers-near _ _ _ (stepsOf p) i j (alternatives p) (steps-pos p) (near ρ) asks (steps-within p)
+      ∙ sym (same-answer (stateAt ρ names states′) p j)
 
-  pub rows-near-tries :
-      tries (stateAt names states) (alternatives p) i ≡ tries (stateAt names states′) (alternatives p) j
-  rows-near-tries = tries-near _ _ _ (stepsOf p) i j (alternatives p) (steps-pos p) near asks (steps-within p)
+  pub rows-near-tries : (ρ : Rules) →
+      tries (stateAt ρ names states) (alternatives p) i ≡ tries (stateAt ρ names states′) (alternatives p) j
+  rows-near-tries ρ = tries-near _ _ _ (stepsOf p) i j (alternatives p) (steps-pos p) (near ρ) asks (steps-within p)
 
 -- A corrected trace.
 module _ (names : ℕ) (states new : List ℕ) (r : ℕ)
@@ -118,11 +119,11 @@ module _ (names : ℕ) (states new : List ℕ) (r : ℕ)
       go (inl l) = before i n l h
       go (inr l) = after i n (omega (arith, d)) h
 
-  pub correction-elsewhere : (p : Vector) → VectorOver names p → (i : ℕ) → (i < r) ⊎ (r + stepsOf p < i)
-      → rowAnswer (stateAt names (corrected names states r new)) p i ≡ rowAnswer (stateAt names states) p i
-  correction-elsewhere p o i w =
+  pub correction-elsewhere : (ρ : Rules) (p : Vector) → VectorOver names p → (i : ℕ) → (i < r) ⊎ (r + stepsOf p < i)
+      → rowAnswer (stateAt ρ names (corrected names states r new)) p i ≡ rowAnswer (stateAt ρ names states) p i
+  correction-elsewhere ρ p o i w =
       rows-near names p o (corrected names states r new) states i i
-      (record { room = refl; same = λ d n h k l. corrected-other (i - d) n (apart w d h k) l })
+      (record { room = refl; same = λ d n h k l. corrected-other (i - d) n (apart w d h k) l }) _
     where
       apart : (i < r) ⊎ (r + stepsOf p < i) → (d : ℕ) → d ≤ stepsOf p → d ≤ i → i - d ≡ r → ⊥
       apart (inl l) d h k e = omega arith

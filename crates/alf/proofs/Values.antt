@@ -6,6 +6,7 @@
 use Prim.Native.Nat.{ℕ, zero, suc, _<_}
 use mathlib.Core.Path.{_≡_, refl, ap, sym, _∙_}
 use lib.ListN.{getD}
+use Rattle.alf.specs.declared.Rules.{Rules}
 use Rattle.alf.specs.States.{reduce, notOf}
 use Rattle.alf.specs.Expressions.{Boolean, name, literal, negated, binary, choice, Binary, Over}
 use Rattle.alf.specs.Values.{operate, chosen, value, recordedOr, state}
@@ -31,35 +32,35 @@ reduce-twice (suc (suc (suc (suc (suc (suc (suc zero))))))) = refl
 reduce-twice (suc (suc (suc (suc (suc (suc (suc (suc s)))))))) = refl
 
 module _ (row : ℕ → ℕ) where
-  pub value-settled : (e : Boolean) → value row e ≡ settled e (state row e)
+  pub value-settled : (ρ : Rules) (e : Boolean) → value ρ row e ≡ settled e (state ρ row e)
   unfolding settled value state recordedOr
-  value-settled (name i) = refl
-  value-settled (literal l) = refl
-  value-settled (negated a) = refl
-  value-settled (binary o a b) = refl
-  value-settled (choice c a b) = refl
+  value-settled ρ (name i) = refl
+  value-settled ρ (literal l) = refl
+  value-settled ρ (negated a) = refl
+  value-settled ρ (binary o a b) = refl
+  value-settled ρ (choice c a b) = refl
 
-  pub reduce-value : (e : Boolean) → reduce (value row e) ≡ reduce (state row e)
+  pub reduce-value : (ρ : Rules) (e : Boolean) → reduce (value ρ row e) ≡ reduce (state ρ row e)
   unfolding value state recordedOr
-  reduce-value (name i) = reduce-twice (row i)
-  reduce-value (literal l) = refl
-  reduce-value (negated a) = refl
-  reduce-value (binary o a b) = refl
-  reduce-value (choice c a b) = refl
+  reduce-value ρ (name i) = reduce-twice (row i)
+  reduce-value ρ (literal l) = refl
+  reduce-value ρ (negated a) = refl
+  reduce-value ρ (binary o a b) = refl
+  reduce-value ρ (choice c a b) = refl
 
-  pub state-negated : (a : Boolean) → state row (negated a) ≡ notOf (state row a)
+  pub state-negated : (ρ : Rules) (a : Boolean) → state ρ row (negated a) ≡ notOf (state ρ row a)
   unfolding state value recordedOr notOf
-  state-negated a = rw (reduce-value a) refl
+  state-negated ρ a = rw (reduce-value ρ a) refl
 
-  pub state-binary : (o : Binary) (a b : Boolean)
-      → state row (binary o a b) ≡ operate o (state row a) (state row b)
+  pub state-binary : (ρ : Rules) (o : Binary) (a b : Boolean)
+      → state ρ row (binary o a b) ≡ operate o (state ρ row a) (state ρ row b)
   unfolding state value recordedOr
-  state-binary o a b = refl
+  state-binary ρ o a b = refl
 
-  pub state-choice : (c a b : Boolean)
-      → state row (choice c a b) ≡ chosen (state row c) (value row a) (value row b)
+  pub state-choice : (ρ : Rules) (c a b : Boolean)
+      → state ρ row (choice c a b) ≡ chosen ρ (state ρ row c) (value ρ row a) (value ρ row b)
   unfolding state value recordedOr chosen
-  state-choice c a b = rw (reduce-value c) refl
+  state-choice ρ c a b = rw (reduce-value ρ c) refl
 
 -- rows that agree on the first n names
 module _ (n : ℕ) (row row′ : ℕ → ℕ) (h : (i : ℕ) → i < n → row i ≡ row′ i) where
@@ -71,15 +72,15 @@ module _ (n : ℕ) (row row′ : ℕ → ℕ) (h : (i : ℕ) → i < n → row i
   recorded-same (binary k a b) o e = e
   recorded-same (choice c a b) o e = e
 
-  pub value-same : (c : Boolean) → Over n c → value row c ≡ value row′ c
+  pub value-same : (ρ : Rules) (c : Boolean) → Over n c → value ρ row c ≡ value ρ row′ c
   unfolding value Over
-  value-same (name i) o = ap reduce (h i o)
-  value-same (literal l) o = refl
-  value-same (negated a) o = ap notOf (value-same a o)
-  value-same (binary k a b) o =
-      rw (recorded-same a (o .0) (value-same a (o .0)), recorded-same b (o .1) (value-same b (o .1))) refl
-  value-same (choice c a b) o = rw (value-same c (o .0), value-same a (o .1), value-same b (o .2)) refl
+  value-same ρ (name i) o = ap reduce (h i o)
+  value-same ρ (literal l) o = refl
+  value-same ρ (negated a) o = ap notOf (value-same ρ a o)
+  value-same ρ (binary k a b) o =
+      rw (recorded-same a (o .0) (value-same ρ a (o .0)), recorded-same b (o .1) (value-same ρ b (o .1))) refl
+  value-same ρ (choice c a b) o = rw (value-same ρ c (o .0), value-same ρ a (o .1), value-same ρ b (o .2)) refl
 
-  pub state-same : (c : Boolean) → Over n c → state row c ≡ state row′ c
+  pub state-same : (ρ : Rules) (c : Boolean) → Over n c → state ρ row c ≡ state ρ row′ c
   unfolding state
-  state-same c o = recorded-same c o (value-same c o)
+  state-same ρ c o = recorded-same c o (value-same ρ c o)

@@ -9,6 +9,7 @@ use mathlib.Core.Bool.{Bool, true, _&&_}
 use mathlib.Core.List.{List, [], _∷_, _++_}
 use Rattle.basics.specs.Words.{listed, same}
 use Rattle.basics.specs.Text.{bytes}
+use Rattle.alf.specs.declared.Rules.{Rules}
 use Rattle.alf.specs.States.{X, H, Z}
 use Rattle.alf.specs.Expressions.{Boolean, name, literal, binary, choice, and, or, equals}
 use Rattle.alf.specs.Expressions.{the, Edge, pair, changes}
@@ -101,17 +102,17 @@ cases =
     ∷ []
 
 -- the numbers that a vector expression answers on a trace of six rows, and the entries that a correction rewrites
-abbrev pub numbers : List ℕ → Vector → List ℕ
-numbers trace p = listed 0 rows (rowAnswer (stateAt names trace) p)
+abbrev pub numbers : Rules → List ℕ → Vector → List ℕ
+numbers ρ trace p = listed 0 rows (rowAnswer (stateAt ρ names trace) p)
 
 abbrev pub entries : Vector → ℕ → List ℕ
 entries p r = listed r (lastRewritten (stepsOf p) rows r + 1 - r) (λ i. i)
 
-unfoldable pub holds : Case → Bool
-holds (answers text p ns) = same (numbers states p) ns
-holds (values text c vs) = same (listed 0 rows (valueAt names states c)) vs
-holds (correction text p r new ns es) = same (numbers (corrected names states r new) p) ns && same (entries p r) es
+unfoldable pub holds : Rules → Case → Bool
+holds ρ (answers text p ns) = same (numbers ρ states p) ns
+holds ρ (values text c vs) = same (listed 0 rows (valueAt ρ names states c)) vs
+holds ρ (correction text p r new ns es) = same (numbers ρ (corrected names states r new) p) ns && same (entries p r) es
 
-unfoldable pub allHold : List Case → Bool
-allHold [] = true
-allHold (c ∷ cs) = holds c && allHold cs
+unfoldable pub allHold : Rules → List Case → Bool
+allHold ρ [] = true
+allHold ρ (c ∷ cs) = holds ρ c && allHold ρ cs

@@ -1,4 +1,4 @@
-// What every crate of the project speaks of: answers, sorts, rows and times.
+// What every crate of the project speaks of: answers, sorts, rows and times, and the rules of evaluation.
 
 // What a row answers.
 pub enum Answer {
@@ -18,3 +18,10 @@ pub enum Sort {
 pub struct RowNo(pub u32);
 
 pub struct Stamp(pub u64);
+
+// The rules that every call which evaluates takes, held fixed through a trace and its corrections.
+#[repr(C)]
+pub struct Rules {
+    // The value of `c ? a : b` where c is unknown: the branches' value if it is the same, or X always.
+    pub equal_branches: bool,
+}

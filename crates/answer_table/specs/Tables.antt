@@ -14,6 +14,7 @@ use mathlib.Core.List.{List}
 use lib.Dec.{eqb, ltb}
 use lib.ListN.{length, getD}
 use Rattle.basics.specs.Words.{if_then_else_}
+use Rattle.alf.specs.declared.Rules.{Rules}
 use Rattle.alf.specs.Expressions.{Edge}
 use Rattle.alf.specs.Windows.{Window, NO, edgeOn, held, joined}
 use Rattle.alf.specs.Decoder.{edgeAt, joinAt}
@@ -44,8 +45,9 @@ pub record Rows (states : List ℕ) (names first size : ℕ) : Type 0 where
   pub last : Within states names (first + size)
 
 -- the state there of the boolean expression that ends at `end`
-pub record Column (tree : List ℕ) (names : ℕ) (states : List ℕ) (end first size : ℕ) (r : List ℕ) : Type 0 where
-  pub is : (i : ℕ) → i ≤ size → IsState (stateOf tree names states end (first + i)) (entry r i)
+pub record Column (ρ : Rules) (tree : List ℕ) (names : ℕ) (states : List ℕ) (end first size : ℕ)
+    (r : List ℕ) : Type 0 where
+  pub is : (i : ℕ) → i ≤ size → IsState (stateOf ρ tree names states end (first + i)) (entry r i)
   pub long : length r ≡ 17
 
 -- a state at row m

@@ -6,6 +6,7 @@ ghost use Rattle.alf.specs.Windows.{certainty};
 ghost use Rattle.alf.specs.Decoder.{edgeAt};
 ghost use Rattle.trees.specs.Parts.{EndsBoolean};
 ghost use Rattle.answer_table.specs.Tables.{Rows, Column, Cell, Cells, SoFar, entry, edgeOver, leafOver};
+use alf::Rules;
 use evaluator::values::state;
 use states::edges::certainty_of;
 use states::edges::edge_on;
@@ -13,6 +14,7 @@ use states::edges::lesser;
 
 // The states of the expression that ends at `end`, at the rows first to first + size.
 pub fn column(
+    rules: Rules,
     tree: &[u8],
     end: usize,
     states: &[u8],
@@ -22,12 +24,12 @@ pub fn column(
 ) -> [u8; 17]
     requires { ⌜ EndsBoolean (now tree) names end ⌝ }
     requires { ⌜ Rows (now states) names first size ⌝ }
-    ensures { λ r. ⌜ Column (now (tree .entry)) names (now (states .entry)) end first size r ⌝ }
+    ensures { λ r. ⌜ Column rules (now (tree .entry)) names (now (states .entry)) end first size r ⌝ }
 {
     let mut list = [0u8; 17];
     let mut i = 0;
     while i <= size {
-        list[i] = state(tree, end, states, names, first + i);
+        list[i] = state(rules, tree, end, states, names, first + i);
         i += 1;
     }
     list

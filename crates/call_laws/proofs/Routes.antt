@@ -12,6 +12,7 @@ use native.Mathlib.Numerals.{add-one}
 use native.Mathlib.Nat.{suc-mul, zero-mul}
 use native.Mathlib.Omega.{arith}
 use lib.ListN.{length, take, length-append}
+use Rattle.alf.specs.declared.Rules.{Rules}
 use Rattle.alf.specs.declared.Answer.{Answer}
 use Rattle.alf.specs.declared.Answer.the-variants.{NoEvent}
 use Rattle.alf.specs.declared.Sort.the-variants.{Vector}
@@ -51,19 +52,19 @@ unfolding Passed
 codes-passed states x y s = (λ p a. a .given x, (λ p a. a .given y, (codes-never states s, tt)))
 
 -- the answer at a row, and the number tried
-abbrev pub FoundAt : ℕ → List ℕ → List ℕ → ℕ → Matching → Type 0
-FoundAt names tree states row = FoundAs (answersOn names tree states row) (triesOn names tree states row)
+abbrev pub FoundAt : Rules → ℕ → List ℕ → List ℕ → ℕ → Matching → Type 0
+FoundAt ρ names tree states row = FoundAs (answersOn ρ names tree states row) (triesOn ρ names tree states row)
 
 module _ {names n : ℕ} {tree states : List ℕ} {row : ℕ} (l : Rows names n (length states))
     (a : Accepted names Vector tree) (s : Codes states) (h : row < n) where
-  pub answered : (x : Told) → RowAnswer names n tree states row x
-      → AnsweredAs (answersOn names tree states row) x
+  pub answered : {ρ : Rules} (x : Told) → RowAnswer ρ names n tree states row x
+      → AnsweredAs (answersOn ρ names tree states row) x
   unfolding Tells
   answered (told.Answered b) w = record { answer = b; is = refl; numbered = w .comes .1 }
   answered (told.Refused r) w = absurd (refused-passed _ _ _ (row-passed states n row l a s h) (w .comes .by))
 
-  pub matched : (y : Matching) → RowMatch names n tree states row y
-      → FoundAt names tree states row y
+  pub matched : {ρ : Rules} (y : Matching) → RowMatch ρ names n tree states row y
+      → FoundAt ρ names tree states row y
   unfolding Finds
   matched (Found m) w =
       let d = w .comes .1 .count in
@@ -74,12 +75,12 @@ module _ {names n : ℕ} {tree states : List ℕ} {row : ℕ} (l : Rows names n 
       }
   matched (Refused r) w = absurd (refused-passed _ _ _ (row-passed states n row l a s h) (w .comes .by))
 
-taken : {names : ℕ} {tree : List ℕ} {q : Queue} {row : List ℕ} {q′ : Queue} → Handed names tree q
-    → RowFits names (length row) → Codes row → (z : Matching) → Push names tree q row z q′
-    → (m : Matched) × ((z ≡ Found m) × PushesTree names tree q row (m .answer) (m .tries) q′)
+taken : {ρ : Rules} {names : ℕ} {tree : List ℕ} {q : Queue} {row : List ℕ} {q′ : Queue} → Handed names tree q
+    → RowFits names (length row) → Codes row → (z : Matching) → Push ρ names tree q row z q′
+    → (m : Matched) × ((z ≡ Found m) × PushesTree ρ names tree q row (m .answer) (m .tries) q′)
 unfolding Takes
 taken h f s (Found m) w = (m, (refl, w .comes .1))
-taken {names} {tree} {q} {row} h f s (Refused r) w =
+taken {ρ} {names} {tree} {q} {row} h f s (Refused r) w =
     absurd (refused-passed (pushOrder names tree q row) _ _ (codes-passed row f h s) (w .comes .0 .by))
 
 -- K: the steps of the longest alternative
@@ -103,8 +104,8 @@ holding-first names k q e =
     }
 
 module _ {names : ℕ} (tree : List ℕ) {q : Queue} {row : List ℕ} {a : Answer} {t : ℕ} {q′ : Queue} where
-  pub push-holds : Holding names (K tree names) q → length row ≡ names → Codes row
-      → PushesTree names tree q row a t q′ → Holding names (K tree names) q′
+  pub push-holds : {ρ : Rules} → Holding names (K tree names) q → length row ≡ names → Codes row
+      → PushesTree ρ names tree q row a t q′ → Holding names (K tree names) q′
   unfolding lastRows stepsOf
   push-holds h f s p =
       let kept = q .kept .0 in
@@ -136,18 +137,18 @@ fed-codes rows (suc n) h =
     codes-append (fed rows n) (rows n) (fed-codes rows n (λ i l. h i (omega arith))) (h n (omega arith))
 
 -- A feed of good rows, one push after the other, the first into a queue that keeps nothing.
-module _ {names n : ℕ} {tree : List ℕ} {rows : ℕ → List ℕ} {queues : ℕ → Queue}
+module _ {ρ : Rules} {names n : ℕ} {tree : List ℕ} {rows : ℕ → List ℕ} {queues : ℕ → Queue}
     {results : ℕ → Matching}
     (some : NameCount names) (accepted : Accepted names Vector tree) (first : queues 0 .kept .0 ≡ 0)
     (full : (i : ℕ) → i < n → length (rows i) ≡ names) (good : (i : ℕ) → i < n → Codes (rows i))
-    (pushed : (i : ℕ) → i < n → Push names tree (queues i) (rows i) (results i) (queues (suc i))) where
+    (pushed : (i : ℕ) → i < n → Push ρ names tree (queues i) (rows i) (results i) (queues (suc i))) where
   handed : (q : Queue) → Holding names (K tree names) q → Handed names tree q
   unfolding stepsOf
   handed q h = record { accepted = accepted; kept = record { few = h .few; codes = h .codes } }
 
   goes-on : (i : ℕ) (l : i < n) → Holding names (K tree names) (queues i)
       → (m : Matched)
-      × ((results i ≡ Found m) × PushesTree names tree (queues i) (rows i) (m .answer) (m .tries) (queues (suc i)))
+      × ((results i ≡ Found m) × PushesTree ρ names tree (queues i) (rows i) (m .answer) (m .tries) (queues (suc i)))
   goes-on i l h =
       taken (handed (queues i) h) (record { name-count = some; full = full i l }) (good i l) (results i) (pushed i l)
 
@@ -164,12 +165,13 @@ module _ {names n : ℕ} {tree : List ℕ} {rows : ℕ → List ℕ} {queues : �
       let e = goes-on i l (holding i (omega arith)) .1 .0 in e ∙ sym (ap (λ (z : Matching). Found (told-by z)) e)
 
   taken-pushes : (i : ℕ) → i < n
-      → Push names tree (queues i) (rows i) (Found (told-by (results i))) (queues (suc i))
+      → Push ρ names tree (queues i) (rows i) (Found (told-by (results i))) (queues (suc i))
   taken-pushes i l =
-      subst (λ (z : Matching). Push names tree (queues i) (rows i) z (queues (suc i))) (never-refused i l) (pushed i l)
+      subst (λ (z : Matching). Push ρ names tree (queues i) (rows i) z (queues (suc i))) (never-refused i l)
+      (pushed i l)
 
   -- each push answers for its row
-  pub pushed-found : (i : ℕ) → i < n → FoundAt names tree (fed rows n) i (results i)
+  pub pushed-found : (i : ℕ) → i < n → FoundAt ρ names tree (fed rows n) i (results i)
   pushed-found i l =
       let r = push-answers accepted first full taken-pushes i l in
       let answer = told-by (results i) .answer in
@@ -184,10 +186,10 @@ module _ {names n : ℕ} {tree : List ℕ} {rows : ℕ → List ℕ} {queues : �
     fits : Rows names n (length (fed rows n))
     fits = record { name-count = some; row-count = enough; all = fed-length names rows n full }
 
-    pub three-routes : (x : Told) → RowAnswer names n tree (fed rows n) i x
-        → (y : Matching) → RowMatch names n tree (fed rows n) i y
-        → AnsweredAs (answersOn names tree (fed rows n) i) x
-        × FoundAt names tree (fed rows n) i y × FoundAt names tree (fed rows n) i (results i)
+    pub three-routes : (x : Told) → RowAnswer ρ names n tree (fed rows n) i x
+        → (y : Matching) → RowMatch ρ names n tree (fed rows n) i y
+        → AnsweredAs (answersOn ρ names tree (fed rows n) i) x
+        × FoundAt ρ names tree (fed rows n) i y × FoundAt ρ names tree (fed rows n) i (results i)
     three-routes x w y k =
         let s = fed-codes rows n good in
         (answered fits accepted s l x w, matched fits accepted s l y k, pushed-found i l)

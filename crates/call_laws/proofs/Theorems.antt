@@ -11,6 +11,7 @@ use Prim.Native.Nat.{ℕ, suc, _+_, _-_, _*_, _<_, _≤_}
 use native.Mathlib.Nat.{suc-mul, mul-le-mul-right}
 use native.Mathlib.Omega.{arith}
 use lib.ListN.{length, getD}
+use Rattle.alf.specs.declared.Rules.{Rules}
 use Rattle.alf.specs.declared.Answer.{Answer}
 use Rattle.alf.specs.declared.Sort.{Sort}
 use Rattle.alf.specs.declared.Sort.the-variants as sort
@@ -89,11 +90,11 @@ expression-over names tree a = go (a .expression) (accepted-decodes a) (a .sorte
 
 -- Three routes: where every push of the rows of a trace is taken, the answer as written, the answer by alternatives
 -- and the answer of push i are one, and the numbers tried are one.
-module _ {names n : ℕ} {tree : List ℕ} {rows : ℕ → List ℕ} {queues : ℕ → Queue} {told : ℕ → Matched}
+module _ {ρ : Rules} {names n : ℕ} {tree : List ℕ} {rows : ℕ → List ℕ} {queues : ℕ → Queue} {told : ℕ → Matched}
     (accepted : Accepted names sort.Vector tree) (first : queues 0 .kept .0 ≡ 0)
     (full : (i : ℕ) → i < n → length (rows i) ≡ names)
-    (pushed : (i : ℕ) → i < n → Push names tree (queues i) (rows i) (Found (told i)) (queues (suc i))) where
-  feed : Feed names (alternatives (expression tree names)) n rows queues (λ i. told i .answer) (λ i. told i .tries)
+    (pushed : (i : ℕ) → i < n → Push ρ names tree (queues i) (rows i) (Found (told i)) (queues (suc i))) where
+  feed : Feed ρ names (alternatives (expression tree names)) n rows queues (λ i. told i .answer) (λ i. told i .tries)
   unfolding Takes
   feed = record { first = first; full = full; pushes = λ i l. tree-pushed (pushed i l .comes .1) }
 
@@ -104,16 +105,16 @@ module _ {names n : ℕ} {tree : List ℕ} {rows : ℕ → List ℕ} {queues : �
   unfolding stepsOf
   longest-pos = steps-pos (expression tree names)
 
-  pub push-answers : (i : ℕ) → i < n → MatchesTree names tree (fed rows n) i (told i .answer) (told i .tries)
+  pub push-answers : (i : ℕ) → i < n → MatchesTree ρ names tree (fed rows n) i (told i .answer) (told i .tries)
   push-answers i l =
       let q = row-so-far feed asks longest-pos i l in
       record {
-        is = q .is ∙ sym (same-answer (stateAt names (fed rows n)) (expression tree names) i);
+        is = q .is ∙ sym (same-answer (stateAt ρ names (fed rows n)) (expression tree names) i);
         count = q .count;
       }
 
   pub routes-taken : (i : ℕ) → i < n → {a : Answer} {m : Matched}
-      → RowAnswer names n tree (fed rows n) i (Answered a) → RowMatch names n tree (fed rows n) i (Found m)
+      → RowAnswer ρ names n tree (fed rows n) i (Answered a) → RowMatch ρ names n tree (fed rows n) i (Found m)
       → (m .answer ≡ a) × (told i .answer ≡ a) × (told i .tries ≡ m .tries)
   unfolding Tells Finds
   routes-taken i l w k =
@@ -124,9 +125,9 @@ module _ {names n : ℕ} {tree : List ℕ} {rows : ℕ → List ℕ} {queues : �
       )
 
 -- The correction.
-module _ {names n : ℕ} {tree states answers : List ℕ} {r : ℕ} {new states′ answers′ : List ℕ} {k : ℕ}
+module _ {ρ : Rules} {names n : ℕ} {tree states answers : List ℕ} {r : ℕ} {new states′ answers′ : List ℕ} {k : ℕ}
     (accepted : Accepted names sort.Vector tree)
-    (c : Correction names n tree states answers r new states′ answers′ (outcome.Done k)) where
+    (c : Correction ρ names n tree states answers r new states′ answers′ (outcome.Done k)) where
   passed : Passed (correctionOrder names n tree states answers r new)
   unfolding Comes
   passed = c .comes .0
@@ -158,15 +159,15 @@ module _ {names n : ℕ} {tree states answers : List ℕ} {r : ℕ} {new states�
   unfolding after
   stored = c .states-memory
 
-  answered : answers′ ≡ rewritten names n tree answers r (corrected names states r new)
+  answered : answers′ ≡ rewritten ρ names n tree answers r (corrected names states r new)
   unfolding after
   answered = c .answers-memory
 
   -- an answer that is rewritten is the corrected trace's, whatever stood there
   pub correction-reaches : (i : ℕ) → r ≤ i → i ≤ last
-      → getD answers′ i 0 ≡ answersOn names tree states′ i
+      → getD answers′ i 0 ≡ answersOn ρ names tree states′ i
   correction-reaches i a b =
-      let f = answersOn names tree (corrected names states r new) in
+      let f = answersOn ρ names tree (corrected names states r new) in
       rw stored
       (ap (λ (l : List ℕ). getD l i 0) answered
       ∙ ruled-inside answers r (last + 1 - r) f fits i a (omega arith))
@@ -175,40 +176,41 @@ module _ {names n : ℕ} {tree states answers : List ℕ} {r : ℕ} {new states�
   pub correction-stays : (i : ℕ) → (i < r) ⊎ (last < i) → getD answers′ i 0 ≡ getD answers i 0
   correction-stays i (inl l) =
       ap (λ (a : List ℕ). getD a i 0) answered
-      ∙ ruled-before answers r (last + 1 - r) (answersOn names tree (corrected names states r new)) fits i l
+      ∙ ruled-before answers r (last + 1 - r) (answersOn ρ names tree (corrected names states r new)) fits i l
   correction-stays i (inr l) =
-      let f = answersOn names tree (corrected names states r new) in
+      let f = answersOn ρ names tree (corrected names states r new) in
       ap (λ (a : List ℕ). getD a i 0) answered
       ∙ ruled-behind answers r (last + 1 - r) f fits i (omega (arith, reach))
 
   -- and they are the corrected trace's too, if they were the trace's
   stays-right : (i : ℕ) → (i < r) ⊎ (r + stepsOf (expression tree names) < i)
-      → answersOn names tree states i ≡ answersOn names tree states′ i
+      → answersOn ρ names tree states i ≡ answersOn ρ names tree states′ i
   stays-right i w =
       let o = expression-over names tree accepted in
       rw stored
-      (sym (correction-elsewhere names states new r whole (lists .full) (expression tree names) o i w))
+      (sym (correction-elsewhere names states new r whole (lists .full) _ (expression tree names) o i w))
 
   beyond : (i : ℕ) → i < n → last < i → r + stepsOf (expression tree names) < i
   unfolding lastRewritten
   beyond i h l = omega arith
 
-  pub correction-keeps-right : ((i : ℕ) → i < n → getD answers i 0 ≡ answersOn names tree states i)
-      → (i : ℕ) → i < n → getD answers′ i 0 ≡ answersOn names tree states′ i
+  pub correction-keeps-right : ((i : ℕ) → i < n → getD answers i 0 ≡ answersOn ρ names tree states i)
+      → (i : ℕ) → i < n → getD answers′ i 0 ≡ answersOn ρ names tree states′ i
   correction-keeps-right right i l = go (below? i r) (below? last i)
     where
       go : (i < r) ⊎ (r ≤ i) → (last < i) ⊎ (i ≤ last)
-          → getD answers′ i 0 ≡ answersOn names tree states′ i
+          → getD answers′ i 0 ≡ answersOn ρ names tree states′ i
       go (inl a) b = correction-stays i (inl a) ∙ right i l ∙ stays-right i (inl a)
       go (inr a) (inl b) = correction-stays i (inr b) ∙ right i l ∙ stays-right i (inr (beyond i l b))
       go (inr a) (inr b) = correction-reaches i a b
 
 -- The totals.
-pub totals-together : {names n : ℕ} {tree states : List ℕ} {t : Total} → RowTotals names n tree states (Counted t)
+pub totals-together : {ρ : Rules} {names n : ℕ} {tree states : List ℕ} {t : Total}
+    → RowTotals ρ names n tree states (Counted t)
     → t .yes + t .no + t .unknown ≡ n - 1
 unfolding Counts Passed
-totals-together {names} {n} {tree} {states} w =
+totals-together {ρ} {names} {n} {tree} {states} w =
     let (p, t) = w .comes in
     let l = rows-stable names n (length states) (λ h. p .0 0 (record { given = h; there = refl })) in
-    let e = totals-sum (stateAt names states) (expression tree names) n (l .row-count .0) in
+    let e = totals-sum (stateAt ρ names states) (expression tree names) n (l .row-count .0) in
     omega (arith, t .yeses, t .noes, t .unknowns, e)

@@ -10,6 +10,7 @@ use Prim.Native.Nat.{ℕ, zero, suc, _+_, _-_, _*_, _<_, _≤_}
 use native.Mathlib.Nat.{suc-mul, mul-le-mul-right}
 use native.Mathlib.Omega.{arith}
 use lib.ListN.{length, getD, List·getD-append}
+use Rattle.alf.specs.declared.Rules.{Rules}
 use Rattle.alf.specs.declared.Answer.{Answer}
 use Rattle.alf.specs.Expressions.{Vector, Over}
 use Rattle.alf.specs.Values.{rowOf, stateAt}
@@ -46,9 +47,9 @@ fed-prefix rows i (suc n) m h l longer =
         let k : i ≤ n = omega (arith, d) in
         List·getD-append (fed rows n) (rows n) 0 m (omega (arith, longer n k (omega arith))) ∙ before k
 
-module _ {names : ℕ} {xs : List Alternative} {n : ℕ} {rows : ℕ → List ℕ} {queues : ℕ → Queue}
+module _ {ρ : Rules} {names : ℕ} {xs : List Alternative} {n : ℕ} {rows : ℕ → List ℕ} {queues : ℕ → Queue}
     {answers : ℕ → Answer}
-    {counts : ℕ → ℕ} (f : Feed names xs n rows queues answers counts) (over : All (Asks (Over names)) xs)
+    {counts : ℕ → ℕ} (f : Feed ρ names xs n rows queues answers counts) (over : All (Asks (Over names)) xs)
     (some : 0 < longestOf xs) (i : ℕ) (l : i < n) where
   whole : (j : ℕ) → j ≤ n → length (fed rows j) ≡ j * names
   whole j h = fed-length names rows j (λ k m. f .full k (omega arith))
@@ -62,14 +63,14 @@ module _ {names : ℕ} {xs : List Alternative} {n : ℕ} {rows : ℕ → List �
       (λ r d e.
       omega (arith, whole (suc i) l, whole r e, mul-le-mul-right {m = suc i} {n = r} names d)))
 
-  near : Near (Over names) (stateAt names (fed rows (suc i))) (stateAt names (fed rows n)) (longestOf xs) i i
+  near : Near (Over names) (stateAt ρ names (fed rows (suc i))) (stateAt ρ names (fed rows n)) (longestOf xs) i i
   near =
       record {
         room = refl;
-        agree = λ d a b c o. state-same names _ _ (λ k m. same-row (i - d) k (omega arith) m) c o;
+        agree = λ d a b c o. state-same names _ _ (λ k m. same-row (i - d) k (omega arith) m) _ c o;
       }
 
-  pub row-so-far : Matches (stateAt names (fed rows n)) xs i (answers i) (counts i)
+  pub row-so-far : Matches (stateAt ρ names (fed rows n)) xs i (answers i) (counts i)
   row-so-far =
       let q = queue-answers f some i l in
       record {
@@ -78,11 +79,11 @@ module _ {names : ℕ} {xs : List Alternative} {n : ℕ} {rows : ℕ → List �
       }
 
   pub three-routes : (p : Vector) → xs ≡ alternatives p → {a : Answer} {t : ℕ}
-      → Matches (stateAt names (fed rows n)) xs i a t
-      → (numberOf a ≡ rowAnswer (stateAt names (fed rows n)) p i) × (answers i ≡ a) × (counts i ≡ t)
+      → Matches (stateAt ρ names (fed rows n)) xs i a t
+      → (numberOf a ≡ rowAnswer (stateAt ρ names (fed rows n)) p i) × (answers i ≡ a) × (counts i ≡ t)
   three-routes p same m =
       let q = row-so-far in (
-        matches-windows (stateAt names (fed rows n)) p same m,
+        matches-windows (stateAt ρ names (fed rows n)) p same m,
         number-same _ _ (q .is ∙ sym (m .is)),
         q .count ∙ sym (m .count),
       )

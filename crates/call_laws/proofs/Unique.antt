@@ -8,6 +8,7 @@
 use mathlib.Core.Path.{_≡_, refl, ap, sym, _∙_}
 use mathlib.Core.List.{List}
 use Prim.Native.Nat.{ℕ}
+use Rattle.alf.specs.declared.Rules.{Rules}
 use Rattle.alf.specs.declared.Answer.{Answer}
 use Rattle.basics.specs.declared.Outcome.{Outcome}
 use Rattle.basics.specs.declared.Outcome.the-variants as outcome
@@ -66,21 +67,21 @@ verdict-unique o f (refuses r) (refuses s) =
     ap verdict.Refused (refused-by-unique o f r s)
 
 module _ {names n : ℕ} {tree states : List ℕ} where
-  pub state-unique : {row : ℕ} {a b : Outcome} → RowState names n tree states row a
-      → RowState names n tree states row b
+  pub state-unique : {ρ : Rules} {row : ℕ} {a b : Outcome} → RowState ρ names n tree states row a
+      → RowState ρ names n tree states row b
       → a ≡ b
-  state-unique {row} x y =
+  state-unique {ρ} {row} x y =
       outcome-unique _ _ (row-fixed _ _ states n row) _ _ (x .comes) (y .comes)
 
-  pub value-unique : {row : ℕ} {a b : Outcome} → RowValue names n tree states row a
-      → RowValue names n tree states row b
+  pub value-unique : {ρ : Rules} {row : ℕ} {a b : Outcome} → RowValue ρ names n tree states row a
+      → RowValue ρ names n tree states row b
       → a ≡ b
-  value-unique {row} x y =
+  value-unique {ρ} {row} x y =
       outcome-unique _ _ (row-fixed _ _ states n row) _ _ (x .comes) (y .comes)
 
-  pub values-unique : {out out′ out″ : List ℕ} {a b : Outcome} → AllValues names n tree states out out′ a
-      → AllValues names n tree states out out″ b → (a ≡ b) × (out′ ≡ out″)
-  values-unique {out} x y =
+  pub values-unique : {ρ : Rules} {out out′ out″ : List ℕ} {a b : Outcome} → AllValues ρ names n tree states out out′ a
+      → AllValues ρ names n tree states out out″ b → (a ≡ b) × (out′ ≡ out″)
+  values-unique {ρ} {out} x y =
       let e = outcome-unique _ _ (codes-fixed _ _ states) _ _ (x .comes) (y .comes) in
       (e, after-unique _ out e (x .memory) (y .memory))
 
@@ -117,30 +118,31 @@ counts-unique o right f one (counting.Refused r) (counting.Refused s) x y =
     ap counting.Refused (refused-by-unique o f x y)
 
 module _ {names n : ℕ} {tree states : List ℕ} where
-  pub answer-unique : {row : ℕ} {a b : Told} → RowAnswer names n tree states row a
-      → RowAnswer names n tree states row b
+  pub answer-unique : {ρ : Rules} {row : ℕ} {a b : Told} → RowAnswer ρ names n tree states row a
+      → RowAnswer ρ names n tree states row b
       → a ≡ b
-  answer-unique {row} x y =
+  answer-unique {ρ} {row} x y =
       tells-unique _ _ (row-fixed _ _ states n row) _ _ (x .comes) (y .comes)
 
-  pub match-unique : {row : ℕ} {a b : Matching} → RowMatch names n tree states row a
-      → RowMatch names n tree states row b
+  pub match-unique : {ρ : Rules} {row : ℕ} {a b : Matching} → RowMatch ρ names n tree states row a
+      → RowMatch ρ names n tree states row b
       → a ≡ b
-  match-unique {row} x y =
+  match-unique {ρ} {row} x y =
       finds-unique _ _ (row-fixed _ _ states n row)
       (λ a b t u p q. (number-same a b (p .is ∙ sym (q .is)), p .count ∙ sym (q .count))) _ _ (x .comes) (y .comes)
 
-  pub all-unique : {answers tried a t b u : List ℕ} {x y : Outcome}
-      → AllMatched names n tree states answers tried a t x → AllMatched names n tree states answers tried b u y
+  pub all-unique : {ρ : Rules} {answers tried a t b u : List ℕ} {x y : Outcome}
+      → AllMatched ρ names n tree states answers tried a t x → AllMatched ρ names n tree states answers tried b u y
       → (x ≡ y) × (a ≡ b) × (t ≡ u)
-  all-unique {answers} {tried} x y =
+  all-unique {ρ} {answers} {tried} x y =
       let e = outcome-unique _ _ (codes-fixed _ _ states) _ _ (x .comes) (y .comes) in (
         e,
         after-unique _ answers e (x .answers-memory) (y .answers-memory),
         after-unique _ tried e (x .tried-memory) (y .tried-memory),
       )
 
-  pub totals-unique : {a b : Counting} → RowTotals names n tree states a → RowTotals names n tree states b
+  pub totals-unique : {ρ : Rules} {a b : Counting} → RowTotals ρ names n tree states a
+      → RowTotals ρ names n tree states b
       → a ≡ b
   totals-unique x y =
       counts-unique _ _ (codes-fixed _ _ states)
@@ -148,10 +150,10 @@ module _ {names n : ℕ} {tree states : List ℕ} where
       (p .yeses ∙ sym (q .yeses), p .noes ∙ sym (q .noes), p .unknowns ∙ sym (q .unknowns))) _ _
       (x .comes) (y .comes)
 
-  pub correction-unique : {answers : List ℕ} {row : ℕ} {new s a t b : List ℕ} {x y : Outcome}
-      → Correction names n tree states answers row new s a x → Correction names n tree states answers row new t b y
+  pub correction-unique : {ρ : Rules} {answers : List ℕ} {row : ℕ} {new s a t b : List ℕ} {x y : Outcome}
+      → Correction ρ names n tree states answers row new s a x → Correction ρ names n tree states answers row new t b y
       → (x ≡ y) × (s ≡ t) × (a ≡ b)
-  correction-unique {answers} {row} {new} x y =
+  correction-unique {ρ} {answers} {row} {new} x y =
       let e = outcome-unique _ _ (correction-fixed _ _ states new n row) _ _ (x .comes) (y .comes) in (
         e,
         after-unique _ states e (x .states-memory) (y .states-memory),
@@ -159,25 +161,25 @@ module _ {names n : ℕ} {tree states : List ℕ} where
       )
 
 -- what a push tells, and the queue afterwards
-takes-unique : (names : ℕ) (tree : List ℕ) (q : Queue) (row : List ℕ) (x y : Matching) (p r : Queue)
-    → Takes names tree q row x p → Takes names tree q row y r → (x ≡ y) × (p ≡ r)
+takes-unique : (ρ : Rules) (names : ℕ) (tree : List ℕ) (q : Queue) (row : List ℕ) (x y : Matching) (p r : Queue)
+    → Takes ρ names tree q row x p → Takes ρ names tree q row y r → (x ≡ y) × (p ≡ r)
 unfolding Takes
-takes-unique names tree q row (Found m) (Found k) p r a b =
+takes-unique ρ names tree q row (Found m) (Found k) p r a b =
     let e = pushes-unique (tree-pushed (a .1)) (tree-pushed (b .1)) in
     (λ i. Found (record { answer = e .0 i; tries = e .1 i }), e .2)
-takes-unique names tree q row (Found m) (Refused s) p r a b =
+takes-unique ρ names tree q row (Found m) (Refused s) p r a b =
     absurd (refused-passed (pushOrder names tree q row) _ _ (a .0) (b .0 .by))
-takes-unique names tree q row (Refused s) (Found k) p r a b =
+takes-unique ρ names tree q row (Refused s) (Found k) p r a b =
     absurd (refused-passed (pushOrder names tree q row) _ _ (b .0) (a .0 .by))
-takes-unique names tree q row (Refused s) (Refused t) p r a b =
+takes-unique ρ names tree q row (Refused s) (Refused t) p r a b =
     let e = refused-by-unique (pushOrder names tree q row) (codes-fixed _ _ row) (a .0) (b .0) in
     (ap Refused e, a .1 ∙ sym (b .1))
 
-pub push-unique : {names : ℕ} {tree : List ℕ} {q : Queue} {row : List ℕ} {x y : Matching} {p r : Queue}
-    → Push names tree q row x p → Push names tree q row y r → (x ≡ y) × (p ≡ r)
-push-unique a b = takes-unique _ _ _ _ _ _ _ _ (a .comes) (b .comes)
+pub push-unique : {ρ : Rules} {names : ℕ} {tree : List ℕ} {q : Queue} {row : List ℕ} {x y : Matching} {p r : Queue}
+    → Push ρ names tree q row x p → Push ρ names tree q row y r → (x ≡ y) × (p ≡ r)
+push-unique a b = takes-unique _ _ _ _ _ _ _ _ _ (a .comes) (b .comes)
 
-pub window-unique : {names n : ℕ} {tree states : List ℕ} {a b : ℕ} {x y : Told}
-    → WindowAnswer names n tree states a b x → WindowAnswer names n tree states a b y → x ≡ y
-window-unique {n = n} {states = states} {a = a} {b = b} p q =
+pub window-unique : {ρ : Rules} {names n : ℕ} {tree states : List ℕ} {a b : ℕ} {x y : Told}
+    → WindowAnswer ρ names n tree states a b x → WindowAnswer ρ names n tree states a b y → x ≡ y
+window-unique {ρ} {n = n} {states = states} {a = a} {b = b} p q =
     tells-unique _ _ (row-fixed _ _ states n (max a b)) _ _ (p .comes) (q .comes)

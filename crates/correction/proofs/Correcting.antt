@@ -12,6 +12,7 @@ use native.Mathlib.Omega.{arith}
 use lib.ListN.{length, take, drop, length-append, length-drop}
 use lib.Seq.{length-take-le}
 use Rattle.basics.specs.Words.{greatestOf, listed}
+use Rattle.alf.specs.declared.Rules.{Rules}
 use Rattle.alf.specs.Values.{stateAt}
 use Rattle.alf.specs.Alternatives.{Alternative, answerOf}
 use Rattle.alf.specs.Traces.{corrected, lastRewritten}
@@ -81,10 +82,10 @@ module _ {tree : List ℕ} {names : ℕ} {states steps tests edges operands : Li
     abbrev xs : List Alternative
     xs = alternativesOf tree names steps tests edges operands
 
-    pub corrects : {answers′ : List ℕ}
-        → answers′ ≡ placed answers r (listed r m (answerOf (stateAt names states′) xs))
-        → Corrects names xs n r states answers new states′ answers′
-    corrects {answers′} e =
+    pub corrects : {ρ : Rules} {answers′ : List ℕ}
+        → answers′ ≡ placed answers r (listed r m (answerOf (stateAt ρ names states′) xs))
+        → Corrects ρ names xs n r states answers new states′ answers′
+    corrects {ρ} {answers′} e =
         let i = put-corrected stored in
         let l = longest ∙ longest-is (c .asked .shape) in
         record { stored = i; rewritten = rw (i, reached, l) at e }

@@ -10,6 +10,7 @@ use mathlib.Core.Logic.{_⊎_, inl, inr}
 use Prim.Native.Nat.{ℕ, _+_, _-_, _<_, _≤_}
 use native.Mathlib.Omega.{arith}
 use lib.ListN.{length, getD}
+use Rattle.alf.specs.declared.Rules.{Rules}
 use Rattle.alf.specs.Expressions.{Boolean, Vector, Over}
 use Rattle.alf.specs.Values.{stateAt}
 use Rattle.alf.specs.Windows.{rowAnswer}
@@ -37,11 +38,11 @@ module _ {tree : List ℕ} {names : ℕ} {states steps tests edges operands : Li
   abbrev last : ℕ
   last = lastRewritten (longestOf xs) n r
 
-  abbrev old : Boolean → ℕ → ℕ
-  old = stateAt names states
+  abbrev old : Rules → Boolean → ℕ → ℕ
+  old ρ = stateAt ρ names states
 
-  abbrev new-states : Boolean → ℕ → ℕ
-  new-states = stateAt names (corrected names states r new)
+  abbrev new-states : Rules → Boolean → ℕ → ℕ
+  new-states ρ = stateAt ρ names (corrected names states r new)
 
   -- the rows r to last
   reach : (r ≤ last) × (last < n) × (r + (last + 1 - r) ≡ last + 1)
@@ -55,37 +56,38 @@ module _ {tree : List ℕ} {names : ℕ} {states steps tests edges operands : Li
   fits : r + (last + 1 - r) ≤ length answers
   fits = let e = reach in omega (arith, c .room)
 
-  module _ {states′ answers′ : List ℕ} (k : Corrects names xs n r states answers new states′ answers′) where
-    pub correction-here : (i : ℕ) → r ≤ i → i ≤ last → getD answers′ i 0 ≡ answerOf new-states xs i
+  module _ {ρ : Rules} {states′ answers′ : List ℕ}
+      (k : Corrects ρ names xs n r states answers new states′ answers′) where
+    pub correction-here : (i : ℕ) → r ≤ i → i ≤ last → getD answers′ i 0 ≡ answerOf (new-states ρ) xs i
     correction-here i a b =
         ap (λ (l : List ℕ). getD l i 0) (k .rewritten)
-        ∙ ruled-inside answers r (last + 1 - r) (answerOf new-states xs) fits i a (omega arith)
+        ∙ ruled-inside answers r (last + 1 - r) (answerOf (new-states ρ) xs) fits i a (omega arith)
 
     -- where the alternatives are those of a vector expression, they are its answers on windows
     pub correction-windows : (p : Vector) → xs ≡ alternatives p → (i : ℕ) → r ≤ i → i ≤ last
-        → getD answers′ i 0 ≡ rowAnswer new-states p i
+        → getD answers′ i 0 ≡ rowAnswer (new-states ρ) p i
     correction-windows p same i a b =
         correction-here i a b
-        ∙ answers-same new-states p same i
+        ∙ answers-same (new-states ρ) p same i
 
     pub correction-only : (i : ℕ) → (i < r) ⊎ (last < i) → getD answers′ i 0 ≡ getD answers i 0
     correction-only i (inl l) =
         ap (λ (a : List ℕ). getD a i 0) (k .rewritten)
-        ∙ ruled-before answers r (last + 1 - r) (answerOf new-states xs) fits i l
+        ∙ ruled-before answers r (last + 1 - r) (answerOf (new-states ρ) xs) fits i l
     correction-only i (inr l) =
         ap (λ (a : List ℕ). getD a i 0) (k .rewritten)
-        ∙ ruled-behind answers r (last + 1 - r) (answerOf new-states xs) fits i (omega (arith, reach))
+        ∙ ruled-behind answers r (last + 1 - r) (answerOf (new-states ρ) xs) fits i (omega (arith, reach))
 
     -- with no alternative without a step
     module _ (some : 0 < longestOf xs) where
-      near : (i : ℕ) → (i < r) ⊎ (r + longestOf xs < i) → Near (Over names) new-states old (longestOf xs) i i
+      near : (i : ℕ) → (i < r) ⊎ (r + longestOf xs < i) → Near (Over names) (new-states ρ) (old ρ) (longestOf xs) i i
       near i w =
           record {
             room = refl;
             agree =
                 λ d h m b o.
                 state-same names _ _
-                (λ j l. corrected-other names states new r (row-fits c) (c .full) (i - d) j (apart w d h m) l) b o;
+                (λ j l. corrected-other names states new r (row-fits c) (c .full) (i - d) j (apart w d h m) l) _ b o;
           }
         where
           apart : (i < r) ⊎ (r + longestOf xs < i) → (d : ℕ) → d ≤ longestOf xs → d ≤ i → i - d ≡ r
@@ -94,17 +96,17 @@ module _ {tree : List ℕ} {names : ℕ} {states steps tests edges operands : Li
           apart (inr l) d h m e = omega arith
 
       pub elsewhere : (i : ℕ) → (i < r) ⊎ (r + longestOf xs < i)
-          → answerOf new-states xs i ≡ answerOf old xs i
+          → answerOf (new-states ρ) xs i ≡ answerOf (old ρ) xs i
       elsewhere i w =
-          answers-near (Over names) new-states old (longestOf xs) i i xs some (near i w)
+          answers-near (Over names) (new-states ρ) (old ρ) (longestOf xs) i i xs some (near i w)
           (lists-ask steps tests (c .asked .shape .known)) (longest-within xs)
 
-      pub correction-right : ((i : ℕ) → i < n → getD answers i 0 ≡ answerOf old xs i)
-          → (i : ℕ) → i < n → getD answers′ i 0 ≡ answerOf new-states xs i
+      pub correction-right : ((i : ℕ) → i < n → getD answers i 0 ≡ answerOf (old ρ) xs i)
+          → (i : ℕ) → i < n → getD answers′ i 0 ≡ answerOf (new-states ρ) xs i
       correction-right right i l = go (below? i r) (below? last i)
         where
           go : (i < r) ⊎ (r ≤ i) → (last < i) ⊎ (i ≤ last)
-              → getD answers′ i 0 ≡ answerOf new-states xs i
+              → getD answers′ i 0 ≡ answerOf (new-states ρ) xs i
           go (inl a) b = correction-only i (inl a) ∙ right i l ∙ sym (elsewhere i (inl a))
           go (inr a) (inl b) =
               correction-only i (inr b) ∙ right i l ∙ sym (elsewhere i (inr (beyond i l b)))

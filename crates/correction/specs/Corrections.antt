@@ -5,6 +5,7 @@ use Prim.Native.Nat.{ℕ, _+_, _-_, _<_, _≤_}
 use mathlib.Core.Path.{_≡_}
 use mathlib.Core.List.{List}
 use lib.ListN.{length}
+use Rattle.alf.specs.declared.Rules.{Rules}
 use Rattle.alf.specs.Values.{stateAt}
 use Rattle.alf.specs.Alternatives.{Alternative, answerOf}
 use Rattle.alf.specs.Traces.{corrected, lastRewritten}
@@ -37,10 +38,10 @@ pub record Reaching (k n r : ℕ) : Type 0 where
   pub byte : k < 256
 
 -- the new states as row r; the answers r to min(r+K, n-1) are those of the corrected trace; everything else stays
-pub record Corrects (names : ℕ) (xs : List Alternative) (n r : ℕ)
+pub record Corrects (ρ : Rules) (names : ℕ) (xs : List Alternative) (n r : ℕ)
     (states answers new states′ answers′ : List ℕ)
     : Type 0 where
   pub stored : states′ ≡ corrected names states r new
   pub rewritten : answers′
       ≡ placed answers r (listed r (lastRewritten (longestOf xs) n r + 1 - r)
-      (answerOf (stateAt names (corrected names states r new)) xs))
+      (answerOf (stateAt ρ names (corrected names states r new)) xs))

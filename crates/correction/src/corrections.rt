@@ -9,12 +9,14 @@ ghost use Rattle.basics.specs.Words.{listed};
 ghost use Rattle.basics.specs.Memory.{placed};
 ghost use Rattle.correction.specs.Corrections.{Reaching, RewriteAsked, CorrectionAsked, Corrects};
 use alf::RowNo;
+use alf::Rules;
 use alternatives::walking::longest;
 use basics::puts::put;
 use matcher::tables::number_at;
 
 // The answers of the m rows from r on.
 pub fn rewrite(
+    rules: Rules,
     tree: &[u8],
     names: usize,
     states: &[u8],
@@ -30,13 +32,23 @@ pub fn rewrite(
     requires { ⌜ RewriteAsked (now tree) names (now states) (now steps) (now tests) (now edges) (now operands) n r m
         (now answers) ⌝ }
     ensures { λ _. ⌜ now (answers .exit) ≡ placed (now (answers .entry)) r (listed r m
-        (answerOf (stateAt names (now (states .entry)))
+        (answerOf (stateAt rules names (now (states .entry)))
         (alternativesOf (now (tree .entry)) names (now (steps .entry)) (now (tests .entry)) (now (edges .entry))
         (now (operands .entry))))) ⌝ }
 {
     let mut i: usize = 0;
     while i < m {
-        answers[r + i] = number_at(tree, names, states, steps, tests, edges, operands, r + i);
+        answers[r + i] = number_at(
+            rules,
+            tree,
+            names,
+            states,
+            steps,
+            tests,
+            edges,
+            operands,
+            r + i,
+        );
         i += 1;
     }
 }
@@ -54,6 +66,7 @@ fn reached(k: usize, n: usize, r: usize) -> usize
 
 // Row r of n rows is corrected.
 pub fn correct(
+    rules: Rules,
     tree: &[u8],
     names: usize,
     steps: &[u8],
@@ -68,7 +81,7 @@ pub fn correct(
 )
     requires { ⌜ CorrectionAsked (now tree) names (now states) (now steps) (now tests) (now edges) (now operands) n
         (row .0) (now answers) (now new) ⌝ }
-    ensures { λ _. ⌜ Corrects names (alternativesOf (now (tree .entry)) names (now (steps .entry))
+    ensures { λ _. ⌜ Corrects rules names (alternativesOf (now (tree .entry)) names (now (steps .entry))
         (now (tests .entry))
         (now (edges .entry)) (now (operands .entry))) n (row .0) (now (states .entry)) (now (answers .entry))
         (now (new .entry)) (now (states .exit)) (now (answers .exit)) ⌝ }
@@ -78,6 +91,7 @@ pub fn correct(
     let k = longest(steps) as usize;
     let m = reached(k, n, r);
     rewrite(
+        rules,
         tree,
         names,
         states,

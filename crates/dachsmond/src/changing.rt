@@ -5,6 +5,7 @@ ghost use Rattle.update_calls.specs.Correcting.{Correction};
 ghost use Rattle.telling.specs.Handing.{Hands, told};
 ghost use Rattle.telling.specs.Matching.{queueOf, Pushes, toldPush};
 use alf::RowNo;
+use alf::Rules;
 use queue_calls::pushing::push;
 use telling::Pushed;
 use telling::Queue;
@@ -17,6 +18,7 @@ use update_calls::correcting::correct;
 // The new states become a row of the trace, and the answers that can depend on it are written anew.
 #[no_mangle]
 pub extern "C" fn dachsmond_correct(
+    rules: Rules,
     names: usize,
     n: usize,
     tree: &[u8],
@@ -25,10 +27,11 @@ pub extern "C" fn dachsmond_correct(
     row: u32,
     new: &[u8],
 ) -> Told
-    ensures { λ r. ⌜ Hands (Correction names n (now (tree .entry)) (now (states .entry)) (now (answers .entry)) row
+    ensures { λ r. ⌜ Hands (Correction rules names n (now (tree .entry)) (now (states .entry))
+        (now (answers .entry)) row
         (now (new .entry)) (now (states .exit)) (now (answers .exit))) told r ⌝ }
 {
-    tell(correct(names, n, tree, states, answers, RowNo(row), new))
+    tell(correct(rules, names, n, tree, states, answers, RowNo(row), new))
 }
 
 // A queue before the first push.
@@ -42,10 +45,17 @@ pub extern "C" fn dachsmond_empty_queue() -> Queue
 
 // One row more: its answer, the number tried, and the queue then.
 #[no_mangle]
-pub extern "C" fn dachsmond_push(names: usize, tree: &[u8], queue: Queue, row: &[u8]) -> Pushed
-    ensures { λ r. ⌜ Hands (Pushes names (now (tree .entry)) (queueOf queue) (now (row .entry))) toldPush r ⌝ }
+pub extern "C" fn dachsmond_push(
+    rules: Rules,
+    names: usize,
+    tree: &[u8],
+    queue: Queue,
+    row: &[u8],
+) -> Pushed
+    ensures { λ r. ⌜ Hands (Pushes rules names (now (tree .entry)) (queueOf queue)
+        (now (row .entry))) toldPush r ⌝ }
 {
     let old = queue_of(queue);
-    let p = push(names, tree, old, row);
+    let p = push(rules, names, tree, old, row);
     tell_push(p)
 }

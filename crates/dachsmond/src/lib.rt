@@ -6,6 +6,7 @@ pub mod listed;
 pub mod listings;
 pub mod matching;
 pub mod rows;
+pub mod rules;
 pub mod texts;
 pub mod versions;
 pub mod written;

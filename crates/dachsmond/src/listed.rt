@@ -6,6 +6,7 @@ ghost use Rattle.telling.specs.Handing.{Hands, told};
 ghost use Rattle.telling.specs.Matching.{toldMatch, toldCounts, queueOf, toldPush};
 ghost use Rattle.telling.specs.Listed.{ListedPushes};
 use alf::RowNo;
+use alf::Rules;
 use listed_acceptance::accepting::count_listed;
 use listed_calls::listed::match_all;
 use listed_calls::listed::match_row;
@@ -41,6 +42,7 @@ pub extern "C" fn dachsmond_listed_fits(
 // Their answer at a row, and the number of them tried.
 #[no_mangle]
 pub extern "C" fn dachsmond_listed_match_row(
+    rules: Rules,
     names: usize,
     n: usize,
     tree: &[u8],
@@ -51,10 +53,12 @@ pub extern "C" fn dachsmond_listed_match_row(
     states: &[u8],
     row: u32,
 ) -> Matched
-    ensures { λ r. ⌜ Hands (ListedMatch names n (now (tree .entry)) (now (steps .entry)) (now (tests .entry))
+    ensures { λ r. ⌜ Hands (ListedMatch rules names n (now (tree .entry)) (now (steps .entry))
+        (now (tests .entry))
         (now (edges .entry)) (now (operands .entry)) (now (states .entry)) row) toldMatch r ⌝ }
 {
     tell_match(match_row(
+        rules,
         names,
         n,
         tree,
@@ -70,6 +74,7 @@ pub extern "C" fn dachsmond_listed_match_row(
 // The same for all rows, into lent lists.
 #[no_mangle]
 pub extern "C" fn dachsmond_listed_match_all(
+    rules: Rules,
     names: usize,
     n: usize,
     tree: &[u8],
@@ -81,11 +86,13 @@ pub extern "C" fn dachsmond_listed_match_all(
     answers: &mut [u8],
     tried: &mut [u32],
 ) -> Told
-    ensures { λ r. ⌜ Hands (ListedAll names n (now (tree .entry)) (now (steps .entry)) (now (tests .entry))
+    ensures { λ r. ⌜ Hands (ListedAll rules names n (now (tree .entry)) (now (steps .entry))
+        (now (tests .entry))
         (now (edges .entry)) (now (operands .entry)) (now (states .entry)) (now (answers .entry)) (now (tried .entry))
         (now (answers .exit)) (now (tried .exit))) told r ⌝ }
 {
     tell(match_all(
+        rules,
         names,
         n,
         tree,
@@ -102,6 +109,7 @@ pub extern "C" fn dachsmond_listed_match_all(
 // How many of the rows answer yes, no and unknown.
 #[no_mangle]
 pub extern "C" fn dachsmond_listed_totals(
+    rules: Rules,
     names: usize,
     n: usize,
     tree: &[u8],
@@ -111,15 +119,17 @@ pub extern "C" fn dachsmond_listed_totals(
     operands: &[u16],
     states: &[u8],
 ) -> Counted
-    ensures { λ r. ⌜ Hands (ListedTotals names n (now (tree .entry)) (now (steps .entry)) (now (tests .entry))
+    ensures { λ r. ⌜ Hands (ListedTotals rules names n (now (tree .entry)) (now (steps .entry))
+        (now (tests .entry))
         (now (edges .entry)) (now (operands .entry)) (now (states .entry))) toldCounts r ⌝ }
 {
-    tell_counts(totals(names, n, tree, steps, tests, edges, operands, states))
+    tell_counts(totals(rules, names, n, tree, steps, tests, edges, operands, states))
 }
 
 // One row more: its answer, the number tried, and the queue then.
 #[no_mangle]
 pub extern "C" fn dachsmond_listed_push(
+    rules: Rules,
     names: usize,
     tree: &[u8],
     steps: &[u8],
@@ -129,10 +139,11 @@ pub extern "C" fn dachsmond_listed_push(
     queue: Queue,
     row: &[u8],
 ) -> Pushed
-    ensures { λ r. ⌜ Hands (ListedPushes names (now (tree .entry)) (now (steps .entry)) (now (tests .entry))
+    ensures { λ r. ⌜ Hands (ListedPushes rules names (now (tree .entry)) (now (steps .entry))
+        (now (tests .entry))
         (now (edges .entry)) (now (operands .entry)) (queueOf queue) (now (row .entry))) toldPush r ⌝ }
 {
     let old = queue_of(queue);
-    let p = push(names, tree, steps, tests, edges, operands, old, row);
+    let p = push(rules, names, tree, steps, tests, edges, operands, old, row);
     tell_push(p)
 }

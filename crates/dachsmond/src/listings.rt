@@ -4,6 +4,7 @@ ghost use Rattle.table_lines.specs.Table.{headingLine, refusedLine, totalLine};
 ghost use Rattle.tree_listings.specs.TreeTexts.{ListsTree, LinesTree};
 ghost use Rattle.figures.specs.Delivering.{Delivers};
 ghost use Rattle.telling.specs.Handing.{Hands, told};
+use alf::Rules;
 use basics::refusing::refusal_of;
 use table_lines::lines::Sums;
 use table_lines::lines::write_heading;
@@ -17,6 +18,7 @@ use tree_listings::listings::list;
 // The listing of the answers of a pattern's tree on a trace of n rows.
 #[no_mangle]
 pub extern "C" fn dachsmond_list(
+    rules: Rules,
     names: usize,
     n: usize,
     tree: &[u8],
@@ -24,10 +26,11 @@ pub extern "C" fn dachsmond_list(
     states: &[u8],
     out: &mut [u8],
 ) -> Told
-    ensures { λ r. ⌜ Hands (ListsTree names n (now (tree .entry)) (now (times .entry)) (now (states .entry))
+    ensures { λ r. ⌜ Hands (ListsTree rules names n (now (tree .entry)) (now (times .entry))
+        (now (states .entry))
         (now (out .entry)) (now (out .exit))) told r ⌝ }
 {
-    tell(list(names, n, tree, times, states, out))
+    tell(list(rules, names, n, tree, times, states, out))
 }
 
 // The line of the table's heading.
@@ -41,6 +44,7 @@ pub extern "C" fn dachsmond_table_heading(out: &mut [u8]) -> Told
 // The line of a pattern with the totals of its tree on a trace of n rows.
 #[no_mangle]
 pub extern "C" fn dachsmond_table_line(
+    rules: Rules,
     names: usize,
     n: usize,
     tree: &[u8],
@@ -48,10 +52,11 @@ pub extern "C" fn dachsmond_table_line(
     pattern: &[u8],
     out: &mut [u8],
 ) -> Told
-    ensures { λ r. ⌜ Hands (LinesTree names n (now (tree .entry)) (now (states .entry)) (now (pattern .entry))
+    ensures { λ r. ⌜ Hands (LinesTree rules names n (now (tree .entry)) (now (states .entry))
+        (now (pattern .entry))
         (now (out .entry)) (now (out .exit))) told r ⌝ }
 {
-    tell(write_totals(names, n, tree, states, pattern, out))
+    tell(write_totals(rules, names, n, tree, states, pattern, out))
 }
 
 // The line of a pattern that is refused.

@@ -5,6 +5,7 @@ ghost use Rattle.contradictions.specs.Calls.{Contradicts};
 ghost use Rattle.telling.specs.Handing.{Hands, told};
 ghost use Rattle.telling.specs.Matching.{toldMatch, toldCounts};
 use alf::RowNo;
+use alf::Rules;
 use contradictions::reports::contradictions;
 use matching_calls::matching::match_all;
 use matching_calls::matching::match_row;
@@ -20,20 +21,23 @@ use telling::outcomes::tell;
 // The answer of a vector expression at a row, and the number of its alternatives tried.
 #[no_mangle]
 pub extern "C" fn dachsmond_match_row(
+    rules: Rules,
     names: usize,
     n: usize,
     tree: &[u8],
     states: &[u8],
     row: u32,
 ) -> Matched
-    ensures { λ r. ⌜ Hands (RowMatch names n (now (tree .entry)) (now (states .entry)) row) toldMatch r ⌝ }
+    ensures { λ r. ⌜ Hands (RowMatch rules names n (now (tree .entry))
+        (now (states .entry)) row) toldMatch r ⌝ }
 {
-    tell_match(match_row(names, n, tree, states, RowNo(row)))
+    tell_match(match_row(rules, names, n, tree, states, RowNo(row)))
 }
 
 // The same for all rows, into lent lists.
 #[no_mangle]
 pub extern "C" fn dachsmond_match_all(
+    rules: Rules,
     names: usize,
     n: usize,
     tree: &[u8],
@@ -41,18 +45,26 @@ pub extern "C" fn dachsmond_match_all(
     answers: &mut [u8],
     tried: &mut [u32],
 ) -> Told
-    ensures { λ r. ⌜ Hands (AllMatched names n (now (tree .entry)) (now (states .entry)) (now (answers .entry))
+    ensures { λ r. ⌜ Hands (AllMatched rules names n (now (tree .entry)) (now (states .entry))
+        (now (answers .entry))
         (now (tried .entry)) (now (answers .exit)) (now (tried .exit))) told r ⌝ }
 {
-    tell(match_all(names, n, tree, states, answers, tried))
+    tell(match_all(rules, names, n, tree, states, answers, tried))
 }
 
 // How many of the rows answer yes, no and unknown.
 #[no_mangle]
-pub extern "C" fn dachsmond_totals(names: usize, n: usize, tree: &[u8], states: &[u8]) -> Counted
-    ensures { λ r. ⌜ Hands (RowTotals names n (now (tree .entry)) (now (states .entry))) toldCounts r ⌝ }
+pub extern "C" fn dachsmond_totals(
+    rules: Rules,
+    names: usize,
+    n: usize,
+    tree: &[u8],
+    states: &[u8],
+) -> Counted
+    ensures { λ r. ⌜ Hands (RowTotals rules names n (now (tree .entry))
+        (now (states .entry))) toldCounts r ⌝ }
 {
-    tell_counts(totals(names, n, tree, states))
+    tell_counts(totals(rules, names, n, tree, states))
 }
 
 // The alternatives of a vector expression, into four lent lists.

@@ -3,6 +3,7 @@
 // complaints.
 mod texts;
 
+use alf::Rules;
 use complaints::unfit;
 use complaints::unknown;
 use console::output::say;
@@ -28,6 +29,13 @@ const CORRECT: usize = 5;
 const VERSION: usize = 6;
 
 const NONE: usize = 10;
+
+// How a command is asked: the rules of evaluation, the argument that names the trace, and the first one behind it.
+struct Asked {
+    rules: Rules,
+    trace: usize,
+    first: usize,
+}
 
 // A command's number; the words behind `--version` all ask for help.
 fn named(word: &[u8]) -> usize {
@@ -72,6 +80,9 @@ fn help() {
   dachsmond correct TRACE ROW STATES OUT   the trace with one row replaced, written to OUT
   dachsmond --help, dachsmond --version
 
+`--equal-branches` before table, list or values: `c ? a : b` with c unknown has the value of its branches where both
+have the same. A table made so ends in the line `rules`, tab, `equal-branches`. Without it such a ternary is X.
+
 rewrite writes `->` between steps, `&` between the tests of a step, and `( )` for an empty step.
 `-` for a file is standard input or output. Data goes to standard output, complaints go to standard error.
 Exit status: 0 where all was done, 1 where something was complained of.
@@ -80,12 +91,12 @@ Exit status: 0 where all was done, 1 where something was complained of.
 }
 
 // A command on a trace; `list`, `values` and `rewrite` answer a text.
-fn start(c: usize, names: &[u8], times: &[u64], states: &mut [u8]) {
+fn start(a: Asked, c: usize, names: &[u8], times: &[u64], states: &mut [u8]) {
     match c {
-        TABLE => table(names, times.len(), states),
+        TABLE => table(a.rules, a.first, names, times.len(), states),
         SHOW => show(names, times, states),
         CORRECT => correct(names, times, states),
-        _ => crate::texts::answer(c, names, times, states),
+        _ => crate::texts::answer(a.rules, a.first, c, names, times, states),
     }
 }
 
@@ -114,14 +125,23 @@ fn front_states(list: &mut [u8], n: usize) -> &mut [u8] {
 }
 
 // Of the lists, what the trace fills.
-fn on_lists(c: usize, names: &[u8], times: &[u64], states: &mut [u8], k: usize, n: usize) {
-    let a = front(names, codes_in(32, k));
+fn on_lists(
+    a: Asked,
+    c: usize,
+    names: &[u8],
+    times: &[u64],
+    states: &mut [u8],
+    k: usize,
+    n: usize,
+) {
+    let l = front(names, codes_in(32, k));
     let t = front_times(times, n);
     let s = front_states(states, codes_in(n, k));
-    start(c, a, t, s);
+    start(a, c, l, t, s);
 }
 
 fn on_lent(
+    a: Asked,
     c: usize,
     names: &[u8; 1024],
     times: &[u64; 65535],
@@ -130,17 +150,17 @@ fn on_lent(
     n: usize,
 ) {
     if 0 < k {
-        on_lists(c, names, times, states, k, n);
+        on_lists(a, c, names, times, states, k, n);
     }
 }
 
 // The trace is loaded once, whatever is asked of it.
-fn on_trace(c: usize) {
+fn on_trace(a: Asked, c: usize) {
     let mut names = [0u8; 1024];
     let mut times = [0u64; 65535];
     let mut states = [0u8; 2097120];
-    let l = load(2, &mut names, &mut times, &mut states);
-    on_lent(c, &names, &times, &mut states, l.names, l.rows);
+    let l = load(a.trace, &mut names, &mut times, &mut states);
+    on_lent(a, c, &names, &times, &mut states, l.names, l.rows);
 }
 
 // The command, and how many words stand behind it.
@@ -154,7 +174,17 @@ fn run(word: &[u8], more: usize) {
         return;
     }
     if c < VERSION {
-        on_trace(c);
+        let rules = Rules {
+            equal_branches: false,
+        };
+        on_trace(
+            Asked {
+                rules,
+                trace: 2,
+                first: 3,
+            },
+            c,
+        );
         return;
     }
     if c == VERSION {
@@ -162,6 +192,44 @@ fn run(word: &[u8], more: usize) {
         return;
     }
     help();
+}
+
+// A command behind `--equal-branches`: one that evaluates.
+fn run_equal(word: &[u8], more: usize) {
+    let c = named(word);
+    if VALUES < c {
+        unfit(b"--equal-branches", b"table, list or values\n", 0);
+        return;
+    }
+    if expects(c, word, more) {
+        let rules = Rules {
+            equal_branches: true,
+        };
+        on_trace(
+            Asked {
+                rules,
+                trace: 3,
+                first: 4,
+            },
+            c,
+        );
+    }
+}
+
+// Whether a word is the option.
+fn is_equal(word: &[u8]) -> bool {
+    line_of(b"--equal-branches\n", word) == 0
+}
+
+// The command behind the option, which is argument 2; where it is missing, a word of no length is none.
+fn behind_option(count: usize) {
+    let mut word = io::buffer();
+    let n = os::arg(2, &mut word);
+    if count < 3 {
+        run_equal(b"", 0);
+        return;
+    }
+    run_equal(&word[..n], count - 3);
 }
 
 fn main() {
@@ -172,5 +240,9 @@ fn main() {
     }
     let mut word = io::buffer();
     let n = os::arg(1, &mut word);
+    if is_equal(&word[..n]) {
+        behind_option(count);
+        return;
+    }
     run(&word[..n], count - 2);
 }

@@ -2,6 +2,7 @@
 // of `row_listings` or `alternative_listings`.
 use crate::LIST;
 use crate::VALUES;
+use alf::Rules;
 use alternative_listings::texts::alternatives_text;
 use basics::Outcome;
 use basics::Refusal;
@@ -58,6 +59,7 @@ fn rewrite(names: &[u8], text: &[u8], out: &mut [u8]) -> Outcome {
 }
 
 fn ask(
+    rules: Rules,
     c: usize,
     names: &[u8],
     times: &[u64],
@@ -66,20 +68,29 @@ fn ask(
     out: &mut [u8],
 ) -> Outcome {
     if c == LIST {
-        return list_text(names, times, states, text, out);
+        return list_text(rules, names, times, states, text, out);
     }
     if c == VALUES {
-        return values_text(names, times, states, text, out);
+        return values_text(rules, names, times, states, text, out);
     }
     rewrite(names, text, out)
 }
 
-fn told(c: usize, names: &[u8], times: &[u64], states: &[u8], text: &[u8], out: &mut [u8]) {
-    let o = ask(c, names, times, states, text, out);
+fn told(
+    rules: Rules,
+    c: usize,
+    names: &[u8],
+    times: &[u64],
+    states: &[u8],
+    text: &[u8],
+    out: &mut [u8],
+) {
+    let o = ask(rules, c, names, times, states, text, out);
     tell(c == VALUES, text, out, o);
 }
 
 fn lent(
+    rules: Rules,
     c: usize,
     names: &[u8],
     times: &[u64],
@@ -87,13 +98,14 @@ fn lent(
     text: &[u8],
     out: &mut [u8; 4600000],
 ) {
-    told(c, names, times, states, text, out);
+    told(rules, c, names, times, states, text, out);
 }
 
 // Room for the longest: alternatives of 16 steps, 64 of them, each step with all of a text.
-pub fn answer(c: usize, names: &[u8], times: &[u64], states: &[u8]) {
+// The text is argument `at`.
+pub fn answer(rules: Rules, at: usize, c: usize, names: &[u8], times: &[u64], states: &[u8]) {
     let mut text = io::large_buffer();
-    let n = take_argument(3, &mut text);
+    let n = take_argument(at, &mut text);
     let mut out = [0u8; 4600000];
-    lent(c, names, times, states, &text[..n], &mut out);
+    lent(rules, c, names, times, states, &text[..n], &mut out);
 }

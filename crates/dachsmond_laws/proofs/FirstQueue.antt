@@ -8,6 +8,7 @@ use native.Mathlib.Nat.{zero-mul}
 use mathlib.Core.Path.{_≡_, sym, ap, subst, _∙_}
 use mathlib.Core.List.{List, []}
 use lib.ListN.{length, take}
+use Rattle.alf.specs.declared.Rules.{Rules}
 use Rattle.alf.specs.declared.Sort.the-variants.{Vector}
 use Rattle.alf.proofs.Outcomes.{refused-passed}
 use Rattle.acceptance.specs.Accepted.{Accepted}
@@ -40,26 +41,26 @@ module _ (q : Queue) (e : EmptyQueue q) where
   empty-queue-keeps names k =
       let h = holding-first names k (queueOf q) (e .0) in record { few = h .few; codes = h .codes }
 
-  pub empty-queue-pushed : (names : ℕ) (tree row : List ℕ) (r : Pushed) → Accepted names Vector tree
-      → RowFits names (length row) → Codes row → Hands (Pushes names tree (queueOf q) row) toldPush r
+  pub empty-queue-pushed : {ρ : Rules} (names : ℕ) (tree row : List ℕ) (r : Pushed) → Accepted names Vector tree
+      → RowFits names (length row) → Codes row → Hands (Pushes ρ names tree (queueOf q) row) toldPush r
       → r .number ≡ 0
   unfolding Takes
-  empty-queue-pushed names tree row r a f s h =
+  empty-queue-pushed {ρ} names tree row r a f s h =
       let handed : Handed names tree (queueOf q) = record { accepted = a; kept = empty-queue-keeps names _ } in
       push-reliable names tree q row .done-zero h
       (λ g d.
       refused-passed (pushOrder names tree (queueOf q) row) _ _ (codes-passed row f handed s)
-      (subst (Pushes names tree (queueOf q) row) d (h .is-allowed) .comes .0 .by))
+      (subst (Pushes ρ names tree (queueOf q) row) d (h .is-allowed) .comes .0 .by))
 
-  pub empty-queue-listed : (names : ℕ) (tree steps tests edges operands row : List ℕ) (r : Pushed)
+  pub empty-queue-listed : {ρ : Rules} (names : ℕ) (tree steps tests edges operands row : List ℕ) (r : Pushed)
       → AcceptedAlternatives names tree steps tests edges operands → RowFits names (length row) → Codes row
-      → Hands (ListedPushes names tree steps tests edges operands (queueOf q) row) toldPush r → r .number ≡ 0
+      → Hands (ListedPushes ρ names tree steps tests edges operands (queueOf q) row) toldPush r → r .number ≡ 0
   unfolding listed.Takes
-  empty-queue-listed names tree steps tests edges operands row r a f s h =
+  empty-queue-listed {ρ} names tree steps tests edges operands row r a f s h =
       let handed : listed.Handed names tree steps tests edges operands (queueOf q) =
       record { accepted = a; kept = empty-queue-keeps names _ } in
       listed-push-reliable names tree steps tests edges operands q row .done-zero h
       (λ g d.
       refused-passed (listed.pushOrder names tree steps tests edges operands (queueOf q) row) _ _
       (codes-passed row f handed s)
-      (subst (ListedPushes names tree steps tests edges operands (queueOf q) row) d (h .is-allowed) .comes .0 .by))
+      (subst (ListedPushes ρ names tree steps tests edges operands (queueOf q) row) d (h .is-allowed) .comes .0 .by))

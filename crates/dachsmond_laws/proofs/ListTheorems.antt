@@ -4,6 +4,7 @@ use mathlib.Core.Path.{_≡_}
 use mathlib.Core.List.{List}
 use Prim.Native.Nat.{ℕ, _/_}
 use lib.ListN.{length}
+use Rattle.alf.specs.declared.Rules.{Rules}
 use Rattle.alf.specs.Refusals.{Comes}
 use Rattle.names.specs.Check.{namesOrder}
 use Rattle.names.proofs.Unique.{names-unique}
@@ -39,14 +40,14 @@ module _ {tree steps tests edges operands : List ℕ} where
   listed-fits-unique x y = hands-unique (λ a b p q. fitting.listed-fits-unique p q) x y
 
   module _ {names n : ℕ} {states : List ℕ} where
-    pub listed-match-row-unique : {row : ℕ} {r s : Matched}
-        → Hands (ListedMatch names n tree steps tests edges operands states row) toldMatch r
-        → Hands (ListedMatch names n tree steps tests edges operands states row) toldMatch s → r ≡ s
+    pub listed-match-row-unique : {ρ : Rules} {row : ℕ} {r s : Matched}
+        → Hands (ListedMatch ρ names n tree steps tests edges operands states row) toldMatch r
+        → Hands (ListedMatch ρ names n tree steps tests edges operands states row) toldMatch s → r ≡ s
     listed-match-row-unique x y = hands-unique (λ a b p q. listed.listed-match-unique p q) x y
 
-    pub listed-match-all-unique : {answers tried a t b u : List ℕ} {r s : Told}
-        → Hands (ListedAll names n tree steps tests edges operands states answers tried a t) told r
-        → Hands (ListedAll names n tree steps tests edges operands states answers tried b u) told s
+    pub listed-match-all-unique : {ρ : Rules} {answers tried a t b u : List ℕ} {r s : Told}
+        → Hands (ListedAll ρ names n tree steps tests edges operands states answers tried a t) told r
+        → Hands (ListedAll ρ names n tree steps tests edges operands states answers tried b u) told s
         → (r ≡ s) × (a ≡ b) × (t ≡ u)
     listed-match-all-unique x y = (
       hands-unique (λ a b p q. listed.listed-all-unique p q .0) x y,
@@ -54,30 +55,30 @@ module _ {tree steps tests edges operands : List ℕ} where
       from-both (λ a b p q. listed.listed-all-unique p q .2) x y,
     )
 
-    pub listed-counted-unique : {r s : Counted}
-        → Hands (ListedTotals names n tree steps tests edges operands states) toldCounts r
-        → Hands (ListedTotals names n tree steps tests edges operands states) toldCounts s → r ≡ s
+    pub listed-counted-unique : {ρ : Rules} {r s : Counted}
+        → Hands (ListedTotals ρ names n tree steps tests edges operands states) toldCounts r
+        → Hands (ListedTotals ρ names n tree steps tests edges operands states) toldCounts s → r ≡ s
     listed-counted-unique x y = hands-unique (λ a b p q. listed.listed-totals-unique p q) x y
 
-  pub listed-pushed-unique : {names : ℕ} {queue : Queue} {row : List ℕ} {r s : Pushed}
-      → Hands (ListedPushes names tree steps tests edges operands queue row) toldPush r
-      → Hands (ListedPushes names tree steps tests edges operands queue row) toldPush s → r ≡ s
+  pub listed-pushed-unique : {ρ : Rules} {names : ℕ} {queue : Queue} {row : List ℕ} {r s : Pushed}
+      → Hands (ListedPushes ρ names tree steps tests edges operands queue row) toldPush r
+      → Hands (ListedPushes ρ names tree steps tests edges operands queue row) toldPush s → r ≡ s
   listed-pushed-unique x y =
       hands-unique
       (λ a b p q. let e = listed.listed-push-unique p q in λ i. record { told = e .0 i; queue = e .1 i }) x y
 
 -- the listing, and the line of a pattern
 module _ {names n : ℕ} {tree states out a b : List ℕ} {r s : Told} where
-  pub list-unique : {times : List ℕ} → Hands (ListsTree names n tree times states out a) told r
-      → Hands (ListsTree names n tree times states out b) told s
+  pub list-unique : {ρ : Rules} {times : List ℕ} → Hands (ListsTree ρ names n tree times states out a) told r
+      → Hands (ListsTree ρ names n tree times states out b) told s
       → (r ≡ s) × (a ≡ b)
   list-unique x y = (
     hands-unique (λ a b p q. trees.list-unique p q .0) x y,
     from-both (λ a b p q. trees.list-unique p q .1) x y,
   )
 
-  pub table-line-unique : {pattern : List ℕ} → Hands (LinesTree names n tree states pattern out a) told r
-      → Hands (LinesTree names n tree states pattern out b) told s
+  pub table-line-unique : {ρ : Rules} {pattern : List ℕ} → Hands (LinesTree ρ names n tree states pattern out a) told r
+      → Hands (LinesTree ρ names n tree states pattern out b) told s
       → (r ≡ s) × (a ≡ b)
   table-line-unique x y = (
     hands-unique (λ a b p q. trees.line-unique p q .0) x y,

@@ -5,7 +5,9 @@
 use Prim.Native.Nat.{ℕ}
 use mathlib.Core.Path.{_≡_}
 use mathlib.Core.List.{List}
+use Rattle.alf.specs.Values.{oldRules}
 use Rattle.basics.specs.Memory.{after}
+use Rattle.alf.specs.declared.Rules.{Rules}
 use Rattle.alf.specs.declared.Sort.{Sort}
 use Rattle.names.specs.Check.{ChecksNames}
 use Rattle.reader.specs.Reading.{ReadsText}
@@ -36,17 +38,18 @@ use Rattle.dachsmond_laws.proofs.Reliability.{of-match, of-counts, of-p
 
 -- texts
 pub check-names-reliable : (names : List ℕ) → Reliable outcomes (ChecksNames names) Nothing
-check-names-reliable names = of-outcome (refused-numbers .check-names names) (λ f x. tt)
+check-names-reliable names = of-outcome (refused-numbers {ρ = oldRules} .check-names names) (λ f x. tt)
 
 pub read-expression-reliable : (names text : List ℕ) (sort : Sort)
     → Reliable expressions (ReadsText names text sort) Nothing
-read-expression-reliable names text sort = of-expression (refused-numbers .read-expression names text sort)
+read-expression-reliable names text sort = of-expression
+    (refused-numbers {ρ = oldRules} .read-expression names text sort)
 
 pub write-expression-reliable : (names tree : List ℕ) (sort : Sort) (out out′ : List ℕ)
     → Reliable outcomes (writer.Writes names tree sort out out′) (λ r. out′ ≡ out)
 unfolding after
 write-expression-reliable names tree sort out out′ =
-    of-outcome (refused-numbers .write-expression names tree sort out out′) (λ f x. x .memory)
+    of-outcome (refused-numbers {ρ = oldRules} .write-expression names tree sort out out′) (λ f x. x .memory)
 
 -- trace files
 pub read-trace-reliable : (file names times states names′ times′ states′ : List ℕ)
@@ -54,54 +57,55 @@ pub read-trace-reliable : (file names times states names′ times′ states′ :
     (λ r. (names′ ≡ names) × (times′ ≡ times) × (states′ ≡ states))
 unfolding Reads
 read-trace-reliable file names times states names′ times′ states′ =
-    of-reading (refused-numbers .read-trace file names times states names′ times′ states′)
+    of-reading (refused-numbers {ρ = oldRules} .read-trace file names times states names′ times′ states′)
     (λ f x. (x .2 .names-kept, x .2 .times-kept, x .2 .states-kept))
 
 pub write-trace-reliable : (names times states : List ℕ) (n : ℕ) (out out′ : List ℕ)
     → Reliable outcomes (traces.Writes names times states n out out′) (λ r. out′ ≡ out)
 unfolding after
 write-trace-reliable names times states n out out′ =
-    of-outcome (refused-numbers .write-trace names times states n out out′) (λ f x. x .memory)
+    of-outcome (refused-numbers {ρ = oldRules} .write-trace names times states n out out′) (λ f x. x .memory)
 
 -- rows
 pub changes-at-reliable : (names n : ℕ) (states : List ℕ) (row : ℕ)
     → Reliable row-changes (RowChanged names n states row) Nothing
-changes-at-reliable names n states row = of-changes (refused-numbers .changes-at names n states row)
+changes-at-reliable names n states row = of-changes (refused-numbers {ρ = oldRules} .changes-at names n states row)
 
 module _ (names n : ℕ) (tree states : List ℕ) where
-  pub row-state-reliable : (row : ℕ) → Reliable outcomes (RowState names n tree states row) Nothing
+  pub row-state-reliable : {ρ : Rules} (row : ℕ) → Reliable outcomes (RowState ρ names n tree states row) Nothing
   row-state-reliable row = of-outcome (refused-numbers .row-state names n tree states row) (λ f x. tt)
 
-  pub row-value-reliable : (row : ℕ) → Reliable outcomes (RowValue names n tree states row) Nothing
+  pub row-value-reliable : {ρ : Rules} (row : ℕ) → Reliable outcomes (RowValue ρ names n tree states row) Nothing
   row-value-reliable row = of-outcome (refused-numbers .row-value names n tree states row) (λ f x. tt)
 
-  pub values-reliable : (out out′ : List ℕ)
-      → Reliable outcomes (AllValues names n tree states out out′) (λ r. out′ ≡ out)
+  pub values-reliable : {ρ : Rules} (out out′ : List ℕ)
+      → Reliable outcomes (AllValues ρ names n tree states out out′) (λ r. out′ ≡ out)
   unfolding after
   values-reliable out out′ = of-outcome (refused-numbers .values names n tree states out out′) (λ f x. x .memory)
 
-  pub row-answer-reliable : (row : ℕ) → Reliable row-answers (RowAnswer names n tree states row) Nothing
+  pub row-answer-reliable : {ρ : Rules} (row : ℕ) → Reliable row-answers (RowAnswer ρ names n tree states row) Nothing
   row-answer-reliable row = of-answer (refused-numbers .row-answer names n tree states row)
 
-  pub window-answer-reliable : (from to : ℕ) → Reliable row-answers (WindowAnswer names n tree states from to) Nothing
+  pub window-answer-reliable : {ρ : Rules} (from to : ℕ)
+      → Reliable row-answers (WindowAnswer ρ names n tree states from to) Nothing
   window-answer-reliable from to = of-answer (refused-numbers .window-answer names n tree states from to)
 
-  pub match-row-reliable : (row : ℕ) → Reliable matches (RowMatch names n tree states row) Nothing
+  pub match-row-reliable : {ρ : Rules} (row : ℕ) → Reliable matches (RowMatch ρ names n tree states row) Nothing
   match-row-reliable row = of-match (refused-numbers .match-row names n tree states row)
 
-  pub match-all-reliable : (answers tried answers′ tried′ : List ℕ)
-      → Reliable outcomes (AllMatched names n tree states answers tried answers′ tried′)
+  pub match-all-reliable : {ρ : Rules} (answers tried answers′ tried′ : List ℕ)
+      → Reliable outcomes (AllMatched ρ names n tree states answers tried answers′ tried′)
       (λ r. (answers′ ≡ answers) × (tried′ ≡ tried))
   unfolding after
   match-all-reliable answers tried answers′ tried′ =
       of-outcome (refused-numbers .match-all names n tree states answers tried answers′ tried′)
       (λ f x. (x .answers-memory, x .tried-memory))
 
-  pub totals-reliable : Reliable counts (RowTotals names n tree states) Nothing
+  pub totals-reliable : {ρ : Rules} → Reliable counts (RowTotals ρ names n tree states) Nothing
   totals-reliable = of-counts (refused-numbers .totals names n tree states)
 
-  pub correct-reliable : (answers : List ℕ) (row : ℕ) (new states′ answers′ : List ℕ)
-      → Reliable outcomes (Correction names n tree states answers row new states′ answers′)
+  pub correct-reliable : {ρ : Rules} (answers : List ℕ) (row : ℕ) (new states′ answers′ : List ℕ)
+      → Reliable outcomes (Correction ρ names n tree states answers row new states′ answers′)
       (λ r. (states′ ≡ states) × (answers′ ≡ answers))
   unfolding after
   correct-reliable answers row new states′ answers′ =
@@ -109,12 +113,12 @@ module _ (names n : ℕ) (tree states : List ℕ) where
       (λ f x. (x .states-memory, x .answers-memory))
 
 -- the queue of a push is part of what is handed over
-pub push-reliable : (names : ℕ) (tree : List ℕ) (queue : Queue) (row : List ℕ)
-    → Reliable (pushes queue) (Pushes names tree (queueOf queue) row) (λ r. r .queue ≡ queue)
+pub push-reliable : {ρ : Rules} (names : ℕ) (tree : List ℕ) (queue : Queue) (row : List ℕ)
+    → Reliable (pushes queue) (Pushes ρ names tree (queueOf queue) row) (λ r. r .queue ≡ queue)
 unfolding Takes
-push-reliable names tree queue row =
-    of-push queue (Push names tree (queueOf queue) row)
-    (refused-numbers .push names tree (queueOf queue) row (queueOf queue)) (λ f s x. x .comes .1)
+push-reliable {ρ} names tree queue row =
+    of-push queue (Push ρ names tree (queueOf queue) row)
+    (refused-numbers {ρ = ρ} .push names tree (queueOf queue) row (queueOf queue)) (λ f s x. x .comes .1)
 
 -- alternatives
 module _ (names : ℕ) (tree : List ℕ) where
@@ -123,7 +127,9 @@ module _ (names : ℕ) (tree : List ℕ) where
       (λ r. (steps′ ≡ steps) × (tests′ ≡ tests) × (edges′ ≡ edges) × (operands′ ≡ operands))
   unfolding after
   rewrite-reliable steps tests edges operands steps′ tests′ edges′ operands′ =
-      of-outcome (refused-numbers .rewrite names tree steps tests edges operands steps′ tests′ edges′ operands′)
+      of-outcome
+      (refused-numbers
+      {ρ = oldRules} .rewrite names tree steps tests edges operands steps′ tests′ edges′ operands′)
       (λ f x.
       let l = x .memory in
       (l .steps-are, l .tests-are, l .edges-are, l .operands-are))
@@ -132,18 +138,18 @@ module _ (names : ℕ) (tree : List ℕ) where
       → Reliable outcomes (Contradicts names tree flags flags′) (λ r. flags′ ≡ flags)
   unfolding after
   contradictions-reliable flags flags′ =
-      of-outcome (refused-numbers .contradictions names tree flags flags′) (λ f x. x .memory)
+      of-outcome (refused-numbers {ρ = oldRules} .contradictions names tree flags flags′) (λ f x. x .memory)
 
 -- alternatives in lists
 module _ (names n : ℕ) (tree steps tests edges operands states : List ℕ) where
-  pub listed-match-row-reliable : (row : ℕ)
-      → Reliable matches (listed.ListedMatch names n tree steps tests edges operands states row) Nothing
+  pub listed-match-row-reliable : {ρ : Rules} (row : ℕ)
+      → Reliable matches (listed.ListedMatch ρ names n tree steps tests edges operands states row) Nothing
   listed-match-row-reliable row =
       of-match (refused-numbers .listed-match-row names n tree steps tests edges operands states row)
 
-  pub listed-match-all-reliable : (answers tried answers′ tried′ : List ℕ)
+  pub listed-match-all-reliable : {ρ : Rules} (answers tried answers′ tried′ : List ℕ)
       → Reliable outcomes
-      (listed.ListedAll names n tree steps tests edges operands states answers tried answers′ tried′)
+      (listed.ListedAll ρ names n tree steps tests edges operands states answers tried answers′ tried′)
       (λ r. (answers′ ≡ answers) × (tried′ ≡ tried))
   unfolding after
   listed-match-all-reliable answers tried answers′ tried′ =
@@ -151,33 +157,34 @@ module _ (names n : ℕ) (tree steps tests edges operands states : List ℕ) whe
       (refused-numbers .listed-match-all names n tree steps tests edges operands states answers tried answers′ tried′)
       (λ f x. (x .answers-memory, x .tried-memory))
 
-  pub listed-totals-reliable : Reliable counts
-      (listed.ListedTotals names n tree steps tests edges operands states) Nothing
+  pub listed-totals-reliable : {ρ : Rules} → Reliable counts
+      (listed.ListedTotals ρ names n tree steps tests edges operands states) Nothing
   listed-totals-reliable = of-counts (refused-numbers .listed-totals names n tree steps tests edges operands states)
 
-pub listed-push-reliable : (names : ℕ) (tree steps tests edges operands : List ℕ) (queue : Queue) (row : List ℕ)
-    → Reliable (pushes queue) (ListedPushes names tree steps tests edges operands (queueOf queue) row)
+pub listed-push-reliable : {ρ : Rules} (names : ℕ) (tree steps tests edges operands : List ℕ) (queue : Queue)
+    (row : List ℕ)
+    → Reliable (pushes queue) (ListedPushes ρ names tree steps tests edges operands (queueOf queue) row)
     (λ r. r .queue ≡ queue)
 unfolding listed.Takes
-listed-push-reliable names tree steps tests edges operands queue row =
-    of-push queue (listed.ListedPush names tree steps tests edges operands (queueOf queue) row)
-    (refused-numbers .listed-push names tree steps tests edges operands (queueOf queue) row (queueOf queue))
+listed-push-reliable {ρ} names tree steps tests edges operands queue row =
+    of-push queue (listed.ListedPush ρ names tree steps tests edges operands (queueOf queue) row)
+    (refused-numbers {ρ = ρ} .listed-push names tree steps tests edges operands (queueOf queue) row (queueOf queue))
     (λ f s x. x .comes .1)
 
 pub listed-fits-reliable : (names : ℕ) (tree steps tests edges operands : List ℕ)
     → Reliable outcomes (ListedFits names tree steps tests edges operands) Nothing
 listed-fits-reliable names tree steps tests edges operands =
-    of-outcome (refused-numbers .listed-fits names tree steps tests edges operands) (λ f x. tt)
+    of-outcome (refused-numbers {ρ = oldRules} .listed-fits names tree steps tests edges operands) (λ f x. tt)
 
 -- the listing, and the table's line of a pattern, by a tree
-pub list-reliable : (names n : ℕ) (tree times states out out′ : List ℕ)
-    → Reliable outcomes (ListsTree names n tree times states out out′) (λ r. out′ ≡ out)
+pub list-reliable : {ρ : Rules} (names n : ℕ) (tree times states out out′ : List ℕ)
+    → Reliable outcomes (ListsTree ρ names n tree times states out out′) (λ r. out′ ≡ out)
 unfolding after
 list-reliable names n tree times states out out′ =
     of-outcome (refused-numbers .list names n tree times states out out′) (λ f x. x .memory)
 
-pub table-line-reliable : (names n : ℕ) (tree states pattern out out′ : List ℕ)
-    → Reliable outcomes (LinesTree names n tree states pattern out out′) (λ r. out′ ≡ out)
+pub table-line-reliable : {ρ : Rules} (names n : ℕ) (tree states pattern out out′ : List ℕ)
+    → Reliable outcomes (LinesTree ρ names n tree states pattern out out′) (λ r. out′ ≡ out)
 unfolding after
 table-line-reliable names n tree states pattern out out′ =
     of-outcome (refused-numbers .table-line names n tree states pattern out out′) (λ f x. x .memory)
@@ -185,7 +192,7 @@ table-line-reliable names n tree states pattern out out′ =
 -- a line of the table, whatever it holds
 line-reliable : (text out out′ : List ℕ) → Reliable outcomes (Delivers text out out′) (λ r. out′ ≡ out)
 unfolding after
-line-reliable text out out′ = of-outcome (refused-numbers .line text out out′) (λ f x. x .memory)
+line-reliable text out out′ = of-outcome (refused-numbers {ρ = oldRules} .line text out out′) (λ f x. x .memory)
 
 module _ (out out′ : List ℕ) where
   pub table-heading-reliable : Reliable outcomes (Delivers headingLine out out′) (λ r. out′ ≡ out)

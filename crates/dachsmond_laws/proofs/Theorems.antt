@@ -3,6 +3,7 @@
 use mathlib.Core.Path.{_≡_, sym, _∙_}
 use mathlib.Core.List.{List}
 use Prim.Native.Nat.{ℕ}
+use Rattle.alf.specs.declared.Rules.{Rules}
 use Rattle.alf.specs.declared.Sort.{Sort}
 use Rattle.queue.specs.declared.queues.Queue as updates
 use Rattle.reader.specs.Reading.{ReadsText}
@@ -78,35 +79,37 @@ pub changes-at-unique : (names n : ℕ) (states : List ℕ) (row : ℕ) {r s : C
 changes-at-unique names n states row x y = hands-unique (changes-unique names n states row) x y
 
 module _ {names n : ℕ} {tree states : List ℕ} where
-  pub row-state-unique : {row : ℕ} {r s : Told} → Hands (RowState names n tree states row) told r
-      → Hands (RowState names n tree states row) told s → r ≡ s
+  pub row-state-unique : {ρ : Rules} {row : ℕ} {r s : Told} → Hands (RowState ρ names n tree states row) told r
+      → Hands (RowState ρ names n tree states row) told s → r ≡ s
   row-state-unique x y = hands-unique (λ a b p q. state-unique p q) x y
 
-  pub row-value-unique : {row : ℕ} {r s : Told} → Hands (RowValue names n tree states row) told r
-      → Hands (RowValue names n tree states row) told s → r ≡ s
+  pub row-value-unique : {ρ : Rules} {row : ℕ} {r s : Told} → Hands (RowValue ρ names n tree states row) told r
+      → Hands (RowValue ρ names n tree states row) told s → r ≡ s
   row-value-unique x y = hands-unique (λ a b p q. value-unique p q) x y
 
-  pub all-values-unique : {out a b : List ℕ} {r s : Told} → Hands (AllValues names n tree states out a) told r
-      → Hands (AllValues names n tree states out b) told s → (r ≡ s) × (a ≡ b)
+  pub all-values-unique : {ρ : Rules} {out a b : List ℕ} {r s : Told}
+      → Hands (AllValues ρ names n tree states out a) told r
+      → Hands (AllValues ρ names n tree states out b) told s → (r ≡ s) × (a ≡ b)
   all-values-unique x y =
       (hands-unique (λ a b p q. values-unique p q .0) x y, from-both (λ a b p q. values-unique p q .1) x y)
 
-  pub row-answer-unique : {row : ℕ} {r s : Answered} → Hands (RowAnswer names n tree states row) toldAnswer r
-      → Hands (RowAnswer names n tree states row) toldAnswer s → r ≡ s
+  pub row-answer-unique : {ρ : Rules} {row : ℕ} {r s : Answered}
+      → Hands (RowAnswer ρ names n tree states row) toldAnswer r
+      → Hands (RowAnswer ρ names n tree states row) toldAnswer s → r ≡ s
   row-answer-unique x y = hands-unique (λ a b p q. answer-unique p q) x y
 
-  pub window-answer-unique : {from to : ℕ} {r s : Answered}
-      → Hands (WindowAnswer names n tree states from to) toldAnswer r
-      → Hands (WindowAnswer names n tree states from to) toldAnswer s → r ≡ s
+  pub window-answer-unique : {ρ : Rules} {from to : ℕ} {r s : Answered}
+      → Hands (WindowAnswer ρ names n tree states from to) toldAnswer r
+      → Hands (WindowAnswer ρ names n tree states from to) toldAnswer s → r ≡ s
   window-answer-unique x y = hands-unique (λ a b p q. window-unique p q) x y
 
-  pub match-row-unique : {row : ℕ} {r s : Matched} → Hands (RowMatch names n tree states row) toldMatch r
-      → Hands (RowMatch names n tree states row) toldMatch s → r ≡ s
+  pub match-row-unique : {ρ : Rules} {row : ℕ} {r s : Matched} → Hands (RowMatch ρ names n tree states row) toldMatch r
+      → Hands (RowMatch ρ names n tree states row) toldMatch s → r ≡ s
   match-row-unique x y = hands-unique (λ a b p q. match-unique p q) x y
 
-  pub match-all-unique : {answers tried a t b u : List ℕ} {r s : Told}
-      → Hands (AllMatched names n tree states answers tried a t) told r
-      → Hands (AllMatched names n tree states answers tried b u) told s
+  pub match-all-unique : {ρ : Rules} {answers tried a t b u : List ℕ} {r s : Told}
+      → Hands (AllMatched ρ names n tree states answers tried a t) told r
+      → Hands (AllMatched ρ names n tree states answers tried b u) told s
       → (r ≡ s) × (a ≡ b) × (t ≡ u)
   match-all-unique x y = (
     hands-unique (λ a b p q. all-unique p q .0) x y,
@@ -114,13 +117,13 @@ module _ {names n : ℕ} {tree states : List ℕ} where
     from-both (λ a b p q. all-unique p q .2) x y,
   )
 
-  pub counted-unique : {r s : Counted} → Hands (RowTotals names n tree states) toldCounts r
-      → Hands (RowTotals names n tree states) toldCounts s → r ≡ s
+  pub counted-unique : {ρ : Rules} {r s : Counted} → Hands (RowTotals ρ names n tree states) toldCounts r
+      → Hands (RowTotals ρ names n tree states) toldCounts s → r ≡ s
   counted-unique x y = hands-unique (λ a b p q. totals-unique p q) x y
 
-  pub correct-unique : {answers : List ℕ} {row : ℕ} {new a b c d : List ℕ} {r s : Told}
-      → Hands (Correction names n tree states answers row new a b) told r
-      → Hands (Correction names n tree states answers row new c d) told s
+  pub correct-unique : {ρ : Rules} {answers : List ℕ} {row : ℕ} {new a b c d : List ℕ} {r s : Told}
+      → Hands (Correction ρ names n tree states answers row new a b) told r
+      → Hands (Correction ρ names n tree states answers row new c d) told s
       → (r ≡ s) × (a ≡ c) × (b ≡ d)
   correct-unique x y = (
     hands-unique (λ a b p q. correction-unique p q .0) x y,
@@ -129,8 +132,8 @@ module _ {names n : ℕ} {tree states : List ℕ} where
   )
 
 -- the queue is part of what is told
-pub pushed-unique : {names : ℕ} {tree : List ℕ} {queue : updates.Queue} {row : List ℕ} {r s : Pushed}
-    → Hands (Pushes names tree queue row) toldPush r → Hands (Pushes names tree queue row) toldPush s → r ≡ s
+pub pushed-unique : {ρ : Rules} {names : ℕ} {tree : List ℕ} {queue : updates.Queue} {row : List ℕ} {r s : Pushed}
+    → Hands (Pushes ρ names tree queue row) toldPush r → Hands (Pushes ρ names tree queue row) toldPush s → r ≡ s
 pushed-unique x y =
     hands-unique
     (λ a b p q. let e = push-unique p q in λ i. record { told = e .0 i; queue = e .1 i }) x y

@@ -2,12 +2,13 @@
 --   names-good, lists-fit, codes-good         18, 12 and 15 are given nowhere
 --   tree-accepted, tree-whole, tree-text      10 is not given, and the tree stands for the expression
 --   tree-is, formula-is                       the pattern, the boolean expression
---   question-of                               each trace and each accepted tree make one, so that something is said
+--   question-of                               rules, a trace and an accepted tree make one, so something is said
 use Prim.Native.Nat.{ℕ}
 use native.Mathlib.Omega.{arith}
 use mathlib.Core.Path.{_≡_, refl, ap}
 use mathlib.Core.List.{List}
 use lib.ListN.{length}
+use Rattle.alf.specs.declared.Rules.{Rules}
 use Rattle.alf.specs.Names.{namesIn}
 use Rattle.alf.specs.declared.Sort.{Sort}
 use Rattle.alf.specs.declared.Sort.the-variants as sort
@@ -83,12 +84,13 @@ module _ {names times states : List ℕ} {rows : ℕ} (t : Trace names times sta
         passed = (λ p x. x .given (t .slots), (λ p x. x .given .1 (t .good p (x .given .0)), tt));
       }
 
-  pub question-of : Question (fileOf names times states rows) (textAt names tree)
+  pub question-of : (rules : Rules) → Question (fileOf names times states rows) (textAt names tree)
   unfolding Decodes top
-  question-of =
+  question-of rules =
       let v = sorted-vector (a .expression) (a .sorted) in
       let d : Decodes (namesIn names) tree (vector (v .p)) = rw (v .is-vector) at (accepted-decodes a) in
       record {
+        rules = rules;
         names = names;
         times = times;
         states = states;

@@ -13,6 +13,7 @@ use Rattle.basics.specs.Words.{all, greatestOf, sumOf, same}
 use Rattle.basics.proofs.AllEntries.{All, none, more}
 use Rattle.basics.proofs.Bools.{and-left, and-right}
 use Rattle.basics.proofs.Entries.{same-sound}
+use Rattle.alf.specs.declared.Rules.{Rules}
 use Rattle.alf.specs.declared.Sort.the-variants as sort
 use Rattle.alf.specs.Names.{namesIn, isLetter, isDecimal, startsName, goesOnName, isName}
 use Rattle.alf.specs.Names.{slot, untilZero, nameAt, slotOf}
@@ -161,12 +162,12 @@ all-given =
     -- 12
     (more rise-given none)))))))))))
 
-stands-so : (c : Case) → Given c → holds c ≡ true → Stands c
+stands-so : (ρ : Rules) (c : Case) → Given c → holds ρ c ≡ true → Stands ρ c
 unfolding Given Stands holds
-stands-so (answers t p ns) g h = record { gives = g; answers-are = same-sound _ _ h }
-stands-so (values t c vs) g h = record { gives = g; values-are = same-sound _ _ h }
-stands-so (correction t p r new ns es) g h =
-    let right = same (numbers (corrected names states r new) p) ns in
+stands-so ρ (answers t p ns) g h = record { gives = g; answers-are = same-sound _ _ h }
+stands-so ρ (values t c vs) g h = record { gives = g; values-are = same-sound _ _ h }
+stands-so ρ (correction t p r new ns es) g h =
+    let right = same (numbers ρ (corrected names states r new) p) ns in
     let reached = same (entries p r) es in
     record {
       gives = g;
@@ -174,11 +175,11 @@ stands-so (correction t p r new ns es) g h =
       entries-are = same-sound _ _ (and-right right reached h);
     }
 
-stand-all : {cs : List Case} → All Given cs → allHold cs ≡ true → AllStand cs
+stand-all : (ρ : Rules) {cs : List Case} → All Given cs → allHold ρ cs ≡ true → AllStand ρ cs
 unfolding allHold
-stand-all none h = none
-stand-all (more {x = c} g gs) h =
-    more (stands-so c g (and-left (holds c) _ h)) (stand-all gs (and-right (holds c) _ h))
+stand-all ρ none h = none
+stand-all ρ (more {x = c} g gs) h =
+    more (stands-so ρ c g (and-left (holds ρ c) _ h)) (stand-all ρ gs (and-right (holds ρ c) _ h))
 
-pub cases-stand : AllStand cases
-cases-stand = stand-all all-given cases-hold
+pub cases-stand : (ρ : Rules) → AllStand ρ cases
+cases-stand ρ = stand-all ρ all-given (cases-hold ρ)

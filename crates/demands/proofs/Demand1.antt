@@ -21,8 +21,9 @@ use Rattle.tree_listings.proofs.Theorems.{list-unique, line-unique}
 use Rattle.queue_calls.specs.Pushing.{Takes}
 use Rattle.listed_calls.specs.Listed as listed
 use Rattle.demands.specs.Demand1.{Demand1}
+use Rattle.alf.specs.declared.Rules.{Rules}
 
-pub demand-1 : Demand1
+pub demand-1 : {ρ : Rules} → Demand1 ρ
 unfolding after Reads Takes listed.Takes
 demand-1 =
     record {

@@ -70,13 +70,13 @@ module _ {file text : List ℕ} (q : Question file text) where
   MatchTold i = FoundAs (answerAt q i) (triesAt q i)
 
   -- As written.
-  as-written : (i : ℕ) → i < q .rows → (x : Told) → RowAnswer k (q .rows) (treeOf q) (q .states) i x
+  as-written : (i : ℕ) → i < q .rows → (x : Told) → RowAnswer (q .rules) k (q .rows) (treeOf q) (q .states) i x
       → AnswerTold i x
   as-written i l x w = rw (tree-is q) at (answered (lists-fit q) (tree-accepted q) (codes-good q) l x w)
 
   on-window : (a b : ℕ) → max a b < q .rows → (x : Told)
-      → WindowAnswer k (q .rows) (treeOf q) (q .states) a b x
-      → AnsweredAs (numbered (answer (stateAt k (q .states)) (q .pattern) a b)) x
+      → WindowAnswer (q .rules) k (q .rows) (treeOf q) (q .states) a b x
+      → AnsweredAs (numbered (answer (stateAt (q .rules) k (q .states)) (q .pattern) a b)) x
   unfolding Tells
   on-window a b l (told.Answered c) w = record { answer = c; is = refl; numbered = rw (tree-is q) at (w .comes .1) }
   on-window a b l (told.Refused r) w =
@@ -86,22 +86,23 @@ module _ {file text : List ℕ} (q : Question file text) where
       (w .comes .by))
 
   -- By alternatives.
-  by-alternatives : (i : ℕ) → i < q .rows → (y : Matching) → RowMatch k (q .rows) (treeOf q) (q .states) i y
+  by-alternatives : (i : ℕ) → i < q .rows → (y : Matching) → RowMatch (q .rules) k (q .rows) (treeOf q) (q .states) i y
       → MatchTold i y
   by-alternatives i l y w = rw (tree-is q) at (matched (lists-fit q) (tree-accepted q) (codes-good q) l y w)
 
   all-rows : {answers tried answers′ tried′ : List ℕ} (r : Outcome) → length answers ≡ q .rows
-      → length tried ≡ q .rows → AllMatched k (q .rows) (treeOf q) (q .states) answers tried answers′ tried′ r
+      → length tried ≡ q .rows
+      → AllMatched (q .rules) k (q .rows) (treeOf q) (q .states) answers tried answers′ tried′ r
       → (r ≡ outcome.Done (q .rows)) × (answers′ ≡ listed 0 (q .rows) (answerAt q))
       × (tried′ ≡ listed 0 (q .rows) (triesAt q))
   unfolding Comes after
   all-rows (outcome.Done m) a t w = (
     ap outcome.Done (w .comes .1),
     w .answers-memory
-        ∙ ap (λ (p : Vector). listed 0 (q .rows) (rowAnswer (stateAt k (q .states)) p))
+        ∙ ap (λ (p : Vector). listed 0 (q .rows) (rowAnswer (stateAt (q .rules) k (q .states)) p))
         (tree-is q),
     w .tried-memory
-        ∙ ap (λ (p : Vector). listed 0 (q .rows) (tries (stateAt k (q .states)) (alternatives p)))
+        ∙ ap (λ (p : Vector). listed 0 (q .rows) (tries (stateAt (q .rules) k (q .states)) (alternatives p)))
         (tree-is q),
   )
   all-rows (outcome.Refused r) a t w =
@@ -110,14 +111,14 @@ module _ {file text : List ℕ} (q : Question file text) where
       (w .comes .by))
 
   -- The totals.
-  totals-right : (z : Counting) → RowTotals k (q .rows) (treeOf q) (q .states) z
+  totals-right : (z : Counting) → RowTotals (q .rules) k (q .rows) (treeOf q) (q .states) z
       → (t : Total) × ((z ≡ counting.Counted t)
-      × Totals (stateAt k (q .states)) (q .pattern) (q .rows) (t .yes) (t .no) (t .unknown)
+      × Totals (stateAt (q .rules) k (q .states)) (q .pattern) (q .rows) (t .yes) (t .no) (t .unknown)
       × (t .yes + t .no + t .unknown ≡ q .rows - 1))
   unfolding Counts
   totals-right (counting.Counted t) w =
       let c = rw (tree-is q) at (w .comes .1) in
-      let n = totals-sum (stateAt k (q .states)) (q .pattern) (q .rows) (lists-fit q .row-count .0) in
+      let n = totals-sum (stateAt (q .rules) k (q .states)) (q .pattern) (q .rows) (lists-fit q .row-count .0) in
       (t, (refl, c, omega (arith, c .yeses, c .noes, c .unknowns, n)))
   totals-right (counting.Refused r) w =
       absurd
@@ -142,7 +143,7 @@ module _ {file text : List ℕ} (q : Question file text) where
 
   module _ {queues : ℕ → Queue} {results : ℕ → Matching} (first : queues 0 .kept .0 ≡ 0)
       (pushed : (i : ℕ) → i < q .rows
-      → Push k (treeOf q) (queues i) (codesOf k (q .states) i) (results i) (queues (suc i))) where
+      → Push (q .rules) k (treeOf q) (queues i) (codesOf k (q .states) i) (results i) (queues (suc i))) where
     by-queue : (i : ℕ) → i < q .rows → MatchTold i (results i)
     by-queue i l =
         rw (fed-is, tree-is q) at
@@ -156,16 +157,17 @@ module _ {file text : List ℕ} (q : Question file text) where
   module _ {n : ℕ} {rows : ℕ → List ℕ} {queues : ℕ → Queue} {results : ℕ → Matching}
       (first : queues 0 .kept .0 ≡ 0)
       (full : (i : ℕ) → i < n → length (rows i) ≡ k) (codes : (i : ℕ) → i < n → Codes (rows i))
-      (pushed : (i : ℕ) → i < n → Push k (treeOf q) (queues i) (rows i) (results i) (queues (suc i))) where
+      (pushed : (i : ℕ) → i < n → Push (q .rules) k (treeOf q) (queues i) (rows i) (results i) (queues (suc i))) where
     not-refused : (i : ℕ) → i < n → results i ≡ Found (told-by (results i))
     not-refused = never-refused (lists-fit q .name-count) (tree-accepted q) first full codes pushed
 
-    taken : (i : ℕ) → i < n → Push k (treeOf q) (queues i) (rows i) (Found (told-by (results i))) (queues (suc i))
+    taken : (i : ℕ) → i < n
+        → Push (q .rules) k (treeOf q) (queues i) (rows i) (Found (told-by (results i))) (queues (suc i))
     taken i l =
-        subst (λ (z : Matching). Push k (treeOf q) (queues i) (rows i) z (queues (suc i))) (not-refused i l)
+        subst (λ (z : Matching). Push (q .rules) k (treeOf q) (queues i) (rows i) z (queues (suc i))) (not-refused i l)
         (pushed i l)
 
-    feed : Feed k (alternatives (expression (treeOf q) k)) n rows queues (λ i. told-by (results i) .answer)
+    feed : Feed (q .rules) k (alternatives (expression (treeOf q) k)) n rows queues (λ i. told-by (results i) .answer)
         (λ i. told-by (results i) .tries)
     unfolding Takes
     feed = record { first = first; full = full; pushes = λ i l. tree-pushed (taken i l .comes .1) }
@@ -175,8 +177,8 @@ module _ {file text : List ℕ} (q : Question file text) where
     any-feed i l =
         let answer = told-by (results i) .answer in
         let tried = queue-answers feed longest-pos i l .count in
-        let found : FoundAs (rowAnswer (stateAt k (fed rows (suc i))) (expression (treeOf q) k) i)
-        (tries (stateAt k (fed rows (suc i))) (alternatives (expression (treeOf q) k)) i) (results i) =
+        let found : FoundAs (rowAnswer (stateAt (q .rules) k (fed rows (suc i))) (expression (treeOf q) k) i)
+        (tries (stateAt (q .rules) k (fed rows (suc i))) (alternatives (expression (treeOf q) k)) i) (results i) =
         record {
           answer = answer;
           is = not-refused i l ∙ (λ j. Found (record { answer = answer; tries = tried j }));

@@ -53,8 +53,8 @@ module _ {file text : List ℕ} (q : Question file text) where
   steps-is = ap stepsOf (tree-is q)
 
   answer-is : (states : List ℕ) (i : ℕ)
-      → rowAnswer (stateAt k states) (expression (treeOf q) k) i ≡ answerOn q states i
-  answer-is states i = ap (λ (p : Vector). rowAnswer (stateAt k states) p i) (tree-is q)
+      → rowAnswer (stateAt (q .rules) k states) (expression (treeOf q) k) i ≡ answerOn q states i
+  answer-is states i = ap (λ (p : Vector). rowAnswer (stateAt (q .rules) k states) p i) (tree-is q)
 
   module _ {answers : List ℕ} {r : ℕ} {new states′ answers′ : List ℕ}
       (w : Corrects q answers r new states′ answers′ (Done 1)) where

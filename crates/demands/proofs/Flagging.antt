@@ -58,7 +58,7 @@ module _ {file text : List ℕ} (q : Question file text) where
     ),
   )
 
-  name-codes : (n r : ℕ) → n < k → stateAt k (q .states) (name n) r < 8
+  name-codes : (n r : ℕ) → n < k → stateAt (q .rules) k (q .states) (name n) r < 8
   unfolding state recordedOr
   name-codes n r l = code-at (q .states) (codes-good q) (r * k + n)
 
@@ -76,6 +76,7 @@ module _ {file text : List ℕ} (q : Question file text) where
       absurd (refused-passed _ _ _ (flags-passed flags l) (w .outcome .by))
 
   pub never-yes : (t i : ℕ) → contradictory k (getD (alternatives (q .pattern)) t []) ≡ true
-      → atRow (stateAt k (q .states)) i (getD (alternatives (q .pattern)) t []) ≡ YES → ⊥
+      → atRow (stateAt (q .rules) k (q .states)) i (getD (alternatives (q .pattern)) t []) ≡ YES → ⊥
   never-yes t i h y =
-      contradictory-row-not-yes (stateAt k (q .states)) k name-codes (getD (alternatives (q .pattern)) t []) h i y
+      contradictory-row-not-yes (stateAt (q .rules) k (q .states)) k name-codes
+      (getD (alternatives (q .pattern)) t []) h i y

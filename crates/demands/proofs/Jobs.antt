@@ -8,17 +8,18 @@ use Rattle.jobs.proofs.TextCounts.{counts-unique}
 use Rattle.jobs.proofs.TableLines.{table-line-unique}
 use Rattle.letter_corrections.proofs.LetterCorrections.{letters-unique}
 use Rattle.demands.specs.Jobs.{Demand1Jobs}
+use Rattle.alf.specs.declared.Rules.{Rules}
 
-pub demand-1-jobs : Demand1Jobs
+pub demand-1-jobs : {ρ : Rules} → Demand1Jobs ρ
 unfolding after
 demand-1-jobs =
     record {
       count-text = λ names n states text a b x y. counts-unique x y;
       table-line = λ names n states text out. record { one = λ a b m o x y. table-line-unique x y };
       list-text = λ names times states text out.
-          record { one = λ a b m o x y. list-text-unique x y; stays = λ r m x. lists-stays x };
+          record { one = λ a b m o x y. list-text-unique _ x y; stays = λ r m x. lists-stays x };
       values-text = λ names times states text out.
-          record { one = λ a b m o x y. values-text-unique x y; stays = λ r m x. lists-stays x };
+          record { one = λ a b m o x y. values-text-unique _ x y; stays = λ r m x. lists-stays x };
       list-values = λ times values out.
           record { one = λ a b m o x y. values-unique times values out x y; stays = λ r m x. x .memory };
       alternatives-text = λ names text out. record { one = λ a b m o x y. text-unique x y };

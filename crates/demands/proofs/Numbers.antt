@@ -14,6 +14,7 @@ use borrow.Author.Tests.{eqb-true, leb-true}
 use Rattle.basics.specs.declared.Refusal.{Refusal}
 use Rattle.basics.specs.Words.{all}
 use Rattle.basics.proofs.Bools.{never, and-left, and-right}
+use Rattle.alf.specs.declared.Rules.{Rules}
 use Rattle.alf.specs.declared.Sort.{Sort}
 use Rattle.alf.specs.States.{among}
 use Rattle.alf.specs.Refusals.{Row, Order, check, numbersOf, RefusedWith, RefusedBy, Comes}
@@ -135,9 +136,9 @@ file-refused {file} {names} {times} {states} n p (inr h) =
     one-passes (λ k. among k fileNumbers) roomNumbers n of-its-room
     (ap (among n) (sym (numbers .read-room names times states (h .k) (h .n))) ∙ refused-among order n p (h .refused))
 
-pub refused-numbers : RefusedNumbers
+pub refused-numbers : {ρ : Rules} → RefusedNumbers ρ
 unfolding all inTable Comes Reads changes.RowChanged Tells Finds Counts pushing.Takes listed.Takes
-refused-numbers =
+refused-numbers {ρ} =
     record {
       check-names = λ names. by-order _ (numbers .check-names names) refl (λ r x. x);
       read-expression = λ names text sort.
@@ -192,11 +193,11 @@ refused-numbers =
           by-order _ (numbers .listed-fits names tree steps tests edges operands) refl (λ r x. x .comes);
       list = λ names n tree times states out out′.
           by-order _
-          (numbers .list names n tree times states (patternListing names times states (expression tree names))
+          (numbers .list names n tree times states (patternListing ρ names times states (expression tree names))
           (length out)) refl (λ r x. x .comes);
       table-line = λ names n tree states pattern out out′.
           by-order _
-          (numbers .table-line names n tree states (totalsLine names n states pattern (expression tree names))
+          (numbers .table-line names n tree states (totalsLine ρ names n states pattern (expression tree names))
           (length out)) refl (λ r x. x .comes);
       line = λ text out out′. by-order _ (numbers .line text _) refl (λ r x. x .outcome);
     }

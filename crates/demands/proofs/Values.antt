@@ -22,37 +22,38 @@ module _ {file text : List ℕ} (q : Formula file text) where
   abbrev k : ℕ
   k = namesOf q
 
-  value-at : (i : ℕ) (r : Outcome) → i < q .rows → RowValue k (q .rows) (treeOf q) (q .states) i r
+  value-at : (i : ℕ) (r : Outcome) → i < q .rows → RowValue (q .rules) k (q .rows) (treeOf q) (q .states) i r
       → r ≡ Done (valueOf q i)
   unfolding Comes
   value-at i (Done m) l w =
-      ap Done (w .comes .1 ∙ ap (λ (c : Boolean). valueAt k (q .states) c i) (formula-is q))
+      ap Done (w .comes .1 ∙ ap (λ (c : Boolean). valueAt (q .rules) k (q .states) c i) (formula-is q))
   value-at i (Refused e) l w =
       absurd
       (refused-passed _ _ _ (row-passed (q .states) (q .rows) i (lists-fit q) (tree-accepted q) (codes-good q) l)
       (w .comes .by))
 
-  state-at : (i : ℕ) (r : Outcome) → i < q .rows → RowState k (q .rows) (treeOf q) (q .states) i r
+  state-at : (i : ℕ) (r : Outcome) → i < q .rows → RowState (q .rules) k (q .rows) (treeOf q) (q .states) i r
       → r ≡ Done (stateOf q i)
   unfolding Comes
   state-at i (Done m) l w =
-      ap Done (w .comes .1 ∙ ap (λ (c : Boolean). stateAt k (q .states) c i) (formula-is q))
+      ap Done (w .comes .1 ∙ ap (λ (c : Boolean). stateAt (q .rules) k (q .states) c i) (formula-is q))
   state-at i (Refused e) l w =
       absurd
       (refused-passed _ _ _ (row-passed (q .states) (q .rows) i (lists-fit q) (tree-accepted q) (codes-good q) l)
       (w .comes .by))
 
   all-values : (out out′ : List ℕ) (r : Outcome) → length out ≡ q .rows
-      → AllValues k (q .rows) (treeOf q) (q .states) out out′ r
+      → AllValues (q .rules) k (q .rows) (treeOf q) (q .states) out out′ r
       → (r ≡ Done (q .rows)) × (out′ ≡ listed 0 (q .rows) (valueOf q))
   unfolding Comes after
   all-values out out′ (Done m) e w = (
     ap Done (w .comes .1),
-    w .memory ∙ ap (λ (c : Boolean). listed 0 (q .rows) (valueAt k (q .states) c)) (formula-is q),
+    w .memory ∙ ap (λ (c : Boolean). listed 0 (q .rows) (valueAt (q .rules) k (q .states) c)) (formula-is q),
   )
   all-values out out′ (Refused r) e w =
       absurd
-      (refused-passed _ _ _ (codes-passed (q .states) (e, lists-fit q) (tree-accepted q) (codes-good q)) (w .comes .by))
+      (refused-passed _ _ _ (codes-passed (q .states) (e, lists-fit q) (tree-accepted q) (codes-good q))
+      (w .comes .by))
 
   pub demand-2-values : Demand2Values q
   demand-2-values =

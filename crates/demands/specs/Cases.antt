@@ -9,6 +9,7 @@ use Prim.Native.Nat.{ℕ}
 use mathlib.Core.Path.{_≡_}
 use mathlib.Core.List.{List}
 use Rattle.basics.specs.Words.{listed, All}
+use Rattle.alf.specs.declared.Rules.{Rules}
 use Rattle.alf.specs.declared.Sort.the-variants as sort
 use Rattle.alf.specs.Expressions.{Boolean, Vector, boolean, vector}
 use Rattle.alf.specs.Values.{valueAt}
@@ -17,26 +18,26 @@ use Rattle.alf.specs.TableT.{names, rows, slots, states, Case, answers, values,
 use Rattle.reader.specs.Reading.{Gives}
 
 -- for the names A, B, C the text gives the pattern p; on T, p answers ns, a number for each row
-pub record Answered (text : List ℕ) (p : Vector) (ns : List ℕ) : Type 0 where
+pub record Answered (ρ : Rules) (text : List ℕ) (p : Vector) (ns : List ℕ) : Type 0 where
   pub gives : Gives slots text sort.Vector (vector p)
-  pub answers-are : numbers states p ≡ ns
+  pub answers-are : numbers ρ states p ≡ ns
 
 -- for the names A, B, C the text gives the boolean expression c; on T, c has the values vs
-pub record Valued (text : List ℕ) (c : Boolean) (vs : List ℕ) : Type 0 where
+pub record Valued (ρ : Rules) (text : List ℕ) (c : Boolean) (vs : List ℕ) : Type 0 where
   pub gives : Gives slots text sort.Boolean (boolean c)
-  pub values-are : listed 0 rows (valueAt names states c) ≡ vs
+  pub values-are : listed 0 rows (valueAt ρ names states c) ≡ vs
 
 -- for the names A, B, C the text gives the pattern p; on T with the states `new` in row r, p answers ns, and of a list
 -- of answers the correction of row r rewrites the entries es
-pub record Corrected (text : List ℕ) (p : Vector) (r : ℕ) (new ns es : List ℕ) : Type 0 where
+pub record Corrected (ρ : Rules) (text : List ℕ) (p : Vector) (r : ℕ) (new ns es : List ℕ) : Type 0 where
   pub gives : Gives slots text sort.Vector (vector p)
-  pub answers-are : numbers (corrected names states r new) p ≡ ns
+  pub answers-are : numbers ρ (corrected names states r new) p ≡ ns
   pub entries-are : entries p r ≡ es
 
-unfoldable pub Stands : Case → Type 0
-Stands (answers text p ns) = Answered text p ns
-Stands (values text c vs) = Valued text c vs
-Stands (correction text p r new ns es) = Corrected text p r new ns es
+unfoldable pub Stands : Rules → Case → Type 0
+Stands ρ (answers text p ns) = Answered ρ text p ns
+Stands ρ (values text c vs) = Valued ρ text c vs
+Stands ρ (correction text p r new ns es) = Corrected ρ text p r new ns es
 
-abbrev pub AllStand : List Case → Type 0
-AllStand = All Stands
+abbrev pub AllStand : Rules → List Case → Type 0
+AllStand ρ = All (Stands ρ)

@@ -7,6 +7,7 @@ use Prim.Native.Nat.{ℕ}
 use mathlib.Core.Path.{_≡_}
 use mathlib.Core.Bool.{true}
 use mathlib.Core.List.{List}
+use Rattle.alf.specs.declared.Rules.{Rules}
 use Rattle.alf.specs.declared.Sort.{Sort}
 use Rattle.basics.specs.declared.Outcome.the-variants.{Refused}
 use Rattle.names.specs.Check.{ChecksNames}
@@ -34,7 +35,7 @@ use Rattle.figures.specs.Delivering.{Delivers}
 use Rattle.tree_listings.specs.TreeTexts.{ListsTree, LinesTree}
 use Rattle.demands.specs.Promises.{Promised, One, Two, Three, Four}
 
-pub record Demand1 : Type 0 where
+pub record Demand1 (ρ : Rules) : Type 0 where
   -- texts
   pub check-names : (names : List ℕ) → One (ChecksNames names)
   pub read-expression : (names text : List ℕ) (sort : Sort) → One (ReadsText names text sort)
@@ -64,40 +65,40 @@ pub record Demand1 : Type 0 where
   pub contradictions : (names : ℕ) (tree flags : List ℕ)
       → Promised Refused (λ r m. Contradicts names tree flags m r) flags
   -- rows, for a tree handed in
-  pub row-state : (names n : ℕ) (tree states : List ℕ) (row : ℕ) → One (RowState names n tree states row)
-  pub row-value : (names n : ℕ) (tree states : List ℕ) (row : ℕ) → One (RowValue names n tree states row)
+  pub row-state : (names n : ℕ) (tree states : List ℕ) (row : ℕ) → One (RowState ρ names n tree states row)
+  pub row-value : (names n : ℕ) (tree states : List ℕ) (row : ℕ) → One (RowValue ρ names n tree states row)
   pub values : (names n : ℕ) (tree states out : List ℕ)
-      → Promised Refused (λ r m. AllValues names n tree states out m r) out
-  pub row-answer : (names n : ℕ) (tree states : List ℕ) (row : ℕ) → One (RowAnswer names n tree states row)
+      → Promised Refused (λ r m. AllValues ρ names n tree states out m r) out
+  pub row-answer : (names n : ℕ) (tree states : List ℕ) (row : ℕ) → One (RowAnswer ρ names n tree states row)
   pub window-answer : (names n : ℕ) (tree states : List ℕ) (from to : ℕ)
-      → One (WindowAnswer names n tree states from to)
-  pub match-row : (names n : ℕ) (tree states : List ℕ) (row : ℕ) → One (RowMatch names n tree states row)
+      → One (WindowAnswer ρ names n tree states from to)
+  pub match-row : (names n : ℕ) (tree states : List ℕ) (row : ℕ) → One (RowMatch ρ names n tree states row)
   pub match-all : (names n : ℕ) (tree states answers tried : List ℕ)
-      → Promised {M = Two} Refused (λ r m. AllMatched names n tree states answers tried (m .0) (m .1) r)
+      → Promised {M = Two} Refused (λ r m. AllMatched ρ names n tree states answers tried (m .0) (m .1) r)
       (answers, tried)
-  pub totals : (names n : ℕ) (tree states : List ℕ) → One (RowTotals names n tree states)
+  pub totals : (names n : ℕ) (tree states : List ℕ) → One (RowTotals ρ names n tree states)
   pub correct : (names n : ℕ) (tree states answers : List ℕ) (row : ℕ) (new : List ℕ)
-      → Promised {M = Two} Refused (λ r m. Correction names n tree states answers row new (m .0) (m .1) r)
+      → Promised {M = Two} Refused (λ r m. Correction ρ names n tree states answers row new (m .0) (m .1) r)
       (states, answers)
   pub push : (names : ℕ) (tree : List ℕ) (queue : Queue) (row : List ℕ)
-      → Promised matching.Refused (λ r q. Push names tree queue row r q) queue
+      → Promised matching.Refused (λ r q. Push ρ names tree queue row r q) queue
   -- rows, for alternatives handed in; whether they are accepted
   pub listed-fits : (names : ℕ) (tree steps tests edges operands : List ℕ)
       → One (ListedFits names tree steps tests edges operands)
   pub listed-match-row : (names n : ℕ) (tree steps tests edges operands states : List ℕ) (row : ℕ)
-      → One (listed.ListedMatch names n tree steps tests edges operands states row)
+      → One (listed.ListedMatch ρ names n tree steps tests edges operands states row)
   pub listed-match-all : (names n : ℕ) (tree steps tests edges operands states answers tried : List ℕ)
       → Promised {M = Two} Refused
-      (λ r m. listed.ListedAll names n tree steps tests edges operands states answers tried (m .0) (m .1) r)
+      (λ r m. listed.ListedAll ρ names n tree steps tests edges operands states answers tried (m .0) (m .1) r)
       (answers, tried)
   pub listed-totals : (names n : ℕ) (tree steps tests edges operands states : List ℕ)
-      → One (listed.ListedTotals names n tree steps tests edges operands states)
+      → One (listed.ListedTotals ρ names n tree steps tests edges operands states)
   pub listed-push : (names : ℕ) (tree steps tests edges operands : List ℕ) (queue : Queue) (row : List ℕ)
       → Promised matching.Refused
-      (λ r q. listed.ListedPush names tree steps tests edges operands queue row r q) queue
+      (λ r q. listed.ListedPush ρ names tree steps tests edges operands queue row r q) queue
   -- the listing, and the lines of the table: of a pattern, and any other
   pub list : (names n : ℕ) (tree states times out : List ℕ)
-      → Promised Refused (λ r m. ListsTree names n tree times states out m r) out
+      → Promised Refused (λ r m. ListsTree ρ names n tree times states out m r) out
   pub table-line : (names n : ℕ) (tree states pattern out : List ℕ)
-      → Promised Refused (λ r m. LinesTree names n tree states pattern out m r) out
+      → Promised Refused (λ r m. LinesTree ρ names n tree states pattern out m r) out
   pub line : (text out : List ℕ) → Promised Refused (λ r m. Delivers text out m r) out

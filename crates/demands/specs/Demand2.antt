@@ -40,34 +40,35 @@ module _ {file text : List ℕ} (q : Question file text) where
     pub survives : Survives q
     -- as written: at a row, by recursion over the tree; on one window
     pub as-written : (i : ℕ) (x : Told) → i < q .rows
-        → RowAnswer (namesOf q) (q .rows) (treeOf q) (q .states) i x → AnsweredAs (answerAt q i) x
+        → RowAnswer (q .rules) (namesOf q) (q .rows) (treeOf q) (q .states) i x → AnsweredAs (answerAt q i) x
     pub on-window : (a b : ℕ) (x : Told) → max a b < q .rows
-        → WindowAnswer (namesOf q) (q .rows) (treeOf q) (q .states) a b x
-        → AnsweredAs (numbered (answer (stateAt (namesOf q) (q .states)) (q .pattern) a b)) x
+        → WindowAnswer (q .rules) (namesOf q) (q .rows) (treeOf q) (q .states) a b x
+        → AnsweredAs (numbered (answer (stateAt (q .rules) (namesOf q) (q .states)) (q .pattern) a b)) x
     -- by alternatives, with the number tried: at a row, at all rows
     pub by-alternatives : (i : ℕ) (y : Matching) → i < q .rows
-        → RowMatch (namesOf q) (q .rows) (treeOf q) (q .states) i y → FoundAs (answerAt q i) (triesAt q i) y
+        → RowMatch (q .rules) (namesOf q) (q .rows) (treeOf q) (q .states) i y → FoundAs (answerAt q i) (triesAt q i) y
     pub all-rows : (answers tried answers′ tried′ : List ℕ) (r : Outcome) → length answers ≡ q .rows
         → length tried ≡ q .rows
-        → AllMatched (namesOf q) (q .rows) (treeOf q) (q .states) answers tried answers′ tried′ r
+        → AllMatched (q .rules) (namesOf q) (q .rows) (treeOf q) (q .states) answers tried answers′ tried′ r
         → (r ≡ Done (q .rows)) × (answers′ ≡ listed 0 (q .rows) (answerAt q))
         × (tried′ ≡ listed 0 (q .rows) (triesAt q))
     -- by the queue: the rows of the trace are pushed, the first into a queue that keeps nothing
     pub by-queue : (queues : ℕ → Queue) (results : ℕ → Matching) → queues 0 .kept .0 ≡ 0
         → ((i : ℕ) → i < q .rows
-        → Push (namesOf q) (treeOf q) (queues i) (codesOf (namesOf q) (q .states) i) (results i) (queues (suc i)))
+        → Push (q .rules) (namesOf q) (treeOf q) (queues i) (codesOf (namesOf q) (q .states) i) (results i)
+        (queues (suc i)))
         → (i : ℕ) → i < q .rows → FoundAs (answerAt q i) (triesAt q i) (results i)
     -- any rows over the same names, and any number of pushes: push i answers for row i of what was fed so far
     pub any-feed : (n : ℕ) (rows : ℕ → List ℕ) (queues : ℕ → Queue) (results : ℕ → Matching)
         → queues 0 .kept .0 ≡ 0
         → ((i : ℕ) → i < n → length (rows i) ≡ namesOf q) → ((i : ℕ) → i < n → Codes (rows i))
-        → ((i : ℕ) → i < n → Push (namesOf q) (treeOf q) (queues i) (rows i) (results i) (queues (suc i)))
+        → ((i : ℕ) → i < n → Push (q .rules) (namesOf q) (treeOf q) (queues i) (rows i) (results i) (queues (suc i)))
         → (i : ℕ) → i < n
         → FoundAs (answerOn q (fed rows (suc i)) i) (triesOn q (fed rows (suc i)) i) (results i)
     -- the totals are of these answers, and yes, no and unknown together are n-1
-    pub totals-right : (z : Counting) → RowTotals (namesOf q) (q .rows) (treeOf q) (q .states) z
+    pub totals-right : (z : Counting) → RowTotals (q .rules) (namesOf q) (q .rows) (treeOf q) (q .states) z
         → (t : Total) × ((z ≡ counting.Counted t)
-        × Totals (stateAt (namesOf q) (q .states)) (q .pattern) (q .rows) (t .yes) (t .no) (t .unknown)
+        × Totals (stateAt (q .rules) (namesOf q) (q .states)) (q .pattern) (q .rows) (t .yes) (t .no) (t .unknown)
         × (t .yes + t .no + t .unknown ≡ q .rows - 1))
     -- by the lists that `rewrite` writes: accepted, nothing dropped, and the same answers
     pub by-lists : (steps tests edges operands : List ℕ)
@@ -79,4 +80,4 @@ module _ {file text : List ℕ} (q : Question file text) where
         × ((t : ℕ) → t < numberOfAlternatives (q .pattern)
         → getD flags′ t 0 ≡ (if contradictory (namesOf q) (getD (alternatives (q .pattern)) t []) then 1 else 0))
     pub never-yes : (t i : ℕ) → contradictory (namesOf q) (getD (alternatives (q .pattern)) t []) ≡ true
-        → atRow (stateAt (namesOf q) (q .states)) i (getD (alternatives (q .pattern)) t []) ≡ YES → ⊥
+        → atRow (stateAt (q .rules) (namesOf q) (q .states)) i (getD (alternatives (q .pattern)) t []) ≡ YES → ⊥

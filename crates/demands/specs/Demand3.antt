@@ -18,7 +18,7 @@ module _ {file text : List ℕ} (q : Question file text) where
   -- the call on the question's trace, with a list of answers, for row r and its new states
   abbrev pub Corrects : List ℕ → ℕ → List ℕ → List ℕ → List ℕ → Outcome → Type 0
   Corrects answers r new states′ answers′ o =
-      Correction (namesOf q) (q .rows) (treeOf q) (q .states) answers r new states′ answers′ o
+      Correction (q .rules) (namesOf q) (q .rows) (treeOf q) (q .states) answers r new states′ answers′ o
 
   abbrev pub last : ℕ → ℕ
   last r = lastRewritten (K q) (q .rows) r

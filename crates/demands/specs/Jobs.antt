@@ -14,19 +14,20 @@ use Rattle.jobs.specs.Lines.{TableLine}
 use Rattle.letter_corrections.specs.Correcting.{CorrectsLetters}
 use Rattle.alternative_listings.specs.AlternativesText.{RewritesText}
 use Rattle.demands.specs.Promises.{Promised, One}
+use Rattle.alf.specs.declared.Rules.{Rules}
 
 -- a call whose result tells of more than one refusal
 pub record Single {R M : Type 0} (allows : R → M → Type 0) : Type 0 where
   pub one : (a b : R) (m n : M) → allows a m → allows b n → (a ≡ b) × (m ≡ n)
 
-pub record Demand1Jobs : Type 0 where
-  pub count-text : (names : List ℕ) (n : ℕ) (states text : List ℕ) → One (CountsText names n states text)
+pub record Demand1Jobs (ρ : Rules) : Type 0 where
+  pub count-text : (names : List ℕ) (n : ℕ) (states text : List ℕ) → One (CountsText ρ names n states text)
   pub table-line : (names : List ℕ) (n : ℕ) (states text out : List ℕ)
-      → Single (λ r m. TableLine names n states text out m r)
+      → Single (λ r m. TableLine ρ names n states text out m r)
   pub list-text : (names times states text out : List ℕ)
-      → Promised Refused (λ r m. ListsPattern names times states text out m r) out
+      → Promised Refused (λ r m. ListsPattern ρ names times states text out m r) out
   pub values-text : (names times states text out : List ℕ)
-      → Promised Refused (λ r m. ListsValues names times states text out m r) out
+      → Promised Refused (λ r m. ListsValues ρ names times states text out m r) out
   pub list-values : (times values out : List ℕ) → Promised Refused (λ r m. ValuesText times values out m r) out
   pub alternatives-text : (names text out : List ℕ) → Single (λ r m. RewritesText names text out m r)
   pub write-alternatives : (names tree out : List ℕ) → Single (λ r m. WritesAlternatives names tree out m r)

@@ -32,25 +32,26 @@ module _ {file text : List ℕ} (q : Question file text) (steps tests edges oper
     pub all-kept : alternativesOf (treeOf q) (namesOf q) steps tests edges operands ≡ alternatives (q .pattern)
     -- at a row, at all rows, the totals
     pub at-row : (i : ℕ) (y : Matching) → i < q .rows
-        → ListedMatch (namesOf q) (q .rows) (treeOf q) steps tests edges operands (q .states) i y
+        → ListedMatch (q .rules) (namesOf q) (q .rows) (treeOf q) steps tests edges operands (q .states) i y
         → FoundAs (answerAt q i) (triesAt q i) y
     pub at-all : (answers tried answers′ tried′ : List ℕ) (r : Outcome) → length answers ≡ q .rows
         → length tried ≡ q .rows
-        → ListedAll (namesOf q) (q .rows) (treeOf q) steps tests edges operands (q .states) answers tried answers′
+        → ListedAll (q .rules) (namesOf q) (q .rows) (treeOf q) steps tests edges operands
+        (q .states) answers tried answers′
         tried′ r
         → (r ≡ Done (q .rows)) × (answers′ ≡ listed 0 (q .rows) (answerAt q))
         × (tried′ ≡ listed 0 (q .rows) (triesAt q))
     pub counted : (z : Counting)
-        → ListedTotals (namesOf q) (q .rows) (treeOf q) steps tests edges operands (q .states) z
+        → ListedTotals (q .rules) (namesOf q) (q .rows) (treeOf q) steps tests edges operands (q .states) z
         → (t : Total) × ((z ≡ counting.Counted t)
-        × Totals (stateAt (namesOf q) (q .states)) (q .pattern) (q .rows) (t .yes) (t .no) (t .unknown)
+        × Totals (stateAt (q .rules) (namesOf q) (q .states)) (q .pattern) (q .rows) (t .yes) (t .no) (t .unknown)
         × (t .yes + t .no + t .unknown ≡ q .rows - 1))
     -- by the queue, for any rows and any number of pushes
     pub fed-to : (n : ℕ) (rows : ℕ → List ℕ) (queues : ℕ → Queue) (results : ℕ → Matching)
         → queues 0 .kept .0 ≡ 0
         → ((i : ℕ) → i < n → length (rows i) ≡ namesOf q) → ((i : ℕ) → i < n → Codes (rows i))
         → ((i : ℕ) → i < n
-        → ListedPush (namesOf q) (treeOf q) steps tests edges operands (queues i) (rows i) (results i)
+        → ListedPush (q .rules) (namesOf q) (treeOf q) steps tests edges operands (queues i) (rows i) (results i)
         (queues (suc i)))
         → (i : ℕ) → i < n
         → FoundAs (answerOn q (fed rows (suc i)) i) (triesOn q (fed rows (suc i)) i) (results i)

@@ -5,8 +5,7 @@
 --   rowByRow, recordNumbers         13 and 15 row by row; the numbers of a record of a file, by its mark
 --   inTable                         a number of the table: 1 to 19
 --   Numbers                         the orders of the public calls have these numbers
---   Refuses                         a contract refuses with these numbers alone, all from 1 to 19
---   RefusedNumbers                  so do the public calls
+--   Refuses, RefusedNumbers         a contract refuses with these alone, all from 1 to 19; so do the public calls
 use Prim.Native.Nat.{ℕ, zero, suc, _-_, _≤_}
 use mathlib.Core.Path.{_≡_}
 use mathlib.Core.Bool.{Bool, true, _&&_}
@@ -15,6 +14,7 @@ use lib.Dec.{leb}
 use lib.ListN.{length}
 use Rattle.basics.specs.declared.Refusal.{Refusal}
 use Rattle.basics.specs.declared.Outcome.the-variants.{Refused}
+use Rattle.alf.specs.declared.Rules.{Rules}
 use Rattle.alf.specs.declared.Sort.{Sort}
 use Rattle.alf.specs.declared.Sort.the-variants.{Boolean, Vector}
 use Rattle.alf.specs.States.{among}
@@ -186,7 +186,7 @@ pub record Refuses {R : Type 0} (refused : Refusal → R) (allows : R → Type 0
   pub in-table : (r : Refusal) → allows (refused r) → (1 ≤ r .number) × (r .number ≤ 19)
 
 -- The public calls refuse with these numbers alone. A list with a prime is memory at exit.
-pub record RefusedNumbers : Type 0 where
+pub record RefusedNumbers (ρ : Rules) : Type 0 where
   pub check-names : (names : List ℕ) → Refuses Refused (ChecksNames names) namesNumbers
   pub read-expression : (names text : List ℕ) (sort : Sort)
       → Refuses refusedBy (ReadsText names text sort) textNumbers
@@ -209,42 +209,42 @@ pub record RefusedNumbers : Type 0 where
   pub contradictions : (names : ℕ) (tree flags flags′ : List ℕ)
       → Refuses Refused (flagging.Contradicts names tree flags flags′) flagNumbers
   pub row-state : (names n : ℕ) (tree states : List ℕ) (row : ℕ)
-      → Refuses Refused (RowState names n tree states row) rowNumbers
+      → Refuses Refused (RowState ρ names n tree states row) rowNumbers
   pub row-value : (names n : ℕ) (tree states : List ℕ) (row : ℕ)
-      → Refuses Refused (RowValue names n tree states row) rowNumbers
+      → Refuses Refused (RowValue ρ names n tree states row) rowNumbers
   pub values : (names n : ℕ) (tree states out out′ : List ℕ)
-      → Refuses Refused (AllValues names n tree states out out′) rowsNumbers
+      → Refuses Refused (AllValues ρ names n tree states out out′) rowsNumbers
   pub row-answer : (names n : ℕ) (tree states : List ℕ) (row : ℕ)
-      → Refuses told.Refused (RowAnswer names n tree states row) rowNumbers
+      → Refuses told.Refused (RowAnswer ρ names n tree states row) rowNumbers
   pub window-answer : (names n : ℕ) (tree states : List ℕ) (from to : ℕ)
-      → Refuses told.Refused (WindowAnswer names n tree states from to) rowNumbers
+      → Refuses told.Refused (WindowAnswer ρ names n tree states from to) rowNumbers
   pub match-row : (names n : ℕ) (tree states : List ℕ) (row : ℕ)
-      → Refuses matching.Refused (RowMatch names n tree states row) rowNumbers
+      → Refuses matching.Refused (RowMatch ρ names n tree states row) rowNumbers
   pub match-all : (names n : ℕ) (tree states answers tried answers′ tried′ : List ℕ)
-      → Refuses Refused (AllMatched names n tree states answers tried answers′ tried′) rowsNumbers
+      → Refuses Refused (AllMatched ρ names n tree states answers tried answers′ tried′) rowsNumbers
   pub totals : (names n : ℕ) (tree states : List ℕ)
-      → Refuses counting.Refused (RowTotals names n tree states) rowsNumbers
+      → Refuses counting.Refused (RowTotals ρ names n tree states) rowsNumbers
   pub correct : (names n : ℕ) (tree states answers : List ℕ) (row : ℕ) (new states′ answers′ : List ℕ)
-      → Refuses Refused (Correction names n tree states answers row new states′ answers′) correctionNumbers
+      → Refuses Refused (Correction ρ names n tree states answers row new states′ answers′) correctionNumbers
   pub push : (names : ℕ) (tree : List ℕ) (queue : Queue) (row : List ℕ) (queue′ : Queue)
-      → Refuses matching.Refused (λ r. Push names tree queue row r queue′) rowsNumbers
+      → Refuses matching.Refused (λ r. Push ρ names tree queue row r queue′) rowsNumbers
   pub listed-match-row : (names n : ℕ) (tree steps tests edges operands states : List ℕ) (row : ℕ)
-      → Refuses matching.Refused (listed.ListedMatch names n tree steps tests edges operands states row) rowNumbers
+      → Refuses matching.Refused (listed.ListedMatch ρ names n tree steps tests edges operands states row) rowNumbers
   pub listed-match-all :
       (names n : ℕ) (tree steps tests edges operands states answers tried answers′ tried′ : List ℕ) →
       Refuses Refused
-      (listed.ListedAll names n tree steps tests edges operands states answers tried answers′ tried′)
+      (listed.ListedAll ρ names n tree steps tests edges operands states answers tried answers′ tried′)
       rowsNumbers
   pub listed-totals : (names n : ℕ) (tree steps tests edges operands states : List ℕ)
-      → Refuses counting.Refused (listed.ListedTotals names n tree steps tests edges operands states) rowsNumbers
+      → Refuses counting.Refused (listed.ListedTotals ρ names n tree steps tests edges operands states) rowsNumbers
   pub listed-push : (names : ℕ) (tree steps tests edges operands : List ℕ) (queue : Queue) (row : List ℕ)
       (queue′ : Queue)
-      → Refuses matching.Refused (λ r. listed.ListedPush names tree steps tests edges operands queue row r queue′)
+      → Refuses matching.Refused (λ r. listed.ListedPush ρ names tree steps tests edges operands queue row r queue′)
       rowsNumbers
   pub listed-fits : (names : ℕ) (tree steps tests edges operands : List ℕ)
       → Refuses Refused (ListedFits names tree steps tests edges operands) fitsNumbers
   pub list : (names n : ℕ) (tree times states out out′ : List ℕ)
-      → Refuses Refused (ListsTree names n tree times states out out′) textNumbersOfTree
+      → Refuses Refused (ListsTree ρ names n tree times states out out′) textNumbersOfTree
   pub table-line : (names n : ℕ) (tree states pattern out out′ : List ℕ)
-      → Refuses Refused (LinesTree names n tree states pattern out out′) textNumbersOfTree
+      → Refuses Refused (LinesTree ρ names n tree states pattern out out′) textNumbersOfTree
   pub line : (text out out′ : List ℕ) → Refuses Refused (Delivers text out out′) lineNumbers

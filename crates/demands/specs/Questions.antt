@@ -19,6 +19,7 @@ use Rattle.alf.specs.declared.Sort.{Sort}
 use Rattle.alf.specs.declared.Sort.the-variants as sort
 use Rattle.alf.specs.Expressions.{Boolean, Vector, Expression, boolean, vector}
 use Rattle.alf.specs.Bytes.{bytesOf}
+use Rattle.alf.specs.declared.Rules.{Rules}
 use Rattle.alf.specs.Values.{stateAt, valueAt}
 use Rattle.alf.specs.Windows.{rowAnswer}
 use Rattle.alf.specs.Alternatives.{alternatives, tries, stepsOf}
@@ -26,6 +27,7 @@ use Rattle.trace_format.specs.Format.{Trace, Fitting, fileIn}
 use Rattle.reader.specs.Reading.{Gives}
 
 pub record Asked {A : Type 0} (into : A → Expression) (sort : Sort) (file text : List ℕ) : Type 0 where
+  pub rules : Rules
   pub names : List ℕ
   pub times : List ℕ
   pub states : List ℕ
@@ -55,10 +57,10 @@ module _ {file text : List ℕ} where
   -- the answer of the pattern at a row of a trace with the question's names, as document 01 defines and numbers it; and
   -- how many of its alternatives are tried there
   abbrev pub answerOn : Question file text → List ℕ → ℕ → ℕ
-  answerOn q states = rowAnswer (stateAt (namesOf q) states) (q .pattern)
+  answerOn q states = rowAnswer (stateAt (q .rules) (namesOf q) states) (q .pattern)
 
   abbrev pub triesOn : Question file text → List ℕ → ℕ → ℕ
-  triesOn q states = tries (stateAt (namesOf q) states) (alternatives (q .pattern))
+  triesOn q states = tries (stateAt (q .rules) (namesOf q) states) (alternatives (q .pattern))
 
   -- on the question's own trace
   abbrev pub answerAt : Question file text → ℕ → ℕ
@@ -73,7 +75,7 @@ module _ {file text : List ℕ} where
 
   -- the value and the state of a boolean expression at a row
   abbrev pub valueOf : Formula file text → ℕ → ℕ
-  valueOf q = valueAt (namesOf q) (q .states) (q .pattern)
+  valueOf q = valueAt (q .rules) (namesOf q) (q .states) (q .pattern)
 
   abbrev pub stateOf : Formula file text → ℕ → ℕ
-  stateOf q = stateAt (namesOf q) (q .states) (q .pattern)
+  stateOf q = stateAt (q .rules) (namesOf q) (q .states) (q .pattern)

@@ -17,11 +17,11 @@ module _ {file text : List ℕ} (q : Formula file text) where
   pub record Demand2Values : Type 0 where
     pub survives : Survives q
     pub value-at : (i : ℕ) (r : Outcome) → i < q .rows
-        → RowValue (namesOf q) (q .rows) (treeOf q) (q .states) i r
+        → RowValue (q .rules) (namesOf q) (q .rows) (treeOf q) (q .states) i r
         → r ≡ Done (valueOf q i)
     pub state-at : (i : ℕ) (r : Outcome) → i < q .rows
-        → RowState (namesOf q) (q .rows) (treeOf q) (q .states) i r
+        → RowState (q .rules) (namesOf q) (q .rows) (treeOf q) (q .states) i r
         → r ≡ Done (stateOf q i)
     pub all-values : (out out′ : List ℕ) (r : Outcome) → length out ≡ q .rows
-        → AllValues (namesOf q) (q .rows) (treeOf q) (q .states) out out′ r
+        → AllValues (q .rules) (namesOf q) (q .rows) (treeOf q) (q .states) out out′ r
         → (r ≡ Done (q .rows)) × (out′ ≡ listed 0 (q .rows) (valueOf q))

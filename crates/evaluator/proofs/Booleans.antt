@@ -11,6 +11,7 @@ use mathlib.Core.Logic.{_⊎_, inl, inr}
 use mathlib.Core.List.{List}
 use lib.ListN.{getD, length}
 use borrow.Author.Tests.{lt-ltb, le-ltb}
+use Rattle.alf.specs.declared.Rules.{Rules}
 use Rattle.alf.specs.States.{notOf}
 use Rattle.alf.specs.Expressions.{literal}
 use Rattle.alf.specs.Values.{operate, chosen, value, recordedOr, state}
@@ -103,42 +104,43 @@ module _ {t : List ℕ} {names end : ℕ} (h : EndsBoolean t names end) where
 
   -- the state and the value
   module _ {states : List ℕ} {row : ℕ} (w : Within states names row) where
-    abbrev At : ℕ → ℕ → Type 0
-    At e r = IsState (stateOf t names states e row) r
+    abbrev At : Rules → ℕ → ℕ → Type 0
+    At ρ e r = IsState (stateOf ρ t names states e row) r
 
     pub name-room : lastByte t end < 32 → row * names + lastByte t end < length states
     name-room k = let l = name-known k in let r = w .room in omega arith
 
-    pub name-state : lastByte t end < 32 → At end (getD states (row * names + lastByte t end) 0)
+    pub name-state : (ρ : Rules) → lastByte t end < 32 → At ρ end (getD states (row * names + lastByte t end) 0)
     unfolding state recordedOr
-    name-state k = record { is = rw (name-is k .is) refl; code = w .codes _ (name-room k) }
+    name-state ρ k = record { is = rw (name-is k .is) refl; code = w .codes _ (name-room k) }
 
-    pub literal-state : 32 ≤ lastByte t end → lastByte t end < 40 → At end (lastByte t end - 32)
+    pub literal-state : (ρ : Rules) → 32 ≤ lastByte t end → lastByte t end < 40 → At ρ end (lastByte t end - 32)
     unfolding state recordedOr value
-    literal-state k j = record { is = rw (literal-is k j) refl; code = omega arith }
+    literal-state ρ k j = record { is = rw (literal-is k j) refl; code = omega arith }
 
-    pub negation-state : {x r : ℕ} → 64 ≤ lastByte t end → At (end - 1) x → (r ≡ notOf x) × (r < 8)
-        → At end r
-    negation-state k a q =
-        record { is = rw (negation-is k .is, state-negated, ← a .is) (q .0); code = q .1 }
+    pub negation-state : (ρ : Rules) {x r : ℕ} → 64 ≤ lastByte t end → At ρ (end - 1) x → (r ≡ notOf x) × (r < 8)
+        → At ρ end r
+    negation-state ρ k a q =
+        record { is = rw (negation-is k .is, state-negated _ ρ, ← a .is) (q .0); code = q .1 }
 
-    pub binary-state : {m x y r : ℕ} → 40 ≤ lastByte t end → lastByte t end < 60 → Start t names (end - 1) m
-        → At m x → At (end - 1) y → IsState (operate (binaryAt (lastByte t end - 40)) x y) r → At end r
-    binary-state k j g a d q =
-        record { is = rw (binary-is k j .is, state-binary, ← g .left, ← a .is, ← d .is) (q .is); code = q .code }
-
-    abbrev ValueAt : ℕ → ℕ → Type 0
-    ValueAt e r = IsState (valueOf t names states e row) r
-
-    pub value-state : {x r : ℕ} → At end x → IsState (settledBy (lastByte t end) x) r → ValueAt end r
-    value-state a q = record { is = rw (value-settled, settled-is, ← a .is) (q .is); code = q .code }
-
-    pub choice-state : {m o c x y r : ℕ} → 60 ≤ lastByte t end → lastByte t end < 64
+    pub binary-state : (ρ : Rules) {m x y r : ℕ} → 40 ≤ lastByte t end → lastByte t end < 60
         → Start t names (end - 1) m
-        → Start t names m o → At o c → ValueAt m x → ValueAt (end - 1) y → IsState (chosen c x y) r
-        → At end r
-    choice-state k j g f a d e q =
+        → At ρ m x → At ρ (end - 1) y → IsState (operate (binaryAt (lastByte t end - 40)) x y) r → At ρ end r
+    binary-state ρ k j g a d q =
+        record { is = rw (binary-is k j .is, state-binary _ ρ, ← g .left, ← a .is, ← d .is) (q .is); code = q .code }
+
+    abbrev ValueAt : Rules → ℕ → ℕ → Type 0
+    ValueAt ρ e r = IsState (valueOf ρ t names states e row) r
+
+    pub value-state : (ρ : Rules) {x r : ℕ} → At ρ end x → IsState (settledBy (lastByte t end) x) r → ValueAt ρ end r
+    value-state ρ a q = record { is = rw (value-settled _ ρ, settled-is, ← a .is) (q .is); code = q .code }
+
+    pub choice-state : (ρ : Rules) {m o c x y r : ℕ} → 60 ≤ lastByte t end → lastByte t end < 64
+        → Start t names (end - 1) m
+        → Start t names m o → At ρ o c → ValueAt ρ m x → ValueAt ρ (end - 1) y → IsState (chosen ρ c x y) r
+        → At ρ end r
+    choice-state ρ k j g f a d e q =
         record {
-          is = rw (choice-is k j .is, state-choice, ← g .left, ← f .left, ← a .is, ← d .is, ← e .is) (q .is);
+          is = rw (choice-is k j .is, state-choice _ ρ, ← g .left, ← f .left, ← a .is, ← d .is, ← e .is) (q .is);
           code = q .code;
         }

@@ -8,6 +8,7 @@ use mathlib.Core.List.{List}
 use lib.Dec.{ltb}
 use lib.ListN.{length, getD}
 use Rattle.basics.specs.Words.{if_then_else_}
+use Rattle.alf.specs.declared.Rules.{Rules}
 use Rattle.alf.specs.States.{reduce}
 use Rattle.alf.specs.Values.{stateAt, valueAt}
 use Rattle.trees.specs.Parts.{booleanAt}
@@ -37,11 +38,11 @@ abbrev pub settledBy : ℕ → ℕ → ℕ
 settledBy b s = if ltb b 32 then reduce s else s
 
 -- the state, and the value, at each row, of the boolean expression that ends at `end`
-abbrev pub stateOf : List ℕ → ℕ → List ℕ → ℕ → ℕ → ℕ
-stateOf tree names states end = stateAt names states (booleanAt tree names end)
+abbrev pub stateOf : Rules → List ℕ → ℕ → List ℕ → ℕ → ℕ → ℕ
+stateOf ρ tree names states end = stateAt ρ names states (booleanAt tree names end)
 
-abbrev pub valueOf : List ℕ → ℕ → List ℕ → ℕ → ℕ → ℕ
-valueOf tree names states end = valueAt names states (booleanAt tree names end)
+abbrev pub valueOf : Rules → List ℕ → ℕ → List ℕ → ℕ → ℕ → ℕ
+valueOf ρ tree names states end = valueAt ρ names states (booleanAt tree names end)
 
 -- each of the first n rows stands in the states, and the list has room for an entry for each
 pub record Filling (states : List ℕ) (names n : ℕ) (out : List ℕ) : Type 0 where

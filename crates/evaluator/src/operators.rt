@@ -1,8 +1,9 @@
 // What an operator makes of the states of its operands.
 ghost use Prim.Native.Nat.{_-_, _<_};
-ghost use Rattle.alf.specs.Values.{operate, chosen};
+ghost use Rattle.alf.specs.Values.{operate, unresolved, chosen};
 ghost use Rattle.alf.specs.Decoder.{binaryAt};
 ghost use Rattle.evaluator.specs.Rows.{IsState, Operands, settledBy};
+use alf::Rules;
 use states::states::above;
 use states::states::and_of;
 use states::states::at_least;
@@ -42,14 +43,25 @@ pub fn settle(b: u8, x: u8) -> u8
     if b < 32 { reduced(x) } else { x }
 }
 
+// `c ? x : y` of two values, where c is unknown. Nothing else looks into the rules.
+pub fn resolve(rules: Rules, x: u8, y: u8) -> u8
+    requires { ⌜ x < 8 ⌝ }
+    ensures { λ r. ⌜ IsState (unresolved rules x y) r ⌝ }
+{
+    if x != y {
+        return 2;
+    }
+    if rules.equal_branches { x } else { 2 }
+}
+
 // `c ? x : y`, of two values.
-pub fn choose(c: u8, x: u8, y: u8) -> u8
+pub fn choose(rules: Rules, c: u8, x: u8, y: u8) -> u8
     requires { ⌜ (c < 8) × (x < 8) × (y < 8) ⌝ }
-    ensures { λ r. ⌜ IsState (chosen c x y) r ⌝ }
+    ensures { λ r. ⌜ IsState (chosen rules c x y) r ⌝ }
 {
     let k = reduced(c);
     if k == 2 {
-        return 2;
+        return resolve(rules, x, y);
     }
     if k == 1 { x } else { y }
 }

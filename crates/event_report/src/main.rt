@@ -4,10 +4,14 @@
 mod reports;
 mod shown;
 
+use alf::Rules;
 use libc::STDIN_FILENO;
 
 fn main() {
     let mut input = io::large_buffer();
     let n = io::read_full(STDIN_FILENO, &mut input);
-    crate::shown::show_lines(&input[..n]);
+    let rules = Rules {
+        equal_branches: false,
+    };
+    crate::shown::show_lines(rules, &input[..n]);
 }

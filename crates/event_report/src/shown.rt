@@ -8,6 +8,7 @@ use crate::reports::size_of;
 use crate::reports::states_of;
 use crate::reports::time_of;
 use alf::RowNo;
+use alf::Rules;
 use basics::Outcome;
 use matcher::tables::number_of;
 use matching_calls::matching::match_all;
@@ -54,7 +55,7 @@ fn say_none(some: bool) {
 }
 
 // The times at which an expression is true as it is written: on a window that ends there.
-fn windows(report: &[u8], n: usize, tree: &[u8], states: &[u8])
+fn windows(rules: Rules, report: &[u8], n: usize, tree: &[u8], states: &[u8])
     requires { ⌜ n ≤ 12 ⌝ }
 {
     let names = names_of(report);
@@ -64,7 +65,7 @@ fn windows(report: &[u8], n: usize, tree: &[u8], states: &[u8])
         some = say_told(
             some,
             time_of(report, i),
-            row_answer(names, n, tree, states, RowNo(i as u32)),
+            row_answer(rules, names, n, tree, states, RowNo(i as u32)),
         );
         i += 1;
     }
@@ -94,12 +95,13 @@ fn say_all(report: &[u8], n: usize, r: Outcome, answers: &[u8; 64])
 }
 
 // The same by its alternatives, all rows in one call.
-fn alternatives(report: &[u8], n: usize, tree: &[u8], states: &[u8])
+fn alternatives(rules: Rules, report: &[u8], n: usize, tree: &[u8], states: &[u8])
     requires { ⌜ n ≤ 12 ⌝ }
 {
     let mut answers = zeros();
     let mut tried = [0u32; 64];
     let r = match_all(
+        rules,
         names_of(report),
         n,
         tree,
@@ -110,22 +112,22 @@ fn alternatives(report: &[u8], n: usize, tree: &[u8], states: &[u8])
     say_all(report, n, r, &answers);
 }
 
-fn show_tree(report: &[u8], tree: &[u8]) {
+fn show_tree(rules: Rules, report: &[u8], tree: &[u8]) {
     let states = states_of(report);
     let n = rows_of(report);
     let end = size_of(names_of(report), n);
     write(b"\n  windows:     ");
-    windows(report, n, tree, &states[0..end]);
+    windows(rules, report, n, tree, &states[0..end]);
     write(b"\n  alternatives:");
-    alternatives(report, n, tree, &states[0..end]);
+    alternatives(rules, report, n, tree, &states[0..end]);
     character(b'\n');
 }
 
-fn show_read(report: &[u8], tree: &[u8; 256], len: usize) {
-    show_tree(report, front(tree, len));
+fn show_read(rules: Rules, report: &[u8], tree: &[u8; 256], len: usize) {
+    show_tree(rules, report, front(tree, len));
 }
 
-fn show_text(report: &[u8], text: &[u8]) {
+fn show_text(rules: Rules, report: &[u8], text: &[u8]) {
     let r = read(report, text);
     let refused = r.refused;
     if refused {
@@ -133,37 +135,37 @@ fn show_text(report: &[u8], text: &[u8]) {
         return character(b'\n');
     }
     let tree = r.tree;
-    show_read(report, &tree, r.len);
+    show_read(rules, report, &tree, r.len);
 }
 
 // A case: its parts are separated by `;`, the report, a label, an expression, and the times stated.
-fn show_case(report: &[u8], line: &[u8]) {
+fn show_case(rules: Rules, report: &[u8], line: &[u8]) {
     write(part(line, 1, b';'));
     write(b": ");
     write(part(line, 2, b';'));
     write(b"\n  000:          ");
     write(part(line, 3, b';'));
-    show_text(report, part(line, 2, b';'));
+    show_text(rules, report, part(line, 2, b';'));
 }
 
 // A line that is empty or starts with `#` is a remark; one that starts with `=` is a report.
-fn show_line(input: &[u8], line: &[u8]) {
+fn show_line(rules: Rules, input: &[u8], line: &[u8]) {
     if line.len() == 0 {
         return;
     }
     match line[0] {
         b'#' | b'=' => return,
-        b'w' => show_case(part(input, 0, b'\n'), line),
-        b'n' => show_case(part(input, 1, b'\n'), line),
+        b'w' => show_case(rules, part(input, 0, b'\n'), line),
+        b'n' => show_case(rules, part(input, 1, b'\n'), line),
         _ => broken(line),
     }
 }
 
 // Each line of the input, of which the first two are the reports.
-pub fn show_lines(input: &[u8]) {
+pub fn show_lines(rules: Rules, input: &[u8]) {
     let mut at: usize = 0;
     while at < input.len() {
-        show_line(input, line_at(input, at));
+        show_line(rules, input, line_at(input, at));
         at = behind_line(input, at);
     }
 }

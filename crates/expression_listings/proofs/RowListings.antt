@@ -11,6 +11,7 @@ use mathlib.Core.Logic.{_⊎_, inl, inr}
 use mathlib.Core.List.{List, [], _∷_}
 use lib.ListN.{length, getD, List·getD-eq-default}
 use Rattle.basics.specs.Refusing.{refusal}
+use Rattle.alf.specs.declared.Rules.{Rules}
 use Rattle.alf.specs.declared.Sort.{Sort}
 use Rattle.alf.specs.declared.Sort.the-variants as the-sort
 use Rattle.basics.specs.declared.Refusal.{Refusal}
@@ -67,23 +68,23 @@ module _ (lent P Q : Type 0) (l : lent) (q : Q) (rest : Order) where
   lent-comes made (Refused r) h = lent-by h
 
 -- what an accepted tree is, by its sort
-pub tree-vector : (k : ℕ) (times states tree : List ℕ) → Accepted k the-sort.Vector tree
-    → treeListing k times states tree ≡ patternListing k times states (vectorAt tree k (length tree))
+pub tree-vector : (ρ : Rules) (k : ℕ) (times states tree : List ℕ) → Accepted k the-sort.Vector tree
+    → treeListing ρ k times states tree ≡ patternListing ρ k times states (vectorAt tree k (length tree))
 unfolding Decodes topVector listingOf
-tree-vector k times states tree a =
+tree-vector ρ k times states tree a =
     let v = sorted-vector (a .expression) (a .sorted) in
     let d : Decodes k tree (vector (v .p)) = rw (v .is-vector) at (accepted-decodes a) in
-    ap (listingOf k times states) (decoded k tree (vector (v .p)) d)
-    ∙ ap (patternListing k times states) (sym (ap topVector d))
+    ap (listingOf ρ k times states) (decoded k tree (vector (v .p)) d)
+    ∙ ap (patternListing ρ k times states) (sym (ap topVector d))
 
-pub tree-boolean : (k : ℕ) (times states tree : List ℕ) → Accepted k the-sort.Boolean tree
-    → treeListing k times states tree ≡ valueListing k times states (booleanAt tree k (length tree))
+pub tree-boolean : (ρ : Rules) (k : ℕ) (times states tree : List ℕ) → Accepted k the-sort.Boolean tree
+    → treeListing ρ k times states tree ≡ valueListing ρ k times states (booleanAt tree k (length tree))
 unfolding Decodes topBoolean listingOf
-tree-boolean k times states tree a =
+tree-boolean ρ k times states tree a =
     let b = sorted-boolean (a .expression) (a .sorted) in
     let d : Decodes k tree (boolean (b .c)) = rw (b .is-boolean) at (accepted-decodes a) in
-    ap (listingOf k times states) (decoded k tree (boolean (b .c)) d)
-    ∙ ap (valueListing k times states) (sym (ap topBoolean d))
+    ap (listingOf ρ k times states) (decoded k tree (boolean (b .c)) d)
+    ∙ ap (valueListing ρ k times states) (sym (ap topBoolean d))
 
 tree-over : (k : ℕ) (tree : List ℕ) → Accepted k the-sort.Boolean tree → Over k (booleanAt tree k (length tree))
 unfolding Decodes topBoolean ExpressionOver
@@ -101,11 +102,12 @@ pub accepted-as : {s sort : Sort} {k : ℕ} {tree : List ℕ} → sort ≡ s →
 accepted-as e h = rw e at h
 
 -- a pattern's tree
-pub pattern-listed : {k : ℕ} {tree times states out out′ : List ℕ} {r : Outcome} → Accepted k the-sort.Vector tree
-    → ListsTree k (length times) tree times states out out′ r
-    → RowsText k times states (treeListing k times states tree) out out′ r
-pattern-listed {k} {tree} {times} {states} {r = r} a h =
-    text-as (sym (tree-vector k times states tree a))
+pub pattern-listed : {ρ : Rules} {k : ℕ} {tree times states out out′ : List ℕ} {r : Outcome}
+    → Accepted k the-sort.Vector tree
+    → ListsTree ρ k (length times) tree times states out out′ r
+    → RowsText k times states (treeListing ρ k times states tree) out out′ r
+pattern-listed {ρ} {k} {tree} {times} {states} {r = r} a h =
+    text-as (sym (tree-vector ρ k times states tree a))
     (record {
       outcome = lent-comes (length times ≡ length times) _ _ refl a _ _ r (h .comes);
       memory = h .memory;
@@ -156,11 +158,11 @@ module _ (k : ℕ) (tree times states values : List ℕ) (lent : Type 0)
         ((lent-18 lent _ n, (s, (c, tt))), z)
     listed-as room q (Refused r) h = record { by = refused-as room q _ _ (h .by); bare = h .bare }
 
-module _ {k : ℕ} {tree times states codes codes′ : List ℕ} {o : Outcome}
+module _ {ρ : Rules} {k : ℕ} {tree times states codes codes′ : List ℕ} {o : Outcome}
     (accepted : Accepted k the-sort.Boolean tree) (size : length codes ≡ length times)
-    (h : AllValues k (length times) tree states codes codes′ o) where
+    (h : AllValues ρ k (length times) tree states codes codes′ o) where
   pub states-refused : {out : List ℕ} {r : Refusal} → o ≡ Refused r
-      → RowsText k times states (treeListing k times states tree) out out (Refused r)
+      → RowsText k times states (treeListing ρ k times states tree) out out (Refused r)
   unfolding Comes after
   states-refused {out} {r} e =
       record {
@@ -172,17 +174,17 @@ module _ {k : ℕ} {tree times states codes codes′ : List ℕ} {o : Outcome}
 
   pub states-listed : {m : ℕ} {out out′ : List ℕ} {r : Outcome} → o ≡ Done m
       → ValuesText times codes′ out out′ r
-      → RowsText k times states (treeListing k times states tree) out out′ r
+      → RowsText k times states (treeListing ρ k times states tree) out out′ r
   unfolding Comes after valueListing
   states-listed {out = out} {r = r} e d =
       let b = booleanAt tree k (length tree) in
-      let f : ℕ → ℕ = valueAt k states (booleanAt tree k (length tree)) in
-      let a : codes′ ≡ listed 0 (length times) (valueAt k states (booleanAt tree k (length tree))) =
+      let f : ℕ → ℕ = valueAt ρ k states (booleanAt tree k (length tree)) in
+      let a : codes′ ≡ listed 0 (length times) (valueAt ρ k states (booleanAt tree k (length tree))) =
       rw e at (h .memory) in
-      let few : Codes states → (i : ℕ) → valueAt k states (booleanAt tree k (length tree)) i < 8 =
-      λ s i. value-code (rowOf k states i) k (λ n. recorded states s (i * k + n)) b (tree-over k tree accepted) in
+      let few : Codes states → (i : ℕ) → valueAt ρ k states (booleanAt tree k (length tree)) i < 8 =
+      λ s i. value-code (rowOf k states i) k (λ n. recorded states s (i * k + n)) ρ b (tree-over k tree accepted) in
       let w = rw a at d in
-      text-as (sym (tree-boolean k times states tree accepted))
+      text-as (sym (tree-boolean ρ k times states tree accepted))
       (record {
         outcome =
             listed-as k tree times states (listed 0 (length times) f) (length codes ≡ length times)

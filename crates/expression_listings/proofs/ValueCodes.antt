@@ -2,15 +2,16 @@
 use Prim.Native.Nat.{ℕ, _<_}
 use native.Mathlib.Omega.{arith}
 use mathlib.Core.Path.{_≡_, refl}
-use mathlib.Core.Bool.{Bool, true, false}
+use mathlib.Core.Bool.{Bool, true, false, _&&_}
 use lib.Dec.{eqb}
 use borrow.Author.Tests.{ltb-true}
 use Rattle.basics.specs.Words.{if_then_else_}
+use Rattle.alf.specs.declared.Rules.{Rules}
 use Rattle.alf.specs.States.{reduce, rank, ranked, notOf, andOf, orOf, xorOf, xnorOf, relations, atLeast, atMost}
 use Rattle.alf.specs.States.{table, among, matches, inCells, inLines}
 use Rattle.alf.specs.Expressions.{Boolean, name, literal, negated, binary, choice, Over}
 use Rattle.alf.specs.Expressions.{Binary, and, or, xor, xnor, equals, differs, above, below, at-least, at-most}
-use Rattle.alf.specs.Values.{operate, chosen, value, recordedOr}
+use Rattle.alf.specs.Values.{operate, unresolved, chosen, value, recordedOr}
 use Rattle.basics.proofs.Choices.{every, every-at}
 use Rattle.basics.proofs.Tables.{codes}
 
@@ -45,12 +46,20 @@ reduced-code : (s : ℕ) → s < 8 → reduce s < 8
 unfolding every codes reduce
 reduced-code = coded reduce refl
 
-chosen-code : (c x y : ℕ) → x < 8 → y < 8 → chosen c x y < 8
-unfolding chosen
-chosen-code c x y h k = go (eqb (reduce c) 2) (eqb (reduce c) 1)
+unresolved-code : (ρ : Rules) (x y : ℕ) → x < 8 → unresolved ρ x y < 8
+unfolding unresolved
+unresolved-code ρ x y h = go (eqb x y && ρ .«equal_branches»)
   where
-    go : (p q : Bool) → (if p then 2 else if q then x else y) < 8
-    go true q = omega arith
+    go : (p : Bool) → (if p then x else 2) < 8
+    go true = h
+    go false = omega arith
+
+chosen-code : (ρ : Rules) (c x y : ℕ) → x < 8 → y < 8 → chosen ρ c x y < 8
+unfolding chosen
+chosen-code ρ c x y h k = go (eqb (reduce c) 2) (eqb (reduce c) 1)
+  where
+    go : (p q : Bool) → (if p then unresolved ρ x y else if q then x else y) < 8
+    go true q = unresolved-code ρ x y h
     go false true = h
     go false false = k
 
@@ -64,12 +73,12 @@ module _ (row : ℕ → ℕ) (names : ℕ) (recorded : (n : ℕ) → row n < 8) 
   recorded-code (binary o a b) h = h
   recorded-code (choice c a b) h = h
 
-  pub value-code : (e : Boolean) → Over names e → value row e < 8
+  pub value-code : (ρ : Rules) (e : Boolean) → Over names e → value ρ row e < 8
   unfolding Over value
-  value-code (name i) o = reduced-code _ (recorded i)
-  value-code (literal s) o = o
-  value-code (negated a) o = not-code _ (value-code a o)
-  value-code (binary b x y) o =
-      coded-two (operate b) (operators b) _ _ (recorded-code x (value-code x (o .0)))
-      (recorded-code y (value-code y (o .1)))
-  value-code (choice c x y) o = chosen-code (value row c) _ _ (value-code x (o .1)) (value-code y (o .2))
+  value-code ρ (name i) o = reduced-code _ (recorded i)
+  value-code ρ (literal s) o = o
+  value-code ρ (negated a) o = not-code _ (value-code ρ a o)
+  value-code ρ (binary b x y) o =
+      coded-two (operate b) (operators b) _ _ (recorded-code x (value-code ρ x (o .0)))
+      (recorded-code y (value-code ρ y (o .1)))
+  value-code ρ (choice c x y) o = chosen-code ρ (value ρ row c) _ _ (value-code ρ x (o .1)) (value-code ρ y (o .2))

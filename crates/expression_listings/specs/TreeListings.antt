@@ -11,6 +11,7 @@ use lib.ListN.{length}
 use Rattle.basics.specs.declared.Outcome.{Outcome}
 use Rattle.basics.specs.Words.{listed}
 use Rattle.basics.specs.Memory.{after, front}
+use Rattle.alf.specs.declared.Rules.{Rules}
 use Rattle.alf.specs.Expressions.{Boolean, Expression, boolean, vector}
 use Rattle.alf.specs.Values.{valueAt}
 use Rattle.alf.specs.Refusals.{Order, check, bad-lists, bad-code, no-room, Comes}
@@ -20,8 +21,8 @@ use Rattle.listing.specs.Listing.{valuesListing}
 use Rattle.tree_listings.specs.TreeTexts.{patternListing}
 
 -- of a boolean expression, its values at all rows of a trace of k names
-unfoldable pub valueListing : ℕ → List ℕ → List ℕ → Boolean → List ℕ
-valueListing k times states c = valuesListing times (listed 0 (length times) (valueAt k states c))
+unfoldable pub valueListing : Rules → ℕ → List ℕ → List ℕ → Boolean → List ℕ
+valueListing ρ k times states c = valuesListing times (listed 0 (length times) (valueAt ρ k states c))
 
 -- 18 and 15 of a trace
 abbrev pub rowsOrder : ℕ → List ℕ → List ℕ → Order → Order
@@ -36,9 +37,9 @@ pub record RowsText (k : ℕ) (times states text out out′ : List ℕ) (r : Out
   pub memory : out′ ≡ after (front text out) out r
 
 -- of an expression of either sort; of that which a tree is
-unfoldable pub listingOf : ℕ → List ℕ → List ℕ → Expression → List ℕ
-listingOf k times states (boolean c) = valueListing k times states c
-listingOf k times states (vector p) = patternListing k times states p
+unfoldable pub listingOf : Rules → ℕ → List ℕ → List ℕ → Expression → List ℕ
+listingOf ρ k times states (boolean c) = valueListing ρ k times states c
+listingOf ρ k times states (vector p) = patternListing ρ k times states p
 
-abbrev pub treeListing : ℕ → List ℕ → List ℕ → List ℕ → List ℕ
-treeListing k times states tree = listingOf k times states (expressionAt tree k (length tree))
+abbrev pub treeListing : Rules → ℕ → List ℕ → List ℕ → List ℕ → List ℕ
+treeListing ρ k times states tree = listingOf ρ k times states (expressionAt tree k (length tree))

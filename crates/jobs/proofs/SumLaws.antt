@@ -10,6 +10,7 @@ use mathlib.Core.Bool.{Bool, true, false}
 use mathlib.Core.List.{List, [], _∷_}
 use lib.ListN.{length}
 use borrow.Author.Tests.{lt-ltb}
+use Rattle.alf.specs.declared.Rules.{Rules}
 use Rattle.alf.specs.Names.{namesIn}
 use Rattle.basics.specs.declared.Refusal.{Refusal}
 use Rattle.basics.specs.Words.{if_then_else_, sumOf}
@@ -138,20 +139,20 @@ never-full {cs} n l k =
     ∙ ap Added (behind-all n cs)
 
 -- the totals of a text on a trace of n rows are n-1 together
-pub counted-modest : {names : List ℕ} {n : ℕ} {states text : List ℕ} (c : Counting)
-    → CountsText names n states text c → Modest c
+pub counted-modest : {ρ : Rules} {names : List ℕ} {n : ℕ} {states text : List ℕ} (c : Counting)
+    → CountsText ρ names n states text c → Modest c
 unfolding CountsIn yesOf unknownOf noOf
-counted-modest {names} {n} {states} (Counted t) h =
+counted-modest {ρ} {names} {n} {states} (Counted t) h =
     let (some, few) = counted-rows h in
     let k = h .comes .1 in
-    let e = totals-sum (stateAt (namesIn names) states) (k .pattern) n some in
+    let e = totals-sum (stateAt ρ (namesIn names) states) (k .pattern) n some in
     let y = k .totals .yeses in
     let u = k .totals .unknowns in
     let o = k .totals .noes in
     record { yeses = omega arith; unknowns = omega arith; noes = omega arith }
-counted-modest (Refused r) h = record { yeses = omega arith; unknowns = omega arith; noes = omega arith }
+counted-modest {ρ} (Refused r) h = record { yeses = omega arith; unknowns = omega arith; noes = omega arith }
 
-pub table-never-full : {names : List ℕ} {n : ℕ} {states : List ℕ} {cs : List Counting}
-    → All (CountedOn names n states) cs → length cs < 2 ^ 48
+pub table-never-full : {ρ : Rules} {names : List ℕ} {n : ℕ} {states : List ℕ} {cs : List Counting}
+    → All (CountedOn ρ names n states) cs → length cs < 2 ^ 48
     → addedAll (Added (noSums n)) cs ≡ Added (sumsOf n cs)
-table-never-full {n = n} k l = never-full n l (all-weaken (λ c h. counted-modest c (h .counts)) k)
+table-never-full {ρ} {n = n} k l = never-full n l (all-weaken (λ c h. counted-modest c (h .counts)) k)

@@ -17,9 +17,10 @@ use Rattle.jobs.specs.declared.table.Line.{Line}
 use Rattle.jobs.specs.Counting.{CountsText}
 use Rattle.jobs.specs.Lines.{lineOf, TableLine, Tabled}
 use Rattle.jobs.proofs.TextCounts.{counted-rows, counts-unique}
+use Rattle.alf.specs.declared.Rules.{Rules}
 
 module _ {names : List ℕ} {n : ℕ} {states text : List ℕ} where
-  pub counted-few : {c : Counting} → CountsText names n states text c → Tabled n c
+  pub counted-few : {ρ : Rules} {c : Counting} → CountsText ρ names n states text c → Tabled n c
   counted-few h = record { few = λ t e. counted-rows (rw e at h) .1 }
 
 module _ (text : List ℕ) (n : ℕ) {out out′ : List ℕ} {c : Counting} {w : Outcome} where
@@ -35,9 +36,9 @@ module _ (text : List ℕ) (n : ℕ) {out out′ : List ℕ} {c : Counting} {w :
   unfolding lineOf
   line-refused e d = rw e d
 
-pub table-line-unique : {names : List ℕ} {n : ℕ} {states text out x y : List ℕ} {r s : Line}
-    → TableLine names n states text out x r → TableLine names n states text out y s → (r ≡ s) × (x ≡ y)
-table-line-unique {n = n} {text = text} {out = out} {r = r} {s = s} a b =
+pub table-line-unique : {ρ : Rules} {names : List ℕ} {n : ℕ} {states text out x y : List ℕ} {r s : Line}
+    → TableLine ρ names n states text out x r → TableLine ρ names n states text out y s → (r ≡ s) × (x ≡ y)
+table-line-unique {ρ} {n = n} {text = text} {out = out} {r = r} {s = s} a b =
     let e : r .counted ≡ s .counted = counts-unique (a .counts) (b .counts) in
     let d = delivers-unique (lineOf text n (s .counted)) out (rw e at (a .writes)) (b .writes) in
     (λ i. record { counted = e i; written = d .0 i }, d .1)

@@ -8,6 +8,7 @@ use mathlib.Core.Path.{_≡_, refl, ap, sym, _∙_}
 use mathlib.Core.Bool.{true}
 use mathlib.Core.List.{List}
 use lib.ListN.{take}
+use Rattle.alf.specs.declared.Rules.{Rules}
 use Rattle.alf.specs.Names.{namesIn}
 use Rattle.basics.specs.Words.{all}
 use Rattle.basics.specs.declared.Refusal.{Refusal}
@@ -45,14 +46,14 @@ unfolding all numbersOf among
 trace-refused k n states text h = in-silent text (traceChecks k n states) refl h
 
 module _ {names : List ℕ} {n : ℕ} {states text : List ℕ} {r : Read} where
-  pub text-refused : ReadsText names text sort.Vector r → r .refused ≡ true
-      → CountsText names n states text (Refused (r .refusal))
+  pub text-refused : {ρ : Rules} → ReadsText names text sort.Vector r → r .refused ≡ true
+      → CountsText ρ names n states text (Refused (r .refusal))
   unfolding CountsIn
   text-refused h e = record { comes = in-first text (readOrder names text sort.Vector) _ (read-refused h e) }
 
   module _ (f : Found names text sort.Vector r) where
-    counted : (c : Counting) → RowTotals (namesIn names) n (take (r .len) (r .tree)) states c
-        → CountsText names n states text c
+    counted : {ρ : Rules} (c : Counting) → RowTotals ρ (namesIn names) n (take (r .len) (r .tree)) states c
+        → CountsText ρ names n states text c
     unfolding Counts CountsIn
     counted (Counted t) h =
         let (a, b) = h .comes in
@@ -70,15 +71,15 @@ module _ {names : List ℕ} {n : ℕ} {states text : List ℕ} {r : Read} where
               (trace-refused _ n states text (refused-without-ten _ _ _ (found-accepted f) (h .comes)));
         }
 
-    pub tree-counted : {c : Counting} → RowTotals (namesIn names) n (take (r .len) (r .tree)) states c
-        → CountsText names n states text c
-    tree-counted {c} h = counted c h
+    pub tree-counted : {ρ : Rules} {c : Counting} → RowTotals ρ (namesIn names) n (take (r .len) (r .tree)) states c
+        → CountsText ρ names n states text c
+    tree-counted {ρ} {c} h = counted c h
 
 -- 18 is not given
-pub counted-rows : {names : List ℕ} {n : ℕ} {states text : List ℕ} {t : Total}
-    → CountsText names n states text (Counted t) → RowCount n
+pub counted-rows : {ρ : Rules} {names : List ℕ} {n : ℕ} {states text : List ℕ} {t : Total}
+    → CountsText ρ names n states text (Counted t) → RowCount n
 unfolding CountsIn Passed
-counted-rows {names} {n} {states} {text} h =
+counted-rows {ρ} {names} {n} {states} {text} h =
     let p : Passed (traceChecks (namesIn names) n states) =
     passed-right (readOrder names text sort.Vector) _ (h .comes .0) in (
       le-stable 1 n (λ k. p .0 0 (record { given = λ r. k (r .row-count .0); there = refl })),
@@ -86,8 +87,8 @@ counted-rows {names} {n} {states} {text} h =
     )
 
 -- one result
-totals-unique : {names : List ℕ} {n : ℕ} {states text : List ℕ} {a b c x y z : ℕ}
-    → TotalsText names n states text a b c → TotalsText names n states text x y z
+totals-unique : {ρ : Rules} {names : List ℕ} {n : ℕ} {states text : List ℕ} {a b c x y z : ℕ}
+    → TotalsText ρ names n states text a b c → TotalsText ρ names n states text x y z
     → (a ≡ x) × (b ≡ y) × (c ≡ z)
 totals-unique h k =
     let e = gives-unique (h .given) (k .given) in
@@ -103,17 +104,20 @@ module _ (names : List ℕ) (n : ℕ) (states text : List ℕ) where
       (read-sole names text sort.Vector)
       (sole-fixed (traceChecks (namesIn names) n states) (at-fixed _ _, (first-fixed _, tt)))
 
-  counts-one : (a b : Counting) → CountsIn text (countOrder names n states text) (TotalsText names n states text) a
-      → CountsIn text (countOrder names n states text) (TotalsText names n states text) b
+  counts-one : (ρ : Rules) (a b : Counting)
+      → CountsIn text (countOrder names n states text) (TotalsText ρ names n states text) a
+      → CountsIn text (countOrder names n states text) (TotalsText ρ names n states text) b
       → a ≡ b
   unfolding CountsIn
-  counts-one (Counted t) (Counted u) x y =
+  counts-one ρ (Counted t) (Counted u) x y =
       let e = totals-unique (x .1) (y .1) in λ i. Counted (record { yes = e .0 i; no = e .1 i; unknown = e .2 i })
-  counts-one (Counted t) (Refused s) x y = absurd (refused-passed (countOrder names n states text) _ _ (x .0) (y .by))
-  counts-one (Refused r) (Counted u) x y = absurd (refused-passed (countOrder names n states text) _ _ (y .0) (x .by))
-  counts-one (Refused r) (Refused s) x y =
+  counts-one ρ (Counted t) (Refused s) x y = absurd
+      (refused-passed (countOrder names n states text) _ _ (x .0) (y .by))
+  counts-one ρ (Refused r) (Counted u) x y = absurd
+      (refused-passed (countOrder names n states text) _ _ (y .0) (x .by))
+  counts-one ρ (Refused r) (Refused s) x y =
       ap Refused (refused-in-unique text (countOrder names n states text) count-sole x y)
 
-pub counts-unique : {names : List ℕ} {n : ℕ} {states text : List ℕ} {a b : Counting}
-    → CountsText names n states text a → CountsText names n states text b → a ≡ b
-counts-unique {names} {n} {states} {text} {a} {b} x y = counts-one names n states text a b (x .comes) (y .comes)
+pub counts-unique : {ρ : Rules} {names : List ℕ} {n : ℕ} {states text : List ℕ} {a b : Counting}
+    → CountsText ρ names n states text a → CountsText ρ names n states text b → a ≡ b
+counts-unique {ρ} {names} {n} {states} {text} {a} {b} x y = counts-one names n states text ρ a b (x .comes) (y .comes)

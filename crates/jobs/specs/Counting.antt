@@ -8,6 +8,7 @@
 use Prim.Native.Nat.{ℕ}
 use mathlib.Core.List.{List, [], _∷_, _++_}
 use lib.ListN.{length}
+use Rattle.alf.specs.declared.Rules.{Rules}
 use Rattle.alf.specs.Names.{namesIn}
 use Rattle.alf.specs.declared.Sort.the-variants as sort
 use Rattle.alf.specs.Expressions.{Vector, vector}
@@ -28,15 +29,15 @@ abbrev pub countOrder : List ℕ → ℕ → List ℕ → List ℕ → Order
 countOrder names n states text = readOrder names text sort.Vector ++ traceChecks (namesIn names) n states
 
 -- the totals of the pattern that the text gives
-pub record TotalsText (names : List ℕ) (n : ℕ) (states text : List ℕ) (yes no unknown : ℕ) : Type 0 where
+pub record TotalsText (ρ : Rules) (names : List ℕ) (n : ℕ) (states text : List ℕ) (yes no unknown : ℕ) : Type 0 where
   pub pattern : Vector
   pub given : Gives names text sort.Vector (vector pattern)
-  pub totals : Totals (stateAt (namesIn names) states) pattern n yes no unknown
+  pub totals : Totals (stateAt ρ (namesIn names) states) pattern n yes no unknown
 
 -- counted, where no row of the order holds; else refused, and what is refused of the text is shown
 unfoldable pub CountsIn : List ℕ → Order → (ℕ → ℕ → ℕ → Type 0) → Counting → Type 0
 CountsIn text o right (Counted t) = Passed o × right (t .yes) (t .no) (t .unknown)
 CountsIn text o right (Refused r) = RefusedIn text o r
 
-pub record CountsText (names : List ℕ) (n : ℕ) (states text : List ℕ) (r : Counting) : Type 0 where
-  pub comes : CountsIn text (countOrder names n states text) (TotalsText names n states text) r
+pub record CountsText (ρ : Rules) (names : List ℕ) (n : ℕ) (states text : List ℕ) (r : Counting) : Type 0 where
+  pub comes : CountsIn text (countOrder names n states text) (TotalsText ρ names n states text) r

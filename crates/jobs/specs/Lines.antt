@@ -12,6 +12,7 @@ use Rattle.table_lines.specs.Table.{patternLine, refusedLine}
 use Rattle.figures.specs.Delivering.{Delivers}
 use Rattle.jobs.specs.declared.table.Line.{Line}
 use Rattle.jobs.specs.Counting.{CountsText}
+use Rattle.alf.specs.declared.Rules.{Rules}
 
 -- the line of a text, on a trace of n rows, by what is counted
 unfoldable pub lineOf : List ℕ → ℕ → Counting → List ℕ
@@ -19,8 +20,8 @@ lineOf text n (Counted t) = patternLine text (t .yes) (t .unknown) (t .no) n
 lineOf text n (Refused r) = refusedLine text (r .number) (r .place)
 
 -- the totals of the text, and their line in the lent buffer
-pub record TableLine (names : List ℕ) (n : ℕ) (states text out out′ : List ℕ) (r : Line) : Type 0 where
-  pub counts : CountsText names n states text (r .counted)
+pub record TableLine (ρ : Rules) (names : List ℕ) (n : ℕ) (states text out out′ : List ℕ) (r : Line) : Type 0 where
+  pub counts : CountsText ρ names n states text (r .counted)
   pub writes : Delivers (lineOf text n (r .counted)) out out′ (r .written)
 
 -- what is counted is counted on at most 65,535 rows

@@ -19,6 +19,7 @@ use Rattle.table_lines.specs.declared.lines.Sums.{Sums}
 use Rattle.jobs.specs.declared.sums.Adding.{Adding}
 use Rattle.jobs.specs.declared.sums.Adding.the-variants.{Added, Full}
 use Rattle.jobs.specs.Counting.{CountsText}
+use Rattle.alf.specs.declared.Rules.{Rules}
 
 -- the first number that a sum cannot hold
 abbrev pub word : ℕ
@@ -89,6 +90,6 @@ pub record Modest (c : Counting) : Type 0 where
   pub noes : noOf c ≤ 65534
 
 -- what is counted of some text on a trace
-pub record CountedOn (names : List ℕ) (n : ℕ) (states : List ℕ) (c : Counting) : Type 0 where
+pub record CountedOn (ρ : Rules) (names : List ℕ) (n : ℕ) (states : List ℕ) (c : Counting) : Type 0 where
   pub text : List ℕ
-  pub counts : CountsText names n states text c
+  pub counts : CountsText ρ names n states text c

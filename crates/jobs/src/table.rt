@@ -2,6 +2,7 @@
 ghost use Rattle.figures.specs.Delivering.{Delivers};
 ghost use Rattle.jobs.specs.Lines.{Tabled, lineOf, TableLine};
 use crate::counting::count_text;
+use alf::Rules;
 use basics::Outcome;
 use matching_calls::matching::Counting;
 use table_lines::lines::write_line;
@@ -26,11 +27,19 @@ fn write_counted(text: &[u8], n: usize, counted: Counting, out: &mut [u8]) -> Ou
 
 // The totals of a pattern's text on a trace, and the line with them; where the pattern is refused, the line that says
 // so.
-pub fn table_line(names: &[u8], n: usize, states: &[u8], text: &[u8], out: &mut [u8]) -> Line
-    ensures { λ r. ⌜ TableLine (now (names .entry)) n (now (states .entry)) (now (text .entry)) (now (out .entry))
+pub fn table_line(
+    rules: Rules,
+    names: &[u8],
+    n: usize,
+    states: &[u8],
+    text: &[u8],
+    out: &mut [u8],
+) -> Line
+    ensures { λ r. ⌜ TableLine rules (now (names .entry)) n (now (states .entry)) (now (text .entry))
+        (now (out .entry))
         (now (out .exit)) r ⌝ }
 {
-    let counted = count_text(names, n, states, text);
+    let counted = count_text(rules, names, n, states, text);
     let written = write_counted(text, n, counted, out);
     Line { counted, written }
 }

@@ -10,6 +10,7 @@ use lib.ListN.{length}
 use Rattle.basics.specs.declared.Refusal.{Refusal}
 use Rattle.basics.specs.declared.Outcome.the-variants as outcome
 use Rattle.basics.specs.Words.{greatestOf}
+use Rattle.alf.specs.declared.Rules.{Rules}
 use Rattle.alf.specs.Values.{stateAt}
 use Rattle.alf.specs.Refusals.{Comes}
 use Rattle.basics.specs.Deciding.{Decides}
@@ -64,14 +65,14 @@ module _ {names n : ℕ} {tree steps tests edges operands states : List ℕ} {go
           rows = trace-row states names n (l .name-count) (l .row-count) (l .all) s row h;
         }
 
-    pub match-refused : {r : Refusal} → v ≡ Refused r
-        → ListedMatch names n tree steps tests edges operands states row (matching.Refused r)
+    pub match-refused : {ρ : Rules} {r : Refusal} → v ≡ Refused r
+        → ListedMatch ρ names n tree steps tests edges operands states row (matching.Refused r)
     unfolding Finds
     match-refused e = record { comes = judged-not as-row e }
 
-    pub match-told : {m : Matched} → v ≡ Good
-        → Matches (stateAt names states) (alternativesOf tree names steps tests edges operands) row (m .answer)
-        (m .tries) → ListedMatch names n tree steps tests edges operands states row (matching.Found m)
+    pub match-told : {ρ : Rules} {m : Matched} → v ≡ Good
+        → Matches (stateAt ρ names states) (alternativesOf tree names steps tests edges operands) row (m .answer)
+        (m .tries) → ListedMatch ρ names n tree steps tests edges operands states row (matching.Found m)
     unfolding Finds
     match-told e m = record { comes = (judged-good as-row e .0, m) }
 
@@ -86,14 +87,14 @@ module _ {names n : ℕ} {tree steps tests edges operands states : List ℕ} {go
         let (l, a, s) = judged-good as-rows e .1 in
         record { shape = accepted-shape _ _ _ _ _ _ a; rows = rows-asked l s }
 
-    pub totals-refused : {r : Refusal} → v ≡ Refused r
-        → ListedTotals names n tree steps tests edges operands states (counting.Refused r)
+    pub totals-refused : {ρ : Rules} {r : Refusal} → v ≡ Refused r
+        → ListedTotals ρ names n tree steps tests edges operands states (counting.Refused r)
     unfolding Counts
     totals-refused e = record { comes = judged-not as-rows e }
 
-    pub totals-told : {t : Total} → v ≡ Good
-        → TotalsOf (stateAt names states) (alternativesOf tree names steps tests edges operands) n (t .yes) (t .no)
-        (t .unknown) → ListedTotals names n tree steps tests edges operands states (counting.Counted t)
+    pub totals-told : {ρ : Rules} {t : Total} → v ≡ Good
+        → TotalsOf (stateAt ρ names states) (alternativesOf tree names steps tests edges operands) n (t .yes) (t .no)
+        (t .unknown) → ListedTotals ρ names n tree steps tests edges operands states (counting.Counted t)
     unfolding Counts
     totals-told e t = record { comes = (judged-good as-rows e .0, t) }
 
@@ -118,16 +119,16 @@ module _ {names n : ℕ} {tree steps tests edges operands states : List ℕ} {go
           space = omega (arith, y);
         }
 
-    pub all-refused : {r : Refusal} → v ≡ Refused r
-        → ListedAll names n tree steps tests edges operands states answers tried answers tried (outcome.Refused r)
+    pub all-refused : {ρ : Rules} {r : Refusal} → v ≡ Refused r
+        → ListedAll ρ names n tree steps tests edges operands states answers tried answers tried (outcome.Refused r)
     unfolding Comes after
     all-refused e = record { comes = judged-not as-lists e; answers-memory = refl; tried-memory = refl }
 
-    pub all-told : {answers′ tried′ : List ℕ} → v ≡ Good
-        → Filled (stateAt names states) (alternativesOf tree names steps tests edges operands) n answers tried
+    pub all-told : {ρ : Rules} {answers′ tried′ : List ℕ} → v ≡ Good
+        → Filled (stateAt ρ names states) (alternativesOf tree names steps tests edges operands) n answers tried
         answers′
         tried′
-        → ListedAll names n tree steps tests edges operands states answers tried answers′ tried′ (outcome.Done n)
+        → ListedAll ρ names n tree steps tests edges operands states answers tried answers′ tried′ (outcome.Done n)
     unfolding Comes after
     all-told e w =
         let (p, (((x, y), l), a, s)) = judged-good as-lists e in
@@ -189,13 +190,13 @@ module _ {names : ℕ} {tree steps tests edges operands : List ℕ} {q : Queue} 
         codes = s;
       }
 
-  pub push-refused : {r : Refusal} → v ≡ Refused r
-      → ListedPush names tree steps tests edges operands q row (matching.Refused r) q
+  pub push-refused : {ρ : Rules} {r : Refusal} → v ≡ Refused r
+      → ListedPush ρ names tree steps tests edges operands q row (matching.Refused r) q
   unfolding Takes
   push-refused e = record { comes = (judged-not as-push e, refl) }
 
-  pub push-told : {m : Matched} {q′ : Queue} → v ≡ Good
-      → Pushes names (alternativesOf tree names steps tests edges operands) q row (m .answer) (m .tries) q′
-      → ListedPush names tree steps tests edges operands q row (matching.Found m) q′
+  pub push-told : {ρ : Rules} {m : Matched} {q′ : Queue} → v ≡ Good
+      → Pushes ρ names (alternativesOf tree names steps tests edges operands) q row (m .answer) (m .tries) q′
+      → ListedPush ρ names tree steps tests edges operands q row (matching.Found m) q′
   unfolding Takes
   push-told e p = record { comes = (judged-good as-push e .0, p) }

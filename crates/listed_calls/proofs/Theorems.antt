@@ -5,6 +5,7 @@ use mathlib.Core.List.{List}
 use Prim.Native.Nat.{ℕ, zero, suc, _+_, _-_}
 use native.Mathlib.Omega.{arith}
 use Rattle.basics.specs.Words.{count}
+use Rattle.alf.specs.declared.Rules.{Rules}
 use Rattle.alf.specs.Expressions.{Boolean}
 use Rattle.alf.specs.Values.{stateAt}
 use Rattle.alf.specs.Alternatives.{Alternative, answerOf, bestOf}
@@ -26,11 +27,11 @@ module _ (st : Boolean → ℕ → ℕ) (xs : List Alternative) where
   sum-rows zero = omega arith
   sum-rows (suc n) = omega (arith, sum-events n)
 
-pub listed-totals-together : {names n : ℕ} {tree steps tests edges operands states : List ℕ} {t : Total}
-    → ListedTotals names n tree steps tests edges operands states (Counted t)
+pub listed-totals-together : {ρ : Rules} {names n : ℕ} {tree steps tests edges operands states : List ℕ} {t : Total}
+    → ListedTotals ρ names n tree steps tests edges operands states (Counted t)
     → t .yes + t .no + t .unknown ≡ n - 1
 unfolding Counts
-listed-totals-together {names} {n} {tree} {steps} {tests} {edges} {operands} {states} w =
+listed-totals-together {ρ} {names} {n} {tree} {steps} {tests} {edges} {operands} {states} w =
     let t = w .comes .1 in
     let xs = alternativesIn names n tree steps tests edges operands states in
-    omega (arith, t .yeses, t .noes, t .unknowns, sum-rows (stateAt names states) xs n)
+    omega (arith, t .yeses, t .noes, t .unknowns, sum-rows (stateAt ρ names states) xs n)

@@ -11,6 +11,7 @@ use mathlib.Core.List.{List}
 use lib.ListN.{length}
 use Rattle.basics.specs.declared.Outcome.{Outcome}
 use Rattle.basics.specs.Words.{listed}
+use Rattle.alf.specs.declared.Rules.{Rules}
 use Rattle.alf.specs.Values.{stateAt}
 use Rattle.alf.specs.Alternatives.{Alternative, tries, answerOf}
 use Rattle.alf.specs.Refusals.{Order, RefusedBy, Passed, Comes}
@@ -41,21 +42,29 @@ module _ (names n : ℕ) (tree steps tests edges operands states : List ℕ) whe
       order (Rows names n (length states)) (AcceptedAlternatives names tree steps tests edges operands)
       (codesRow states n row)
 
-  pub record ListedMatch (row : ℕ) (r : Matching) : Type 0 where
-    pub comes : Finds (rowOrder row) (Matches (stateAt names states) alternativesIn row) r
-
   -- at all rows: 18, 10, 15
   abbrev pub rowsOrder : Type 0 → Order
   rowsOrder lists = order lists (AcceptedAlternatives names tree steps tests edges operands) (codes states)
 
+module _ (ρ : Rules) (names n : ℕ) (tree steps tests edges operands states : List ℕ) where
+  abbrev given : List Alternative
+  given = alternativesIn names n tree steps tests edges operands states
+
+  pub record ListedMatch (row : ℕ) (r : Matching) : Type 0 where
+    pub comes : Finds (rowOrder names n tree steps tests edges operands states row)
+        (Matches (stateAt ρ names states) given row) r
+
+  abbrev lent : Type 0 → Order
+  lent = rowsOrder names n tree steps tests edges operands states
+
   pub record ListedAll (answers tried answers′ tried′ : List ℕ) (r : Outcome) : Type 0 where
-    pub comes : Comes (rowsOrder (((length answers ≡ n) × (length tried ≡ n)) × Rows names n (length states)))
+    pub comes : Comes (lent (((length answers ≡ n) × (length tried ≡ n)) × Rows names n (length states)))
         (λ k. k ≡ n) r
-    pub answers-memory : answers′ ≡ after (listed 0 n (answerOf (stateAt names states) alternativesIn)) answers r
-    pub tried-memory : tried′ ≡ after (listed 0 n (tries (stateAt names states) alternativesIn)) tried r
+    pub answers-memory : answers′ ≡ after (listed 0 n (answerOf (stateAt ρ names states) given)) answers r
+    pub tried-memory : tried′ ≡ after (listed 0 n (tries (stateAt ρ names states) given)) tried r
 
   pub record ListedTotals (r : Counting) : Type 0 where
-    pub comes : Counts (rowsOrder (Rows names n (length states))) (TotalsOf (stateAt names states) alternativesIn n) r
+    pub comes : Counts (lent (Rows names n (length states))) (TotalsOf (stateAt ρ names states) given n) r
 
 module _ (names : ℕ) (tree steps tests edges operands : List ℕ) (queue : Queue) where
   -- alternatives that are accepted, and a queue that keeps at most K rows
@@ -67,15 +76,17 @@ module _ (names : ℕ) (tree steps tests edges operands : List ℕ) (queue : Que
   abbrev pub pushOrder : List ℕ → Order
   pushOrder row = order (RowFits names (length row)) Handed (codes row)
 
-  unfoldable pub Takes : List ℕ → Matching → Queue → Type 0
-  Takes row (Found m) queue′ =
-      Passed (pushOrder row)
-      × Pushes names (alternativesOf tree names steps tests edges operands) queue row (m .answer) (m .tries) queue′
-  Takes row (Refused r) queue′ = RefusedBy (pushOrder row) r × (queue′ ≡ queue)
-
-  pub record ListedPush (row : List ℕ) (told : Matching) (queue′ : Queue) : Type 0 where
-    pub comes : Takes row told queue′
-
   -- for the function inside
   pub record DecidesQueue (r : Bool) : Type 0 where
     pub is : names ≤ 32 → Decides r Handed
+
+module _ (ρ : Rules) (names : ℕ) (tree steps tests edges operands : List ℕ) (queue : Queue) where
+  unfoldable pub Takes : List ℕ → Matching → Queue → Type 0
+  Takes row (Found m) queue′ =
+      Passed (pushOrder names tree steps tests edges operands queue row)
+      × Pushes ρ names (alternativesOf tree names steps tests edges operands) queue row (m .answer) (m .tries) queue′
+  Takes row (Refused r) queue′ =
+      RefusedBy (pushOrder names tree steps tests edges operands queue row) r × (queue′ ≡ queue)
+
+  pub record ListedPush (row : List ℕ) (told : Matching) (queue′ : Queue) : Type 0 where
+    pub comes : Takes row told queue′

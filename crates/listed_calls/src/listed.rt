@@ -1,6 +1,7 @@
 // Matching by alternatives that are handed in as lists: a row, all rows, the totals, the queue.
 ghost use Rattle.listed_calls.specs.Listed.{ListedMatch, ListedAll, ListedTotals, DecidesQueue, ListedPush};
 use alf::RowNo;
+use alf::Rules;
 use alternatives::walking::longest;
 use basics::Outcome;
 use judging::checks::Verdict;
@@ -20,6 +21,7 @@ use queue_calls::pushing::row_fits;
 
 // The answer of the alternatives at a row, and the number tried.
 pub fn match_row(
+    rules: Rules,
     names: usize,
     n: usize,
     tree: &[u8],
@@ -30,7 +32,7 @@ pub fn match_row(
     states: &[u8],
     row: RowNo,
 ) -> Matching
-    ensures { λ r. ⌜ ListedMatch names n (now (tree .entry)) (now (steps .entry)) (now (tests .entry))
+    ensures { λ r. ⌜ ListedMatch rules names n (now (tree .entry)) (now (steps .entry)) (now (tests .entry))
         (now (edges .entry)) (now (operands .entry)) (now (states .entry)) (row .0) r ⌝ }
 {
     let at = row.0 as usize;
@@ -40,6 +42,7 @@ pub fn match_row(
     match v {
         Verdict::Refused(r) => Matching::Refused(r),
         Verdict::Good => Matching::Found(matcher::answers::match_row(
+            rules,
             tree,
             names,
             states,
@@ -54,6 +57,7 @@ pub fn match_row(
 
 // The same for all rows, by document 01's numbers, into lent lists; how many.
 pub fn match_all(
+    rules: Rules,
     names: usize,
     n: usize,
     tree: &[u8],
@@ -65,7 +69,7 @@ pub fn match_all(
     answers: &mut [u8],
     tried: &mut [u32],
 ) -> Outcome
-    ensures { λ r. ⌜ ListedAll names n (now (tree .entry)) (now (steps .entry)) (now (tests .entry))
+    ensures { λ r. ⌜ ListedAll rules names n (now (tree .entry)) (now (steps .entry)) (now (tests .entry))
         (now (edges .entry)) (now (operands .entry)) (now (states .entry)) (now (answers .entry)) (now (tried .entry))
         (now (answers .exit)) (now (tried .exit)) r ⌝ }
 {
@@ -77,6 +81,7 @@ pub fn match_all(
         Verdict::Refused(r) => Outcome::Refused(r),
         Verdict::Good => {
             matcher::tables::match_all(
+                rules,
                 tree,
                 names,
                 states,
@@ -95,6 +100,7 @@ pub fn match_all(
 
 // How many of the rows answer yes, no and unknown.
 pub fn totals(
+    rules: Rules,
     names: usize,
     n: usize,
     tree: &[u8],
@@ -104,7 +110,7 @@ pub fn totals(
     operands: &[u16],
     states: &[u8],
 ) -> Counting
-    ensures { λ r. ⌜ ListedTotals names n (now (tree .entry)) (now (steps .entry)) (now (tests .entry))
+    ensures { λ r. ⌜ ListedTotals rules names n (now (tree .entry)) (now (steps .entry)) (now (tests .entry))
         (now (edges .entry)) (now (operands .entry)) (now (states .entry)) r ⌝ }
 {
     let lists = rows_fit(names, n, states.len());
@@ -113,6 +119,7 @@ pub fn totals(
     match v {
         Verdict::Refused(r) => Counting::Refused(r),
         Verdict::Good => Counting::Counted(matcher::tables::totals(
+            rules,
             tree,
             names,
             states,
@@ -149,6 +156,7 @@ fn queue_good(
 
 // One row more.
 pub fn push(
+    rules: Rules,
     names: usize,
     tree: &[u8],
     steps: &[u8],
@@ -158,7 +166,7 @@ pub fn push(
     queue: Queue,
     row: &[u8],
 ) -> Pushing
-    ensures { λ r. ⌜ ListedPush names (now (tree .entry)) (now (steps .entry)) (now (tests .entry))
+    ensures { λ r. ⌜ ListedPush rules names (now (tree .entry)) (now (steps .entry)) (now (tests .entry))
         (now (edges .entry)) (now (operands .entry)) queue (now (row .entry)) (r .told) (r .queue) ⌝ }
 {
     let lists = row_fits(names, row.len());
@@ -170,7 +178,17 @@ pub fn push(
             Pushing { told, queue }
         }
         Verdict::Good => {
-            let p = queue::queues::push(tree, names, steps, tests, edges, operands, queue, row);
+            let p = queue::queues::push(
+                rules,
+                tree,
+                names,
+                steps,
+                tests,
+                edges,
+                operands,
+                queue,
+                row,
+            );
             let answer = p.answer;
             let tries = p.tries;
             let next = p.queue;

@@ -9,6 +9,7 @@ use Prim.Native.Nat.{ℕ, _+_, _-_, _<_, _≤_, min}
 use native.Mathlib.Nat.{mul-le-mul-right}
 use native.Mathlib.Omega.{arith}
 use lib.ListN.{length, getD}
+use Rattle.alf.specs.declared.Rules.{Rules}
 use Rattle.alf.specs.Values.{stateAt}
 use Rattle.alf.specs.Alternatives.{Test, testAt, stepAt, atRow}
 use Rattle.alf.proofs.RowsAreAlternatives.{row-off}
@@ -36,11 +37,12 @@ module _ {tree : List ℕ} {names : ℕ} {states edges operands : List ℕ} {t n
   test-asked i l =
       record { ends = asked .known .boolean (t + i) (omega (arith, asked .there)); rows = asked .rows }
 
-  pub asking-next : {least i : ℕ} → Asking (stateAt names states) (testsOf tree names edges operands) t n a least i
+  pub asking-next : (ρ : Rules) {least i : ℕ}
+      → Asking (stateAt ρ names states) (testsOf tree names edges operands) t n a least i
       → i < n → (r : ℕ)
-      → r ≡ testAt (stateAt names states) a (testOf tree names (getD edges (t + i) 0) (getD operands (t + i) 0))
-      → Asking (stateAt names states) (testsOf tree names edges operands) t n a (min least r) (i + 1)
-  asking-next {least} {i} g l r e =
+      → r ≡ testAt (stateAt ρ names states) a (testOf tree names (getD edges (t + i) 0) (getD operands (t + i) 0))
+      → Asking (stateAt ρ names states) (testsOf tree names edges operands) t n a (min least r) (i + 1)
+  asking-next ρ {least} {i} g l r e =
       let d = testOf tree names 0 0 in
       let h = tests-length tree names edges operands (asked .known .enough) in
       let k = test-at tree names edges operands (t + i) d (omega (arith, asked .there)) (asked .known .enough) in
@@ -54,16 +56,16 @@ module _ {tree : List ℕ} {names : ℕ} {states tests edges operands : List ℕ
   whole : length all ≡ length edges
   whole = tests-length tree names edges operands (asked .known .enough)
 
-  pub longer-no : row < n → 0 ≡ atRow (stateAt names states) row (alternativeIn tests all s t n)
-  longer-no l =
+  pub longer-no : (ρ : Rules) → row < n → 0 ≡ atRow (stateAt ρ names states) row (alternativeIn tests all s t n)
+  longer-no ρ l =
       sym
-      (row-off (stateAt names states) row (alternativeIn tests all s t n)
+      (row-off (stateAt ρ names states) row (alternativeIn tests all s t n)
       (rw (alternative-length tests all s n t (asked .there)) l))
 
-  pub stepping-start : Stepping (stateAt names states) tests all s n t (row - n) 2 t 0
-  stepping-start = stepping-first (omega (arith, asked .tested, whole))
+  pub stepping-start : (ρ : Rules) → Stepping (stateAt ρ names states) tests all s n t (row - n) 2 t 0
+  stepping-start ρ = stepping-first (omega (arith, asked .tested, whole))
 
-  module _ {least at j : ℕ} (g : Stepping (stateAt names states) tests all s n t (row - n) least at j)
+  module _ (ρ : Rules) {least at j : ℕ} (g : Stepping (stateAt ρ names states) tests all s n t (row - n) least at j)
       (l : j < n) where
     pub step-fits : at + getD tests (s + j) 0 ≤ length edges
     step-fits = omega (arith, stepping-fits g l (asked .there), whole)
@@ -77,6 +79,6 @@ module _ {tree : List ℕ} {names : ℕ} {states tests edges operands : List ℕ
         }
 
     pub stepping-next : (r : ℕ)
-        → r ≡ stepAt (stateAt names states) (stepIn all at (getD tests (s + j) 0)) (row - n + j)
-        → Stepping (stateAt names states) tests all s n t (row - n) (min least r) (at + getD tests (s + j) 0) (j + 1)
+        → r ≡ stepAt (stateAt ρ names states) (stepIn all at (getD tests (s + j) 0)) (row - n + j)
+        → Stepping (stateAt ρ names states) tests all s n t (row - n) (min least r) (at + getD tests (s + j) 0) (j + 1)
     stepping-next r e = rw e (stepping-more g l (asked .there))

@@ -9,6 +9,7 @@ use Prim.Native.Nat.{ℕ, _+_, _<_, _≤_, max}
 use native.Mathlib.Omega.{arith}
 use lib.ListN.{length, getD, take, drop, drop-of-length-le}
 use lib.Seq.{drop-drop}
+use Rattle.alf.specs.declared.Rules.{Rules}
 use Rattle.alf.specs.declared.Answer.the-variants.{Yes}
 use Rattle.alf.specs.Expressions.{Boolean}
 use Rattle.alf.specs.Values.{stateAt}
@@ -40,22 +41,22 @@ module _ {tree : List ℕ} {names : ℕ} {states steps tests edges operands : Li
   abbrev all : List Test
   all = testsOf tree names edges operands
 
-  abbrev st : Boolean → ℕ → ℕ
-  st = stateAt names states
+  abbrev st : Rules → Boolean → ℕ → ℕ
+  st ρ = stateAt ρ names states
 
   whole : length all ≡ length edges
   whole = tests-length tree names edges operands (asked .shape .known .enough)
 
-  pub walking-first : Walking st steps tests all row 0 0 0 0
-  walking-first =
+  pub walking-first : (ρ : Rules) → Walking (st ρ) steps tests all row 0 0 0 0
+  walking-first ρ =
       record {
         within = omega arith;
         steps-room = omega (arith, asked .shape .enough-steps);
         tests-room = omega (arith, asked .shape .enough-tests, whole);
-        trying = trying-first st row (cut steps (cut tests all));
+        trying = trying-first (st ρ) row (cut steps (cut tests all));
       }
 
-  module _ {b s t k : ℕ} (g : Walking st steps tests all row b s t k) where
+  module _ (ρ : Rules) {b s t k : ℕ} (g : Walking (st ρ) steps tests all row b s t k) where
     module _ (h : k < length steps) where
       fits : s + getD steps k 0 ≤ length tests
       fits = omega (arith, sum-next steps k h, g .steps-room)
@@ -69,14 +70,14 @@ module _ {tree : List ℕ} {names : ℕ} {states steps tests edges operands : Li
             rows = asked .rows;
           }
 
-      pub walking-yes : 0 < row → atRow st row (alternativeIn tests all s t (getD steps k 0)) ≡ 2
-          → Matches st (alternativesOf tree names steps tests edges operands) row Yes (k + 1)
+      pub walking-yes : 0 < row → atRow (st ρ) row (alternativeIn tests all s t (getD steps k 0)) ≡ 2
+          → Matches (st ρ) (alternativesOf tree names steps tests edges operands) row Yes (k + 1)
       unfolding alternativesOf
-      walking-yes l e = trying-yes st row _ (rw (alternatives-next steps tests all k s t h) at (g .trying)) l e
+      walking-yes l e = trying-yes (st ρ) row _ (rw (alternatives-next steps tests all k s t h) at (g .trying)) l e
 
-      pub walking-next : (r : ℕ) → r ≡ atRow st row (alternativeIn tests all s t (getD steps k 0))
+      pub walking-next : (r : ℕ) → r ≡ atRow (st ρ) row (alternativeIn tests all s t (getD steps k 0))
           → (r ≡ 2 → ⊥)
-          → Walking st steps tests all row (max b r) (s + getD steps k 0)
+          → Walking (st ρ) steps tests all row (max b r) (s + getD steps k 0)
           (t + sum (take (getD steps k 0) (drop s tests))) (k + 1)
       walking-next r e n =
           let before = rw (alternatives-next steps tests all k s t h) at (g .trying) in
@@ -85,10 +86,10 @@ module _ {tree : List ℕ} {names : ℕ} {states steps tests edges operands : Li
             steps-room = omega (arith, sum-next steps k h, g .steps-room);
             tests-room = omega (arith, sum-part-drop tests s (getD steps k 0), g .tests-room);
             trying =
-                rw e (trying-more st row _ before (λ z. n (e ∙ z)));
+                rw e (trying-more (st ρ) row _ before (λ z. n (e ∙ z)));
           }
 
     pub walking-end : {a : Answer} → length steps ≤ k → 0 < row → numberOf a ≡ numbered b
-        → Matches st (alternativesOf tree names steps tests edges operands) row a k
+        → Matches (st ρ) (alternativesOf tree names steps tests edges operands) row a k
     unfolding alternativesOf
-    walking-end h l n = trying-end st row _ (rw (drop-of-length-le steps h, cut-none) at (g .trying)) l n
+    walking-end h l n = trying-end (st ρ) row _ (rw (drop-of-length-le steps h, cut-none) at (g .trying)) l n

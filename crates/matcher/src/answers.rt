@@ -7,6 +7,7 @@ ghost use Rattle.alf.specs.Alternatives.{testAt, stepAt, atRow};
 ghost use Rattle.alternatives.specs.InMemory.{testOf, testsOf, alternativesOf, stepIn, alternativeIn};
 ghost use Rattle.matcher.specs.Answers.{TestAsked, StepAsked, AlternativeAsked, RowAsked, EventAsked, Matches};
 use alf::Answer;
+use alf::Rules;
 use alternatives::walking::pass;
 use evaluator::ranks::name_of;
 use evaluator::values::state;
@@ -21,18 +22,27 @@ pub struct Matched {
 }
 
 // Edge k of the operand that ends at `end`, on the event from row a to row a + 1.
-pub fn test_at(tree: &[u8], names: usize, states: &[u8], k: u8, end: usize, a: usize) -> u8
+pub fn test_at(
+    rules: Rules,
+    tree: &[u8],
+    names: usize,
+    states: &[u8],
+    k: u8,
+    end: usize,
+    a: usize,
+) -> u8
     requires { ⌜ TestAsked (now tree) names (now states) end a ⌝ }
-    ensures { λ r. ⌜ r ≡ testAt (stateAt names (now (states .entry))) a
+    ensures { λ r. ⌜ r ≡ testAt (stateAt rules names (now (states .entry))) a
         (testOf (now (tree .entry)) names k end) ⌝ }
 {
-    let before = state(tree, end, states, names, a);
-    let after = state(tree, end, states, names, a + 1);
+    let before = state(rules, tree, end, states, names, a);
+    let after = state(rules, tree, end, states, names, a + 1);
     edge_on(k, before, after)
 }
 
 // The n tests from t on, on that event: the least of their answers.
 pub fn step_at(
+    rules: Rules,
     tree: &[u8],
     names: usize,
     states: &[u8],
@@ -43,7 +53,7 @@ pub fn step_at(
     a: usize,
 ) -> u8
     requires { ⌜ StepAsked (now tree) names (now states) (now edges) (now operands) t n a ⌝ }
-    ensures { λ r. ⌜ r ≡ stepAt (stateAt names (now (states .entry)))
+    ensures { λ r. ⌜ r ≡ stepAt (stateAt rules names (now (states .entry)))
         (stepIn (testsOf (now (tree .entry)) names (now (edges .entry)) (now (operands .entry))) t n) a ⌝ }
 {
     let mut least: u8 = 2;
@@ -51,7 +61,7 @@ pub fn step_at(
     while i < n {
         let k = edges[t + i];
         let end = operands[t + i] as usize;
-        least = lesser(least, test_at(tree, names, states, k, end, a));
+        least = lesser(least, test_at(rules, tree, names, states, k, end, a));
         i += 1;
     }
     least
@@ -60,6 +70,7 @@ pub fn step_at(
 // The n steps from step s on, whose tests start at t, ending at a row: the least of their answers; no where the row has
 // fewer events before it.
 pub fn alternative_at(
+    rules: Rules,
     tree: &[u8],
     names: usize,
     states: &[u8],
@@ -72,7 +83,7 @@ pub fn alternative_at(
     row: usize,
 ) -> u8
     requires { ⌜ AlternativeAsked (now tree) names (now states) (now tests) (now edges) (now operands) s n t row ⌝ }
-    ensures { λ r. ⌜ r ≡ atRow (stateAt names (now (states .entry))) row (alternativeIn (now (tests .entry))
+    ensures { λ r. ⌜ r ≡ atRow (stateAt rules names (now (states .entry))) row (alternativeIn (now (tests .entry))
         (testsOf (now (tree .entry)) names (now (edges .entry)) (now (operands .entry))) s t n) ⌝ }
 {
     if row < n {
@@ -86,7 +97,7 @@ pub fn alternative_at(
         let many = tests[s + j] as usize;
         least = lesser(
             least,
-            step_at(tree, names, states, edges, operands, at, many, a + j),
+            step_at(rules, tree, names, states, edges, operands, at, many, a + j),
         );
         at += many;
         j += 1;
@@ -96,6 +107,7 @@ pub fn alternative_at(
 
 // All alternatives at a row above 0, in order up to the first yes.
 fn match_event(
+    rules: Rules,
     tree: &[u8],
     names: usize,
     states: &[u8],
@@ -106,7 +118,7 @@ fn match_event(
     row: usize,
 ) -> Matched
     requires { ⌜ EventAsked (now tree) names (now states) (now steps) (now tests) (now edges) (now operands) row ⌝ }
-    ensures { λ r. ⌜ Matches (stateAt names (now (states .entry)))
+    ensures { λ r. ⌜ Matches (stateAt rules names (now (states .entry)))
         (alternativesOf (now (tree .entry)) names (now (steps .entry)) (now (tests .entry)) (now (edges .entry))
         (now (operands .entry))) row (r .answer) (r .tries) ⌝ }
 {
@@ -116,7 +128,19 @@ fn match_event(
     let mut k: usize = 0;
     while k < steps.len() {
         let n = steps[k] as usize;
-        let r = alternative_at(tree, names, states, tests, edges, operands, s, n, t, row);
+        let r = alternative_at(
+            rules,
+            tree,
+            names,
+            states,
+            tests,
+            edges,
+            operands,
+            s,
+            n,
+            t,
+            row,
+        );
         if r == 2 {
             return Matched {
                 answer: Answer::Yes,
@@ -136,6 +160,7 @@ fn match_event(
 
 // The answer of all alternatives at a row, and the number tried; row 0 has no event.
 pub fn match_row(
+    rules: Rules,
     tree: &[u8],
     names: usize,
     states: &[u8],
@@ -146,7 +171,7 @@ pub fn match_row(
     row: usize,
 ) -> Matched
     requires { ⌜ RowAsked (now tree) names (now states) (now steps) (now tests) (now edges) (now operands) row ⌝ }
-    ensures { λ r. ⌜ Matches (stateAt names (now (states .entry)))
+    ensures { λ r. ⌜ Matches (stateAt rules names (now (states .entry)))
         (alternativesOf (now (tree .entry)) names (now (steps .entry)) (now (tests .entry)) (now (edges .entry))
         (now (operands .entry))) row (r .answer) (r .tries) ⌝ }
 {
@@ -156,5 +181,15 @@ pub fn match_row(
             tries: 0,
         };
     }
-    match_event(tree, names, states, steps, tests, edges, operands, row)
+    match_event(
+        rules,
+        tree,
+        names,
+        states,
+        steps,
+        tests,
+        edges,
+        operands,
+        row,
+    )
 }

@@ -10,6 +10,7 @@ ghost use Rattle.matcher.specs.Answers.{RowAsked};
 ghost use Rattle.matcher.specs.Tables.{RowsAsked, FillAsked, Filled, TotalsOf};
 use crate::answers::match_row;
 use alf::Answer;
+use alf::Rules;
 
 // How often each answer is given.
 pub struct Total {
@@ -32,6 +33,7 @@ pub fn number_of(a: Answer) -> u8
 
 // The number of a row's answer.
 pub fn number_at(
+    rules: Rules,
     tree: &[u8],
     names: usize,
     states: &[u8],
@@ -42,17 +44,28 @@ pub fn number_at(
     row: usize,
 ) -> u8
     requires { ⌜ RowAsked (now tree) names (now states) (now steps) (now tests) (now edges) (now operands) row ⌝ }
-    ensures { λ r. ⌜ r ≡ answerOf (stateAt names (now (states .entry)))
+    ensures { λ r. ⌜ r ≡ answerOf (stateAt rules names (now (states .entry)))
         (alternativesOf (now (tree .entry)) names (now (steps .entry)) (now (tests .entry)) (now (edges .entry))
         (now (operands .entry))) row ⌝ }
 {
-    let m = match_row(tree, names, states, steps, tests, edges, operands, row);
+    let m = match_row(
+        rules,
+        tree,
+        names,
+        states,
+        steps,
+        tests,
+        edges,
+        operands,
+        row,
+    );
     let a = m.answer;
     number_of(a)
 }
 
 // Rows 0 to n-1: each one's answer and number tried into lent lists.
 pub fn match_all(
+    rules: Rules,
     tree: &[u8],
     names: usize,
     states: &[u8],
@@ -66,14 +79,14 @@ pub fn match_all(
 )
     requires { ⌜ FillAsked (now tree) names (now states) (now steps) (now tests) (now edges) (now operands) n
         (now answers) (now tried) ⌝ }
-    ensures { λ _. ⌜ Filled (stateAt names (now (states .entry)))
+    ensures { λ _. ⌜ Filled (stateAt rules names (now (states .entry)))
         (alternativesOf (now (tree .entry)) names (now (steps .entry)) (now (tests .entry)) (now (edges .entry))
         (now (operands .entry))) n (now (answers .entry)) (now (tried .entry)) (now (answers .exit))
         (now (tried .exit)) ⌝ }
 {
     let mut i: usize = 0;
     while i < n {
-        let m = match_row(tree, names, states, steps, tests, edges, operands, i);
+        let m = match_row(rules, tree, names, states, steps, tests, edges, operands, i);
         let a = m.answer;
         answers[i] = number_of(a);
         tried[i] = m.tries;
@@ -90,6 +103,7 @@ fn same(x: u8, y: u8) -> u32
 
 // The totals of rows 0 to n-1.
 pub fn totals(
+    rules: Rules,
     tree: &[u8],
     names: usize,
     states: &[u8],
@@ -100,7 +114,7 @@ pub fn totals(
     n: usize,
 ) -> Total
     requires { ⌜ RowsAsked (now tree) names (now states) (now steps) (now tests) (now edges) (now operands) n ⌝ }
-    ensures { λ r. ⌜ TotalsOf (stateAt names (now (states .entry)))
+    ensures { λ r. ⌜ TotalsOf (stateAt rules names (now (states .entry)))
         (alternativesOf (now (tree .entry)) names (now (steps .entry)) (now (tests .entry)) (now (edges .entry))
         (now (operands .entry))) n (r .yes) (r .no) (r .unknown) ⌝ }
 {
@@ -109,7 +123,7 @@ pub fn totals(
     let mut unknown: u32 = 0;
     let mut i: usize = 0;
     while i < n {
-        let a = number_at(tree, names, states, steps, tests, edges, operands, i);
+        let a = number_at(rules, tree, names, states, steps, tests, edges, operands, i);
         yes += same(a, 1);
         no += same(a, 0);
         unknown += same(a, 2);

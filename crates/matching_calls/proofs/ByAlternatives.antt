@@ -9,6 +9,7 @@ use mathlib.Core.Path.{_≡_, ap, sym, _∙_, fun-ext}
 use mathlib.Core.List.{List}
 use Prim.Native.Nat.{ℕ}
 use lib.ListN.{length, take}
+use Rattle.alf.specs.declared.Rules.{Rules}
 use Rattle.alf.specs.declared.Answer.{Answer}
 use Rattle.basics.specs.Words.{listed, greatestOf}
 use Rattle.alf.specs.Values.{stateAt}
@@ -25,10 +26,10 @@ use Rattle.rewriting.specs.declared.lists.Alternatives.{Alternatives}
 use Rattle.rewriting.specs.Lists.{Holds}
 use Rattle.matching_calls.specs.Matching.{expression, answersOn, MatchesTree, FillsTree, TotalsTree}
 
-pub answers-on : (names : ℕ) (tree states : List ℕ)
-    → answerOf (stateAt names states) (alternatives (expression tree names)) ≡ answersOn names tree states
-answers-on names tree states =
-    fun-ext (λ i. sym (same-answer (stateAt names states) (expression tree names) i))
+pub answers-on : (ρ : Rules) (names : ℕ) (tree states : List ℕ)
+    → answerOf (stateAt ρ names states) (alternatives (expression tree names)) ≡ answersOn ρ names tree states
+answers-on ρ names tree states =
+    fun-ext (λ i. sym (same-answer (stateAt ρ names states) (expression tree names) i))
 
 module _ {names : ℕ} {tree : List ℕ} {a : Alternatives} (h : Holds tree names a) where
   abbrev pub xs : List Alternative
@@ -36,36 +37,36 @@ module _ {names : ℕ} {tree : List ℕ} {a : Alternatives} (h : Holds tree name
       alternativesOf tree names (take (a .count) (a .steps)) (take (a .«step_count») (a .tests))
       (take (a .«test_count») (a .edges)) (take (a .«test_count») (a .operands))
 
-  pub tree-matches : {states : List ℕ} {row t : ℕ} {answer : Answer}
-      → Matches (stateAt names states) xs row answer t
-      → MatchesTree names tree states row answer t
-  tree-matches {states} {row} m =
+  pub tree-matches : {ρ : Rules} {states : List ℕ} {row t : ℕ} {answer : Answer}
+      → Matches (stateAt ρ names states) xs row answer t
+      → MatchesTree ρ names tree states row answer t
+  tree-matches {ρ} {states} {row} m =
       record {
-        is = matches-windows (stateAt names states) (expression tree names) (h .stands) m;
-        count = m .count ∙ ap (λ (ys : List Alternative). tries (stateAt names states) ys row) (h .stands);
+        is = matches-windows (stateAt ρ names states) (expression tree names) (h .stands) m;
+        count = m .count ∙ ap (λ (ys : List Alternative). tries (stateAt ρ names states) ys row) (h .stands);
       }
 
-  pub numbers-on : (states : List ℕ) → answerOf (stateAt names states) xs ≡ answersOn names tree states
-  numbers-on states =
-      ap (λ (ys : List Alternative). answerOf (stateAt names states) ys) (h .stands) ∙ answers-on names tree states
+  pub numbers-on : (ρ : Rules) (states : List ℕ) → answerOf (stateAt ρ names states) xs ≡ answersOn ρ names tree states
+  numbers-on ρ states =
+      ap (λ (ys : List Alternative). answerOf (stateAt ρ names states) ys) (h .stands) ∙ answers-on ρ names tree states
 
-  pub tree-fills : {states answers tried answers′ tried′ : List ℕ} {n : ℕ} → length answers ≡ n
+  pub tree-fills : {ρ : Rules} {states answers tried answers′ tried′ : List ℕ} {n : ℕ} → length answers ≡ n
       → length tried ≡ n
-      → Filled (stateAt names states) xs n answers tried answers′ tried′
-      → FillsTree names n tree states answers′ tried′
-  tree-fills {states} {answers} {tried} {n = n} e d f =
+      → Filled (stateAt ρ names states) xs n answers tried answers′ tried′
+      → FillsTree ρ names n tree states answers′ tried′
+  tree-fills {ρ} {states} {answers} {tried} {n = n} e d f =
       record {
         answers =
             f .answered ∙ listed-whole n _ answers e
-            ∙ ap (λ (g : ℕ → ℕ). listed 0 n g) (numbers-on states);
+            ∙ ap (λ (g : ℕ → ℕ). listed 0 n g) (numbers-on ρ states);
         counts =
             f .counted ∙ listed-whole n _ tried d
-            ∙ ap (λ (ys : List Alternative). listed 0 n (tries (stateAt names states) ys)) (h .stands);
+            ∙ ap (λ (ys : List Alternative). listed 0 n (tries (stateAt ρ names states) ys)) (h .stands);
       }
 
-  pub tree-totals : (states : List ℕ) {n y f u : ℕ} → TotalsOf (stateAt names states) xs n y f u
-      → TotalsTree names n tree states y f u
-  tree-totals states t = totals-windows (stateAt names states) (expression tree names) (h .stands) t
+  pub tree-totals : (ρ : Rules) (states : List ℕ) {n y f u : ℕ} → TotalsOf (stateAt ρ names states) xs n y f u
+      → TotalsTree ρ names n tree states y f u
+  tree-totals ρ states t = totals-windows (stateAt ρ names states) (expression tree names) (h .stands) t
 
   pub steps-are : longestOf xs ≡ stepsOf (expression tree names)
   unfolding stepsOf

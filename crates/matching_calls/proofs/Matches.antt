@@ -6,6 +6,7 @@ use Prim.Native.Nat.{ℕ}
 use native.Mathlib.Omega.{arith}
 use lib.ListN.{length}
 use Rattle.basics.specs.declared.Refusal.{Refusal}
+use Rattle.alf.specs.declared.Rules.{Rules}
 use Rattle.alf.specs.declared.Sort.the-variants.{Vector}
 use Rattle.basics.specs.declared.Outcome.the-variants as outcome
 use Rattle.alf.specs.Refusals.{Comes}
@@ -45,12 +46,13 @@ module _ {names n : ℕ} {tree states : List ℕ} {row : ℕ} {v : Verdict}
   pub match-asked : v ≡ Good → TreeRow names tree states row
   match-asked e = record { accepted = row-accepted c e; there = row-there c e }
 
-  pub match-refused : {r : Refusal} → v ≡ Refused r → RowMatch names n tree states row (matching.Refused r)
+  pub match-refused : {ρ : Rules} {r : Refusal} → v ≡ Refused r
+      → RowMatch ρ names n tree states row (matching.Refused r)
   unfolding Finds
   match-refused e = record { comes = judged-not (c .is) e }
 
-  pub match-told : {m : Matched} → v ≡ Good → MatchesTree names tree states row (m .answer) (m .tries)
-      → RowMatch names n tree states row (matching.Found m)
+  pub match-told : {ρ : Rules} {m : Matched} → v ≡ Good → MatchesTree ρ names tree states row (m .answer) (m .tries)
+      → RowMatch ρ names n tree states row (matching.Found m)
   unfolding Finds
   match-told e s = record { comes = (judged-good (c .is) e .0, s) }
 
@@ -68,13 +70,13 @@ module _ {names n : ℕ} {tree states : List ℕ} (answers tried : List ℕ) {le
       let (((x, y), l), a, s) = judged-good as-lists e .1 in
       record { asked = record { accepted = a; rows = rows-asked l s }; room = x; space = y }
 
-  pub all-refused : {r : Refusal} → v ≡ Refused r
-      → AllMatched names n tree states answers tried answers tried (outcome.Refused r)
+  pub all-refused : {ρ : Rules} {r : Refusal} → v ≡ Refused r
+      → AllMatched ρ names n tree states answers tried answers tried (outcome.Refused r)
   unfolding Comes after
   all-refused e = record { comes = judged-not as-lists e; answers-memory = refl; tried-memory = refl }
 
-  pub all-told : {answers′ tried′ : List ℕ} → v ≡ Good → FillsTree names n tree states answers′ tried′
-      → AllMatched names n tree states answers tried answers′ tried′ (outcome.Done n)
+  pub all-told : {ρ : Rules} {answers′ tried′ : List ℕ} → v ≡ Good → FillsTree ρ names n tree states answers′ tried′
+      → AllMatched ρ names n tree states answers tried answers′ tried′ (outcome.Done n)
   unfolding Comes after
   all-told e f =
       record {
@@ -92,11 +94,11 @@ module _ {names n : ℕ} {tree states : List ℕ} {v : Verdict} (c : ChecksRows 
   pub totals-asked : v ≡ Good → TreeRows names n tree states
   totals-asked e = let (l, a, s) = judged-good as-trace e .1 in record { accepted = a; rows = rows-asked l s }
 
-  pub totals-refused : {r : Refusal} → v ≡ Refused r → RowTotals names n tree states (counting.Refused r)
+  pub totals-refused : {ρ : Rules} {r : Refusal} → v ≡ Refused r → RowTotals ρ names n tree states (counting.Refused r)
   unfolding Counts
   totals-refused e = record { comes = judged-not as-trace e }
 
-  pub totals-told : {t : Total} → v ≡ Good → TotalsTree names n tree states (t .yes) (t .no) (t .unknown)
-      → RowTotals names n tree states (counting.Counted t)
+  pub totals-told : {ρ : Rules} {t : Total} → v ≡ Good → TotalsTree ρ names n tree states (t .yes) (t .no) (t .unknown)
+      → RowTotals ρ names n tree states (counting.Counted t)
   unfolding Counts
   totals-told e s = record { comes = (judged-good as-trace e .0, s) }

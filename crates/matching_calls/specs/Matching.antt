@@ -10,6 +10,7 @@ use Prim.Native.Nat.{ℕ}
 use mathlib.Core.Path.{_≡_}
 use mathlib.Core.List.{List}
 use lib.ListN.{length}
+use Rattle.alf.specs.declared.Rules.{Rules}
 use Rattle.alf.specs.declared.Answer.{Answer}
 use Rattle.alf.specs.declared.Sort.the-variants as sort
 use Rattle.basics.specs.declared.Outcome.{Outcome}
@@ -37,16 +38,17 @@ abbrev pub expression : List ℕ → ℕ → Vector
 expression tree names = vectorAt tree names (length tree)
 
 -- the number of its answer at each row of a trace, and how many of its alternatives are tried there
-abbrev pub answersOn : ℕ → List ℕ → List ℕ → ℕ → ℕ
-answersOn names tree states = rowAnswer (stateAt names states) (expression tree names)
+abbrev pub answersOn : Rules → ℕ → List ℕ → List ℕ → ℕ → ℕ
+answersOn ρ names tree states = rowAnswer (stateAt ρ names states) (expression tree names)
 
-abbrev pub triesOn : ℕ → List ℕ → List ℕ → ℕ → ℕ
-triesOn names tree states = tries (stateAt names states) (alternatives (expression tree names))
+abbrev pub triesOn : Rules → ℕ → List ℕ → List ℕ → ℕ → ℕ
+triesOn ρ names tree states = tries (stateAt ρ names states) (alternatives (expression tree names))
 
 -- its answer at a row, and the number tried
-pub record MatchesTree (names : ℕ) (tree states : List ℕ) (row : ℕ) (answer : Answer) (tried : ℕ) : Type 0 where
-  pub is : numberOf answer ≡ answersOn names tree states row
-  pub count : tried ≡ triesOn names tree states row
+pub record MatchesTree (ρ : Rules) (names : ℕ) (tree states : List ℕ) (row : ℕ) (answer : Answer)
+    (tried : ℕ) : Type 0 where
+  pub is : numberOf answer ≡ answersOn ρ names tree states row
+  pub count : tried ≡ triesOn ρ names tree states row
 
 unfoldable pub Finds : Order → (Answer → ℕ → Type 0) → Matching → Type 0
 Finds o right (Found m) = Passed o × right (m .answer) (m .tries)
@@ -58,31 +60,31 @@ pub record FoundAs (number tried : ℕ) (x : Matching) : Type 0 where
   pub is : x ≡ Found (record { answer = answer; tries = tried })
   pub numbered : numberOf answer ≡ number
 
-pub record RowMatch (names n : ℕ) (tree states : List ℕ) (row : ℕ) (r : Matching) : Type 0 where
-  pub comes : Finds (rowOrder names n tree sort.Vector states row) (MatchesTree names tree states row) r
+pub record RowMatch (ρ : Rules) (names n : ℕ) (tree states : List ℕ) (row : ℕ) (r : Matching) : Type 0 where
+  pub comes : Finds (rowOrder names n tree sort.Vector states row) (MatchesTree ρ names tree states row) r
 
 -- at rows 0 to n-1, in two lists of n entries
-pub record FillsTree (names n : ℕ) (tree states answers′ tried′ : List ℕ) : Type 0 where
-  pub answers : answers′ ≡ listed 0 n (answersOn names tree states)
-  pub counts : tried′ ≡ listed 0 n (triesOn names tree states)
+pub record FillsTree (ρ : Rules) (names n : ℕ) (tree states answers′ tried′ : List ℕ) : Type 0 where
+  pub answers : answers′ ≡ listed 0 n (answersOn ρ names tree states)
+  pub counts : tried′ ≡ listed 0 n (triesOn ρ names tree states)
 
-pub record AllMatched (names n : ℕ) (tree states answers tried answers′ tried′ : List ℕ) (r : Outcome)
+pub record AllMatched (ρ : Rules) (names n : ℕ) (tree states answers tried answers′ tried′ : List ℕ) (r : Outcome)
     : Type 0 where
   pub comes : Comes (rowsOrder names n ((length answers ≡ n) × (length tried ≡ n)) tree sort.Vector states)
       (λ k. k ≡ n) r
-  pub answers-memory : answers′ ≡ after (listed 0 n (answersOn names tree states)) answers r
-  pub tried-memory : tried′ ≡ after (listed 0 n (triesOn names tree states)) tried r
+  pub answers-memory : answers′ ≡ after (listed 0 n (answersOn ρ names tree states)) answers r
+  pub tried-memory : tried′ ≡ after (listed 0 n (triesOn ρ names tree states)) tried r
 
 -- how many rows answer yes, no and unknown
-abbrev pub TotalsTree : ℕ → ℕ → List ℕ → List ℕ → ℕ → ℕ → ℕ → Type 0
-TotalsTree names n tree states = Totals (stateAt names states) (expression tree names) n
+abbrev pub TotalsTree : Rules → ℕ → ℕ → List ℕ → List ℕ → ℕ → ℕ → ℕ → Type 0
+TotalsTree ρ names n tree states = Totals (stateAt ρ names states) (expression tree names) n
 
 unfoldable pub Counts : Order → (ℕ → ℕ → ℕ → Type 0) → Counting → Type 0
 Counts o right (counting.Counted t) = Passed o × right (t .yes) (t .no) (t .unknown)
 Counts o right (counting.Refused r) = RefusedBy o r
 
-pub record RowTotals (names n : ℕ) (tree states : List ℕ) (r : Counting) : Type 0 where
-  pub comes : Counts (traceOrder names n tree sort.Vector states) (TotalsTree names n tree states) r
+pub record RowTotals (ρ : Rules) (names n : ℕ) (tree states : List ℕ) (r : Counting) : Type 0 where
+  pub comes : Counts (traceOrder names n tree sort.Vector states) (TotalsTree ρ names n tree states) r
 
 -- What the functions inside ask: an accepted tree; a row that is there; n rows; and lists of n entries.
 pub record TreeRow (names : ℕ) (tree states : List ℕ) (row : ℕ) : Type 0 where

@@ -4,6 +4,7 @@ ghost use Rattle.basics.specs.Deciding.{Decides};
 ghost use Rattle.matching_calls.specs.Matching.{TreeRow, TreeRows, TreeLists, MatchesTree, FillsTree, TotalsTree};
 ghost use Rattle.matching_calls.specs.Matching.{RowMatch, AllMatched, RowTotals};
 use alf::RowNo;
+use alf::Rules;
 use alf::Sort;
 use basics::Outcome;
 use basics::Refusal;
@@ -27,9 +28,9 @@ pub enum Counting {
 }
 
 // An accepted tree, at a row that is there.
-fn match_tree(names: usize, tree: &[u8], states: &[u8], row: usize) -> Matched
+fn match_tree(rules: Rules, names: usize, tree: &[u8], states: &[u8], row: usize) -> Matched
     requires { ⌜ TreeRow names (now tree) (now states) row ⌝ }
-    ensures { λ r. ⌜ MatchesTree names (now (tree .entry)) (now (states .entry)) row (r .answer) (r .tries) ⌝ }
+    ensures { λ r. ⌜ MatchesTree rules names (now (tree .entry)) (now (states .entry)) row (r .answer) (r .tries) ⌝ }
 {
     let a = alternatives_of(tree, names);
     let count = a.count;
@@ -40,6 +41,7 @@ fn match_tree(names: usize, tree: &[u8], states: &[u8], row: usize) -> Matched
     let edges = a.edges;
     let operands = a.operands;
     matcher::answers::match_row(
+        rules,
         tree,
         names,
         states,
@@ -53,6 +55,7 @@ fn match_tree(names: usize, tree: &[u8], states: &[u8], row: usize) -> Matched
 
 // At all n rows, into lists of n entries.
 fn match_tree_all(
+    rules: Rules,
     names: usize,
     n: usize,
     tree: &[u8],
@@ -61,7 +64,7 @@ fn match_tree_all(
     tried: &mut [u32],
 )
     requires { ⌜ TreeLists names n (now tree) (now states) (now answers) (now tried) ⌝ }
-    ensures { λ _. ⌜ FillsTree names n (now (tree .entry)) (now (states .entry)) (now (answers .exit))
+    ensures { λ _. ⌜ FillsTree rules names n (now (tree .entry)) (now (states .entry)) (now (answers .exit))
         (now (tried .exit)) ⌝ }
 {
     let a = alternatives_of(tree, names);
@@ -73,6 +76,7 @@ fn match_tree_all(
     let edges = a.edges;
     let operands = a.operands;
     matcher::tables::match_all(
+        rules,
         tree,
         names,
         states,
@@ -87,9 +91,10 @@ fn match_tree_all(
 }
 
 // The totals of n rows.
-fn total_tree(names: usize, n: usize, tree: &[u8], states: &[u8]) -> Total
+fn total_tree(rules: Rules, names: usize, n: usize, tree: &[u8], states: &[u8]) -> Total
     requires { ⌜ TreeRows names n (now tree) (now states) ⌝ }
-    ensures { λ r. ⌜ TotalsTree names n (now (tree .entry)) (now (states .entry)) (r .yes) (r .no) (r .unknown) ⌝ }
+    ensures { λ r. ⌜ TotalsTree rules names n (now (tree .entry))
+        (now (states .entry)) (r .yes) (r .no) (r .unknown) ⌝ }
 {
     let a = alternatives_of(tree, names);
     let count = a.count;
@@ -100,6 +105,7 @@ fn total_tree(names: usize, n: usize, tree: &[u8], states: &[u8]) -> Total
     let edges = a.edges;
     let operands = a.operands;
     matcher::tables::totals(
+        rules,
         tree,
         names,
         states,
@@ -112,14 +118,21 @@ fn total_tree(names: usize, n: usize, tree: &[u8], states: &[u8]) -> Total
 }
 
 // The answer of a vector expression at a row, and the number of its alternatives tried.
-pub fn match_row(names: usize, n: usize, tree: &[u8], states: &[u8], row: RowNo) -> Matching
-    ensures { λ r. ⌜ RowMatch names n (now (tree .entry)) (now (states .entry)) (row .0) r ⌝ }
+pub fn match_row(
+    rules: Rules,
+    names: usize,
+    n: usize,
+    tree: &[u8],
+    states: &[u8],
+    row: RowNo,
+) -> Matching
+    ensures { λ r. ⌜ RowMatch rules names n (now (tree .entry)) (now (states .entry)) (row .0) r ⌝ }
 {
     let at = row.0 as usize;
     let v = check_row(names, n, tree, Sort::Vector, states, at);
     match v {
         Verdict::Refused(r) => Matching::Refused(r),
-        Verdict::Good => Matching::Found(match_tree(names, tree, states, at)),
+        Verdict::Good => Matching::Found(match_tree(rules, names, tree, states, at)),
     }
 }
 
@@ -135,6 +148,7 @@ pub fn both_are(n: usize, x: usize, y: usize) -> bool
 
 // The same for all rows, by document 01's numbers, into lent lists; how many.
 pub fn match_all(
+    rules: Rules,
     names: usize,
     n: usize,
     tree: &[u8],
@@ -142,7 +156,7 @@ pub fn match_all(
     answers: &mut [u8],
     tried: &mut [u32],
 ) -> Outcome
-    ensures { λ r. ⌜ AllMatched names n (now (tree .entry)) (now (states .entry)) (now (answers .entry))
+    ensures { λ r. ⌜ AllMatched rules names n (now (tree .entry)) (now (states .entry)) (now (answers .entry))
         (now (tried .entry)) (now (answers .exit)) (now (tried .exit)) r ⌝ }
 {
     let lent = both_are(n, answers.len(), tried.len());
@@ -150,19 +164,19 @@ pub fn match_all(
     match v {
         Verdict::Refused(r) => Outcome::Refused(r),
         Verdict::Good => {
-            match_tree_all(names, n, tree, states, answers, tried);
+            match_tree_all(rules, names, n, tree, states, answers, tried);
             Outcome::Done(n)
         }
     }
 }
 
 // How many of the rows answer yes, no and unknown.
-pub fn totals(names: usize, n: usize, tree: &[u8], states: &[u8]) -> Counting
-    ensures { λ r. ⌜ RowTotals names n (now (tree .entry)) (now (states .entry)) r ⌝ }
+pub fn totals(rules: Rules, names: usize, n: usize, tree: &[u8], states: &[u8]) -> Counting
+    ensures { λ r. ⌜ RowTotals rules names n (now (tree .entry)) (now (states .entry)) r ⌝ }
 {
     let v = check_rows(names, n, true, tree, Sort::Vector, states);
     match v {
         Verdict::Refused(r) => Counting::Refused(r),
-        Verdict::Good => Counting::Counted(total_tree(names, n, tree, states)),
+        Verdict::Good => Counting::Counted(total_tree(rules, names, n, tree, states)),
     }
 }

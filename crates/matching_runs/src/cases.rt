@@ -1,5 +1,6 @@
 // A line's case: its expression, as a text or as a tree, and the calls that its kind names. A line of no kind is
 // printed behind a `?`.
+use alf::Rules;
 use alf::Sort;
 use reader::Read;
 use reader::read_expression;
@@ -23,60 +24,60 @@ use text_parts::parts::front;
 use text_parts::parts::start_of;
 
 // A vector expression: as written from word 4 on, by alternatives row by row and all rows, by the queue; the totals.
-fn show_vector(line: &[u8], tree: &[u8]) {
+fn show_vector(rules: Rules, line: &[u8], tree: &[u8]) {
     write(b"\n written");
-    rows_in(b'w', line, tree, number_in(line, 4));
+    rows_in(rules, b'w', line, tree, number_in(line, 4));
     write(b" row");
-    rows_in(b'r', line, tree, 0);
-    lend(b'v', line, tree);
+    rows_in(rules, b'r', line, tree, 0);
+    lend(rules, b'v', line, tree);
     write(b" queue");
-    queue_in(line, tree);
-    totals_in(line, tree);
+    queue_in(rules, line, tree);
+    totals_in(rules, line, tree);
     character(b'\n');
 }
 
 // A boolean expression: all values, then row by row, then the states.
-fn show_boolean(line: &[u8], tree: &[u8]) {
+fn show_boolean(rules: Rules, line: &[u8], tree: &[u8]) {
     character(b'\n');
-    lend_out(b'b', line, tree);
+    lend_out(rules, b'b', line, tree);
     write(b" value");
-    rows_in(b'v', line, tree, 0);
+    rows_in(rules, b'v', line, tree, 0);
     write(b" state");
-    rows_in(b's', line, tree, 0);
+    rows_in(rules, b's', line, tree, 0);
 }
 
 // Two calls at a row.
-fn show_row(line: &[u8], tree: &[u8], first: u8, second: u8) {
+fn show_row(rules: Rules, line: &[u8], tree: &[u8], first: u8, second: u8) {
     character(b'\n');
-    row_in(first, line, tree);
-    row_in(second, line, tree);
+    row_in(rules, first, line, tree);
+    row_in(rules, second, line, tree);
 }
 
-fn show_vector_calls(line: &[u8], tree: &[u8]) {
-    show_row(line, tree, b'w', b'r');
-    lend(b'V', line, tree);
+fn show_vector_calls(rules: Rules, line: &[u8], tree: &[u8]) {
+    show_row(rules, line, tree, b'w', b'r');
+    lend(rules, b'V', line, tree);
 }
 
-fn show_boolean_calls(line: &[u8], tree: &[u8]) {
-    show_row(line, tree, b's', b'v');
-    lend_out(b'B', line, tree);
+fn show_boolean_calls(rules: Rules, line: &[u8], tree: &[u8]) {
+    show_row(rules, line, tree, b's', b'v');
+    lend_out(rules, b'B', line, tree);
 }
 
-fn show_case(kind: u8, line: &[u8], tree: &[u8]) {
+fn show_case(rules: Rules, kind: u8, line: &[u8], tree: &[u8]) {
     match kind {
-        b'v' => show_vector(line, tree),
-        b'b' => show_boolean(line, tree),
-        b'c' => lend(b'c', line, tree),
-        b'T' => zeros_in(line, tree),
-        b'V' => show_vector_calls(line, tree),
-        b'B' => show_boolean_calls(line, tree),
-        b'P' => push_in(line, tree),
+        b'v' => show_vector(rules, line, tree),
+        b'b' => show_boolean(rules, line, tree),
+        b'c' => lend(rules, b'c', line, tree),
+        b'T' => zeros_in(rules, line, tree),
+        b'V' => show_vector_calls(rules, line, tree),
+        b'B' => show_boolean_calls(rules, line, tree),
+        b'P' => push_in(rules, line, tree),
         _ => broken(line),
     }
 }
 
-fn show_read(kind: u8, line: &[u8], tree: &[u8; 256], len: usize) {
-    show_case(kind, line, front(tree, len));
+fn show_read(rules: Rules, kind: u8, line: &[u8], tree: &[u8; 256], len: usize) {
+    show_case(rules, kind, line, front(tree, len));
 }
 
 // A text over the names A, B, C.
@@ -96,7 +97,7 @@ fn sort_of(kind: u8) -> Sort {
 }
 
 // An expression as a text.
-fn show_text(kind: u8, line: &[u8], text: &[u8]) {
+fn show_text(rules: Rules, kind: u8, line: &[u8], text: &[u8]) {
     let r = read(text, sort_of(kind));
     let refused = r.refused;
     if refused {
@@ -105,31 +106,46 @@ fn show_text(kind: u8, line: &[u8], text: &[u8]) {
         return character(b'\n');
     }
     let tree = r.tree;
-    show_read(kind, line, &tree, r.len);
+    show_read(rules, kind, line, &tree, r.len);
 }
 
 // What stands from word 9 on is printed: a text, from which the tree is read, or a label, where word 8 is the tree. For
 // the totals it is the number of rows.
-fn show_rest(kind: u8, line: &[u8], rest: &[u8]) {
+fn show_rest(rules: Rules, kind: u8, line: &[u8], rest: &[u8]) {
     write(rest);
     match kind {
-        b'a'..=b'z' => show_text(kind, line, rest),
-        _ => show_case(kind, line, list_in(line, 8)),
+        b'a'..=b'z' => show_text(rules, kind, line, rest),
+        _ => show_case(rules, kind, line, list_in(line, 8)),
     }
+}
+
+// Whether a line's kind stands behind `=`: such a case is under the rule of equal branches.
+fn is_new(line: &[u8]) -> bool {
+    if line.len() < 2 {
+        return false;
+    }
+    line[0] == b'='
+}
+
+fn kind_of(line: &[u8]) -> u8 {
+    if line.len() < 2 {
+        return b'#';
+    }
+    if line[0] == b'=' { line[1] } else { line[0] }
 }
 
 // A line that is empty or starts with `#` is a remark.
 fn show_line(line: &[u8]) {
-    if line.len() == 0 {
-        return;
-    }
-    let kind = line[0];
+    let kind = kind_of(line);
     if kind == b'#' {
         return;
     }
+    let rules = Rules {
+        equal_branches: is_new(line),
+    };
     let at = start_of(line, 9, b' ');
     let end = line.len();
-    show_rest(kind, line, &line[at..end]);
+    show_rest(rules, kind, line, &line[at..end]);
 }
 
 // Each line of the input.

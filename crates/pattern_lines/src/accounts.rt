@@ -1,4 +1,5 @@
 // The lines of the table: the heading, a pattern's line, made by a call of `jobs`, and the sums with it, the totals.
+use alf::Rules;
 use basics::Outcome;
 use complaints::refused;
 use complaints::refused_text;
@@ -45,8 +46,16 @@ fn account(text: &[u8], c: Counting, s: Sums) -> Sums {
 }
 
 // A pattern's line. One that is refused spoils neither the others nor the table: its line says so.
-fn say_line(names: &[u8], n: usize, states: &[u8], text: &[u8], out: &mut [u8], s: Sums) -> Sums {
-    let l = table_line(names, n, states, text, out);
+fn say_line(
+    rules: Rules,
+    names: &[u8],
+    n: usize,
+    states: &[u8],
+    text: &[u8],
+    out: &mut [u8],
+    s: Sums,
+) -> Sums {
+    let l = table_line(rules, names, n, states, text, out);
     let counted = l.counted;
     let written = l.written;
     deliver(out, written);
@@ -54,6 +63,7 @@ fn say_line(names: &[u8], n: usize, states: &[u8], text: &[u8], out: &mut [u8], 
 }
 
 fn lent(
+    rules: Rules,
     names: &[u8],
     n: usize,
     states: &[u8],
@@ -61,13 +71,13 @@ fn lent(
     out: &mut [u8; 66048],
     s: Sums,
 ) -> Sums {
-    say_line(names, n, states, text, out, s)
+    say_line(rules, names, n, states, text, out, s)
 }
 
 // One pattern: its line, and the sums with it.
-pub fn pattern(names: &[u8], n: usize, states: &[u8], text: &[u8], s: Sums) -> Sums {
+pub fn pattern(rules: Rules, names: &[u8], n: usize, states: &[u8], text: &[u8], s: Sums) -> Sums {
     let mut out = [0u8; 66048];
-    lent(names, n, states, text, &mut out, s)
+    lent(rules, names, n, states, text, &mut out, s)
 }
 
 // The first line of the table.

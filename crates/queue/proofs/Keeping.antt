@@ -13,6 +13,7 @@ use native.Mathlib.Nat.{zero-mul, one-mul, suc-mul, mul-le-mul-left, mul-le-mul-
 use native.Mathlib.Omega.{arith}
 use lib.ListN.{length, take, drop, replicate, length-append, length-drop, length-replicate}
 use lib.Seq.{length-take-le, take-all, take-at}
+use Rattle.alf.specs.declared.Rules.{Rules}
 use Rattle.alf.specs.declared.Answer.{Answer}
 use Rattle.basics.specs.Words.{greatestOf}
 use Rattle.alf.specs.Values.{stateAt}
@@ -151,10 +152,10 @@ module _ {tree : List ℕ} {names : ℕ} {steps tests edges operands : List ℕ}
     xs = alternativesOf tree names steps tests edges operands
 
     -- after a push the queue keeps at most K rows of codes, so it may be pushed again
-    pub push-again : {a : Answer} {t : ℕ} {q′ : Queue} → Pushes names xs q row a t q′
+    pub push-again : {ρ : Rules} {a : Answer} {t : ℕ} {q′ : Queue} → Pushes ρ names xs q row a t q′
         → Room names (greatestOf (λ n. n) steps) q′
     unfolding lastRows
-    push-again {q′ = q′} p =
+    push-again {ρ} {q′ = q′} p =
         let kept = q .kept .0 in
         let trace = traceOf names q row in
         let e = longest-is (asked .shape) in
@@ -186,8 +187,9 @@ module _ {tree : List ℕ} {names : ℕ} {steps tests edges operands : List ℕ}
             full = sym push-length;
           }
 
-      pub pushes : {a : Answer} {t : ℕ} {q′ : Queue} → Matches (stateAt names (take end work)) xs (q .kept .0) a t
-          → Keeps (take end work) names (q .kept .0) k q′ → Pushes names xs q row a t q′
+      pub pushes : {ρ : Rules} {a : Answer} {t : ℕ} {q′ : Queue}
+          → Matches (stateAt ρ names (take end work)) xs (q .kept .0) a t
+          → Keeps (take end work) names (q .kept .0) k q′ → Pushes ρ names xs q row a t q′
       pushes m g =
           let l = longest ∙ longest-is (asked .shape) in
           record { matched = rw trace-is at m; kept = rw l at (g .number); states = rw (trace-is, l) at (g .states) }

@@ -11,6 +11,7 @@ use native.Mathlib.Nat.{zero-mul}
 use native.Mathlib.Omega.{arith}
 use lib.ListN.{length, take, drop}
 use lib.Seq.{drop-nil}
+use Rattle.alf.specs.declared.Rules.{Rules}
 use Rattle.alf.specs.declared.Answer.{Answer}
 use Rattle.alf.specs.Expressions.{Boolean, Vector}
 use Rattle.alf.specs.Windows.{rowAnswer}
@@ -44,9 +45,9 @@ any-asks : (xs : List Alternative) → All (Asks Anything) xs
 any-asks [] = none
 any-asks (x ∷ xs) = more (steps-any x) (any-asks xs)
 
-module _ {names : ℕ} {xs : List Alternative} {n : ℕ} {rows : ℕ → List ℕ} {queues : ℕ → Queue}
+module _ {ρ : Rules} {names : ℕ} {xs : List Alternative} {n : ℕ} {rows : ℕ → List ℕ} {queues : ℕ → Queue}
     {answers : ℕ → Answer}
-    {counts : ℕ → ℕ} (f : Feed names xs n rows queues answers counts) where
+    {counts : ℕ → ℕ} (f : Feed ρ names xs n rows queues answers counts) where
   abbrev K : ℕ
   K = longestOf xs
 
@@ -91,12 +92,12 @@ module _ {names : ℕ} {xs : List Alternative} {n : ℕ} {rows : ℕ → List �
   keeps (suc i) h = kept-next i h (keeps i (omega arith))
 
   near : (i : ℕ) → i < n → Kept i
-      → Near Anything (stateAt names (traceOf names (queues i) (rows i))) (stateAt names (fed rows (suc i))) K
+      → Near Anything (stateAt ρ names (traceOf names (queues i) (rows i))) (stateAt ρ names (fed rows (suc i))) K
       (queues i .kept .0) i
   near i l k =
       record {
         room = omega (arith, k .number);
-        agree = λ d a b c o. ap (λ (r : ℕ → ℕ). state r c) (fun-ext (same d a b));
+        agree = λ d a b c o. ap (λ (r : ℕ → ℕ). state ρ r c) (fun-ext (same d a b));
       }
     where
       same : (d : ℕ) → d ≤ K → d ≤ queues i .kept .0 → (j : ℕ)
@@ -108,7 +109,7 @@ module _ {names : ℕ} {xs : List Alternative} {n : ℕ} {rows : ℕ → List �
           ∙ ap (λ (r : ℕ). rowOf names (fed rows (suc i)) r j) e
 
   pub queue-answers : 0 < K → (i : ℕ) → i < n
-      → Matches (stateAt names (fed rows (suc i))) xs i (answers i) (counts i)
+      → Matches (stateAt ρ names (fed rows (suc i))) xs i (answers i) (counts i)
   queue-answers some i l =
       let k = keeps i (omega arith) in
       let p = f .pushes i l in
@@ -124,5 +125,5 @@ module _ {names : ℕ} {xs : List Alternative} {n : ℕ} {rows : ℕ → List �
 
   -- so, where the alternatives are those of a vector expression, it is the answer on windows
   pub queue-windows : (p : Vector) → xs ≡ alternatives p → 0 < K → (i : ℕ) → i < n
-      → numberOf (answers i) ≡ rowAnswer (stateAt names (fed rows (suc i))) p i
-  queue-windows p same some i l = matches-windows (stateAt names (fed rows (suc i))) p same (queue-answers some i l)
+      → numberOf (answers i) ≡ rowAnswer (stateAt ρ names (fed rows (suc i))) p i
+  queue-windows p same some i l = matches-windows (stateAt ρ names (fed rows (suc i))) p same (queue-answers some i l)

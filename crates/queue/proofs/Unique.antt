@@ -2,15 +2,16 @@
 use mathlib.Core.Path.{_≡_, sym, _∙_}
 use mathlib.Core.List.{List}
 use Prim.Native.Nat.{ℕ}
+use Rattle.alf.specs.declared.Rules.{Rules}
 use Rattle.alf.specs.declared.Answer.{Answer}
 use Rattle.alf.specs.Alternatives.{Alternative}
 use Rattle.matcher.proofs.Unique.{matches-unique}
 use Rattle.queue.specs.declared.queues.Queue.{Queue}
 use Rattle.queue.specs.Queues.{Pushes}
 
-pub pushes-unique : {names : ℕ} {xs : List Alternative} {q : Queue} {row : List ℕ} {a b : Answer} {t u : ℕ}
+pub pushes-unique : {ρ : Rules} {names : ℕ} {xs : List Alternative} {q : Queue} {row : List ℕ} {a b : Answer} {t u : ℕ}
     {q′ q″ : Queue}
-    → Pushes names xs q row a t q′ → Pushes names xs q row b u q″
+    → Pushes ρ names xs q row a t q′ → Pushes ρ names xs q row b u q″
     → (a ≡ b) × (t ≡ u) × (q′ ≡ q″)
 pushes-unique p k =
     let m = matches-unique (p .matched) (k .matched) in

@@ -7,6 +7,7 @@ use Prim.Native.Nat.{ℕ, zero, suc, _+_, _-_, _*_, _<_, _≤_, min}
 use mathlib.Core.Path.{_≡_}
 use mathlib.Core.List.{List, [], _++_}
 use lib.ListN.{length, take, drop, replicate}
+use Rattle.alf.specs.declared.Rules.{Rules}
 use Rattle.alf.specs.declared.Answer.{Answer}
 use Rattle.basics.specs.Words.{greatestOf}
 use Rattle.alf.specs.Values.{stateAt}
@@ -68,9 +69,10 @@ pub record PushAsked (tree : List ℕ) (names : ℕ) (steps tests edges operands
   pub codes : Codes row
 
 -- the answer and the number tried at the last row of what is kept and pushed; of that the last K rows are kept
-pub record Pushes (names : ℕ) (xs : List Alternative) (q : Queue) (row : List ℕ) (answer : Answer) (tried : ℕ)
+pub record Pushes (ρ : Rules) (names : ℕ) (xs : List Alternative) (q : Queue) (row : List ℕ) (answer : Answer)
+    (tried : ℕ)
     (q′ : Queue) : Type 0 where
-  pub matched : Matches (stateAt names (traceOf names q row)) xs (q .kept .0) answer tried
+  pub matched : Matches (stateAt ρ names (traceOf names q row)) xs (q .kept .0) answer tried
   pub kept : q′ .kept .0 ≡ min (q .kept .0 + 1) (longestOf xs)
   pub states : q′ .states ≡ stored (lastRows names (longestOf xs) (q .kept .0 + 1) (traceOf names q row))
 
@@ -80,8 +82,8 @@ fed rows zero = []
 fed rows (suc n) = fed rows n ++ rows n
 
 -- n pushes, one after the other, the first into a queue that keeps nothing
-pub record Feed (names : ℕ) (xs : List Alternative) (n : ℕ) (rows : ℕ → List ℕ) (queues : ℕ → Queue)
+pub record Feed (ρ : Rules) (names : ℕ) (xs : List Alternative) (n : ℕ) (rows : ℕ → List ℕ) (queues : ℕ → Queue)
     (answers : ℕ → Answer) (counts : ℕ → ℕ) : Type 0 where
   pub first : queues 0 .kept .0 ≡ 0
   pub full : (i : ℕ) → i < n → length (rows i) ≡ names
-  pub pushes : (i : ℕ) → i < n → Pushes names xs (queues i) (rows i) (answers i) (counts i) (queues (suc i))
+  pub pushes : (i : ℕ) → i < n → Pushes ρ names xs (queues i) (rows i) (answers i) (counts i) (queues (suc i))

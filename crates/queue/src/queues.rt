@@ -7,6 +7,7 @@ ghost use Rattle.basics.specs.Memory.{placed};
 ghost use Rattle.queue.specs.Queues.{LayAsked, KeepAsked, Keeps, PushAsked, Pushes, heldOf, stored};
 use alf::Answer;
 use alf::RowNo;
+use alf::Rules;
 use alternatives::walking::longest;
 use basics::puts::put;
 use matcher::answers::match_row;
@@ -81,6 +82,7 @@ fn keep(trace: &[u8], names: usize, kept: usize, k: usize) -> Queue
 
 // One row more.
 pub fn push(
+    rules: Rules,
     tree: &[u8],
     names: usize,
     steps: &[u8],
@@ -91,14 +93,25 @@ pub fn push(
     row: &[u8],
 ) -> Pushed
     requires { ⌜ PushAsked (now tree) names (now steps) (now tests) (now edges) (now operands) queue (now row) ⌝ }
-    ensures { λ r. ⌜ Pushes names (alternativesOf (now (tree .entry)) names (now (steps .entry)) (now (tests .entry))
+    ensures { λ r. ⌜ Pushes rules names (alternativesOf (now (tree .entry)) names (now (steps .entry))
+        (now (tests .entry))
         (now (edges .entry)) (now (operands .entry))) queue (now (row .entry)) (r .answer) (r .tries) (r .queue) ⌝ }
 {
     let kept = queue.kept;
     let at = kept.0 as usize;
     let end = at * names + names;
     let work = lay(queue, names, row);
-    let m = match_row(tree, names, &work[..end], steps, tests, edges, operands, at);
+    let m = match_row(
+        rules,
+        tree,
+        names,
+        &work[..end],
+        steps,
+        tests,
+        edges,
+        operands,
+        at,
+    );
     let next = keep(&work[..end], names, at, longest(steps) as usize);
     let answer = m.answer;
     let tries = m.tries;

@@ -3,6 +3,7 @@
 use Prim.Native.Nat.{ℕ}
 use mathlib.Core.Path.{_∙_}
 use mathlib.Core.List.{List}
+use Rattle.alf.specs.declared.Rules.{Rules}
 use Rattle.alf.specs.declared.Answer.{Answer}
 use Rattle.alf.specs.Values.{stateAt}
 use Rattle.alf.specs.Alternatives.{alternatives, stepsOf}
@@ -16,9 +17,9 @@ use Rattle.matching_calls.proofs.ByAlternatives.{xs, steps-are, tree-matches}
 use Rattle.queue_calls.specs.Pushing.{PushesTree}
 
 module _ {names : ℕ} {tree : List ℕ} {a : Alternatives} (h : Holds tree names a) where
-  pub tree-pushes : {q q′ : Queue} {row : List ℕ} {t : ℕ} {answer : Answer}
-      → Pushes names (xs h) q row answer t q′
-      → PushesTree names tree q row answer t q′
+  pub tree-pushes : {ρ : Rules} {q q′ : Queue} {row : List ℕ} {t : ℕ} {answer : Answer}
+      → Pushes ρ names (xs h) q row answer t q′
+      → PushesTree ρ names tree q row answer t q′
   tree-pushes p =
       record {
         matched = tree-matches h (p .matched);
@@ -27,11 +28,12 @@ module _ {names : ℕ} {tree : List ℕ} {a : Alternatives} (h : Holds tree name
       }
 
 -- and the other way: what is pushed for a tree is pushed for its alternatives
-pub tree-pushed : {names : ℕ} {tree : List ℕ} {q q′ : Queue} {row : List ℕ} {t : ℕ} {answer : Answer}
-    → PushesTree names tree q row answer t q′ → Pushes names (alternatives (expression tree names)) q row answer t q′
+pub tree-pushed : {ρ : Rules} {names : ℕ} {tree : List ℕ} {q q′ : Queue} {row : List ℕ} {t : ℕ} {answer : Answer}
+    → PushesTree ρ names tree q row answer t q′
+    → Pushes ρ names (alternatives (expression tree names)) q row answer t q′
 unfolding stepsOf
-tree-pushed {names} {tree} {q} {q′} {row} p =
-    let st = stateAt names (traceOf names q row) in
+tree-pushed {ρ} {names} {tree} {q} {q′} {row} p =
+    let st = stateAt ρ names (traceOf names q row) in
     record {
       matched =
           record {

@@ -13,6 +13,7 @@ use lib.Dec.{eqb, ltb}
 use lib.ListN.{length, take}
 use borrow.Author.Tests.{eqb-true, eqb-false, ltb-false}
 use Rattle.basics.specs.declared.Refusal.{Refusal}
+use Rattle.alf.specs.declared.Rules.{Rules}
 use Rattle.alf.specs.declared.Sort.the-variants.{Vector}
 use Rattle.alf.specs.Expressions as expressions
 use Rattle.alf.specs.Alternatives.{alternatives, stepsOf, overLimit}
@@ -144,12 +145,12 @@ module _ {names : ℕ} {tree : List ℕ} {q : Queue} {row : List ℕ} {fits good
   pub push-good : v ≡ Good → TreePush names tree q row
   push-good e = let (l, h, s) = judged-good as-push e .1 in record { handed = h; fits = l; codes = s }
 
-  pub push-refused : {r : Refusal} → v ≡ Refused r → Push names tree q row (matching.Refused r) q
+  pub push-refused : {ρ : Rules} {r : Refusal} → v ≡ Refused r → Push ρ names tree q row (matching.Refused r) q
   unfolding Takes
   push-refused e = record { comes = (judged-not as-push e, refl) }
 
-  pub push-told : {m : Matched} {q′ : Queue} → v ≡ Good
-      → PushesTree names tree q row (m .answer) (m .tries) q′
-      → Push names tree q row (matching.Found m) q′
+  pub push-told : {ρ : Rules} {m : Matched} {q′ : Queue} → v ≡ Good
+      → PushesTree ρ names tree q row (m .answer) (m .tries) q′
+      → Push ρ names tree q row (matching.Found m) q′
   unfolding Takes
   push-told e p = record { comes = (judged-good as-push e .0, p) }

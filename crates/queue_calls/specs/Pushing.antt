@@ -8,6 +8,7 @@ use mathlib.Core.Path.{_≡_}
 use mathlib.Core.Bool.{Bool}
 use mathlib.Core.List.{List}
 use lib.ListN.{length}
+use Rattle.alf.specs.declared.Rules.{Rules}
 use Rattle.alf.specs.declared.Answer.{Answer}
 use Rattle.alf.specs.declared.Sort.the-variants.{Vector}
 use Rattle.alf.specs.Alternatives.{stepsOf}
@@ -43,22 +44,24 @@ pushOrder names tree queue row = order (RowFits names (length row)) (Handed name
 
 -- the answer on windows and the number tried at the last row of what is kept and pushed; of that the last K rows are
 -- kept
-pub record PushesTree (names : ℕ) (tree : List ℕ) (queue : Queue) (row : List ℕ) (answer : Answer) (tried : ℕ)
+pub record PushesTree (ρ : Rules) (names : ℕ) (tree : List ℕ) (queue : Queue) (row : List ℕ) (answer : Answer)
+    (tried : ℕ)
     (queue′ : Queue) : Type 0 where
-  pub matched : MatchesTree names tree (traceOf names queue row) (queue .kept .0) answer tried
+  pub matched : MatchesTree ρ names tree (traceOf names queue row) (queue .kept .0) answer tried
   pub kept : queue′ .kept .0 ≡ min (queue .kept .0 + 1) (stepsOf (expression tree names))
   pub states : queue′ .states
       ≡ stored (lastRows names (stepsOf (expression tree names)) (queue .kept .0 + 1) (traceOf names queue row))
 
-unfoldable pub Takes : ℕ → List ℕ → Queue → List ℕ → Matching → Queue → Type 0
-Takes names tree queue row (Found m) queue′ =
-    Passed (pushOrder names tree queue row) × PushesTree names tree queue row (m .answer) (m .tries) queue′
-Takes names tree queue row (Refused r) queue′ =
+unfoldable pub Takes : Rules → ℕ → List ℕ → Queue → List ℕ → Matching → Queue → Type 0
+Takes ρ names tree queue row (Found m) queue′ =
+    Passed (pushOrder names tree queue row) × PushesTree ρ names tree queue row (m .answer) (m .tries) queue′
+Takes ρ names tree queue row (Refused r) queue′ =
     RefusedBy (pushOrder names tree queue row) r × (queue′ ≡ queue)
 
-pub record Push (names : ℕ) (tree : List ℕ) (queue : Queue) (row : List ℕ) (told : Matching) (queue′ : Queue)
+pub record Push (ρ : Rules) (names : ℕ) (tree : List ℕ) (queue : Queue) (row : List ℕ) (told : Matching)
+    (queue′ : Queue)
     : Type 0 where
-  pub comes : Takes names tree queue row told queue′
+  pub comes : Takes ρ names tree queue row told queue′
 
 -- What the functions inside ask and tell: at most 32 names and 16 rows; whether a queue may be handed in; what is
 -- pushed is good.

@@ -9,6 +9,7 @@ ghost use Rattle.queue_calls.specs.Pushing.{RowFits, Small, Keeps, Decid
 use acceptance::accepting::accepts;
 use acceptance::sizes::Measured;
 use acceptance::sizes::measure;
+use alf::Rules;
 use alf::Sort;
 use judging::checks::Verdict;
 use judging::checks::judge;
@@ -79,9 +80,9 @@ fn queue_good(names: usize, tree: &[u8], queue: Queue) -> bool
 }
 
 // An accepted tree, a queue and a row that fit.
-fn push_tree(names: usize, tree: &[u8], queue: Queue, row: &[u8]) -> Pushed
+fn push_tree(rules: Rules, names: usize, tree: &[u8], queue: Queue, row: &[u8]) -> Pushed
     requires { ⌜ TreePush names (now tree) queue (now row) ⌝ }
-    ensures { λ r. ⌜ PushesTree names (now (tree .entry)) queue (now (row .entry)) (r .answer) (r .tries)
+    ensures { λ r. ⌜ PushesTree rules names (now (tree .entry)) queue (now (row .entry)) (r .answer) (r .tries)
         (r .queue) ⌝ }
 {
     let a = alternatives_of(tree, names);
@@ -93,6 +94,7 @@ fn push_tree(names: usize, tree: &[u8], queue: Queue, row: &[u8]) -> Pushed
     let edges = a.edges;
     let operands = a.operands;
     queue::queues::push(
+        rules,
         tree,
         names,
         &steps[..count],
@@ -105,8 +107,8 @@ fn push_tree(names: usize, tree: &[u8], queue: Queue, row: &[u8]) -> Pushed
 }
 
 // One row more for a vector expression.
-pub fn push(names: usize, tree: &[u8], queue: Queue, row: &[u8]) -> Pushing
-    ensures { λ r. ⌜ Push names (now (tree .entry)) queue (now (row .entry)) (r .told) (r .queue) ⌝ }
+pub fn push(rules: Rules, names: usize, tree: &[u8], queue: Queue, row: &[u8]) -> Pushing
+    ensures { λ r. ⌜ Push rules names (now (tree .entry)) queue (now (row .entry)) (r .told) (r .queue) ⌝ }
 {
     let fits = row_fits(names, row.len());
     let good = queue_good(names, tree, queue);
@@ -117,7 +119,7 @@ pub fn push(names: usize, tree: &[u8], queue: Queue, row: &[u8]) -> Pushing
             Pushing { told, queue }
         }
         Verdict::Good => {
-            let p = push_tree(names, tree, queue, row);
+            let p = push_tree(rules, names, tree, queue, row);
             let answer = p.answer;
             let tries = p.tries;
             let next = p.queue;

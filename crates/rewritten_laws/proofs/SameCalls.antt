@@ -11,6 +11,7 @@ use Rattle.basics.specs.declared.Outcome.{Outcome}
 use Rattle.basics.specs.declared.Outcome.the-variants as outcome
 use Rattle.basics.specs.Memory.{after}
 use Rattle.basics.specs.Words.{listed}
+use Rattle.alf.specs.declared.Rules.{Rules}
 use Rattle.alf.specs.declared.Answer.{Answer}
 use Rattle.alf.specs.declared.Sort.the-variants.{Vector}
 use Rattle.alf.specs.Values.{stateAt}
@@ -64,50 +65,52 @@ module _ {names : ℕ} {tree steps tests edges operands : List ℕ} (accepted : 
   to-lists : Accepted names Vector tree → AcceptedAlternatives names tree steps tests edges operands
   to-lists x = lists
 
-  matches-tree : {states : List ℕ} {row t : ℕ} {answer : Answer} → Matches (stateAt names states) xs row answer t
-      → MatchesTree names tree states row answer t
-  matches-tree {states} {row} m =
+  matches-tree : {ρ : Rules} {states : List ℕ} {row t : ℕ} {answer : Answer}
+      → Matches (stateAt ρ names states) xs row answer t
+      → MatchesTree ρ names tree states row answer t
+  matches-tree {ρ} {states} {row} m =
       record {
-        is = matches-windows (stateAt names states) (expression tree names) stand m;
-        count = m .count ∙ ap (λ (ys : List Alternative). tries (stateAt names states) ys row) stand;
+        is = matches-windows (stateAt ρ names states) (expression tree names) stand m;
+        count = m .count ∙ ap (λ (ys : List Alternative). tries (stateAt ρ names states) ys row) stand;
       }
 
   module _ {n : ℕ} {states : List ℕ} where
-    pub match-same : {row : ℕ} (r : Matching) → ListedMatch names n tree steps tests edges operands states row r
-        → RowMatch names n tree states row r
+    pub match-same : {ρ : Rules} {row : ℕ} (r : Matching)
+        → ListedMatch ρ names n tree steps tests edges operands states row r
+        → RowMatch ρ names n tree states row r
     unfolding Finds
     match-same (Found m) w =
         record { comes = (passed-same _ _ to-tree to-lists (w .comes .0), matches-tree (w .comes .1)) }
     match-same (Refused r) w = record { comes = refused-same _ _ to-tree to-lists r (w .comes) }
 
-    pub totals-same : (r : Counting) → ListedTotals names n tree steps tests edges operands states r
-        → RowTotals names n tree states r
+    pub totals-same : {ρ : Rules} (r : Counting) → ListedTotals ρ names n tree steps tests edges operands states r
+        → RowTotals ρ names n tree states r
     unfolding Counts
-    totals-same (counting.Counted t) w =
+    totals-same {ρ} (counting.Counted t) w =
         record {
           comes = (
             passed-same _ _ to-tree to-lists (w .comes .0),
-            totals-windows (stateAt names states) (expression tree names) stand (w .comes .1),
+            totals-windows (stateAt ρ names states) (expression tree names) stand (w .comes .1),
           );
         }
-    totals-same (counting.Refused r) w = record { comes = refused-same _ _ to-tree to-lists r (w .comes) }
+    totals-same {ρ} (counting.Refused r) w = record { comes = refused-same _ _ to-tree to-lists r (w .comes) }
 
-    pub all-same : {answers tried answers′ tried′ : List ℕ} (r : Outcome)
-        → ListedAll names n tree steps tests edges operands states answers tried answers′ tried′ r
-        → AllMatched names n tree states answers tried answers′ tried′ r
+    pub all-same : {ρ : Rules} {answers tried answers′ tried′ : List ℕ} (r : Outcome)
+        → ListedAll ρ names n tree steps tests edges operands states answers tried answers′ tried′ r
+        → AllMatched ρ names n tree states answers tried answers′ tried′ r
     unfolding Comes after
-    all-same (outcome.Done k) w =
+    all-same {ρ} (outcome.Done k) w =
         record {
           comes = (passed-same _ _ to-tree to-lists (w .comes .0), w .comes .1);
           answers-memory =
               w .answers-memory
-              ∙ ap (λ (ys : List Alternative). listed 0 n (answerOf (stateAt names states) ys)) stand
-              ∙ ap (λ (g : ℕ → ℕ). listed 0 n g) (answers-on names tree states);
+              ∙ ap (λ (ys : List Alternative). listed 0 n (answerOf (stateAt ρ names states) ys)) stand
+              ∙ ap (λ (g : ℕ → ℕ). listed 0 n g) (answers-on ρ names tree states);
           tried-memory =
               w .tried-memory
-              ∙ ap (λ (ys : List Alternative). listed 0 n (tries (stateAt names states) ys)) stand;
+              ∙ ap (λ (ys : List Alternative). listed 0 n (tries (stateAt ρ names states) ys)) stand;
         }
-    all-same (outcome.Refused r) w =
+    all-same {ρ} (outcome.Refused r) w =
         record {
           comes = refused-same _ _ to-tree to-lists r (w .comes);
           answers-memory = w .answers-memory;
@@ -126,8 +129,9 @@ module _ {names : ℕ} {tree steps tests edges operands : List ℕ} (accepted : 
     handed-lists : pushing.Handed names tree q → Handed names tree steps tests edges operands q
     handed-lists h = record { accepted = lists; kept = rw longest-same (h .kept) }
 
-    pushes-tree : {q′ : Queue} {row : List ℕ} {t : ℕ} {answer : Answer} → Pushes names xs q row answer t q′
-        → PushesTree names tree q row answer t q′
+    pushes-tree : {ρ : Rules} {q′ : Queue} {row : List ℕ} {t : ℕ} {answer : Answer}
+        → Pushes ρ names xs q row answer t q′
+        → PushesTree ρ names tree q row answer t q′
     pushes-tree p =
         record {
           matched = matches-tree (p .matched);
@@ -135,8 +139,8 @@ module _ {names : ℕ} {tree steps tests edges operands : List ℕ} (accepted : 
           states = rw longest-same at (p .states);
         }
 
-    pub push-same : {row : List ℕ} {q′ : Queue} (z : Matching)
-        → ListedPush names tree steps tests edges operands q row z q′ → Push names tree q row z q′
+    pub push-same : {ρ : Rules} {row : List ℕ} {q′ : Queue} (z : Matching)
+        → ListedPush ρ names tree steps tests edges operands q row z q′ → Push ρ names tree q row z q′
     unfolding Takes pushing.Takes
     push-same (Found m) w =
         record { comes = (passed-same _ _ handed-tree handed-lists (w .comes .0), pushes-tree (w .comes .1)) }

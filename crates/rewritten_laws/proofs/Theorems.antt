@@ -20,6 +20,7 @@ use Rattle.basics.specs.declared.Outcome.{Outcome}
 use Rattle.basics.specs.declared.Outcome.the-variants as outcome
 use Rattle.basics.specs.Memory.{after}
 use Rattle.basics.proofs.Stable.{le-stable}
+use Rattle.alf.specs.declared.Rules.{Rules}
 use Rattle.alf.specs.declared.Sort.the-variants.{Vector}
 use Rattle.alf.specs.Alternatives.{Alternative, alternatives, numberOfAlternatives}
 use Rattle.alf.specs.Refusals.{NameCount, Passed, Comes}
@@ -148,33 +149,34 @@ module _ {names : ℕ} {tree steps tests edges operands : List ℕ}
 
   -- each call by the lists comes to what the call by the tree comes to
   module _ {n : ℕ} {states : List ℕ} where
-    pub match-as-tree : {row : ℕ} (y : Matching) → ListedMatch names n tree steps tests edges operands states row y
-        → RowMatch names n tree states row y
+    pub match-as-tree : {ρ : Rules} {row : ℕ} (y : Matching)
+        → ListedMatch ρ names n tree steps tests edges operands states row y
+        → RowMatch ρ names n tree states row y
     match-as-tree = same.match-same written-tree rewritten-accepted written-are
 
-    pub all-as-tree : {answers tried answers′ tried′ : List ℕ} (r : Outcome)
-        → ListedAll names n tree steps tests edges operands states answers tried answers′ tried′ r
-        → AllMatched names n tree states answers tried answers′ tried′ r
+    pub all-as-tree : {ρ : Rules} {answers tried answers′ tried′ : List ℕ} (r : Outcome)
+        → ListedAll ρ names n tree steps tests edges operands states answers tried answers′ tried′ r
+        → AllMatched ρ names n tree states answers tried answers′ tried′ r
     all-as-tree = same.all-same written-tree rewritten-accepted written-are
 
-    pub totals-as-tree : (z : Counting) → ListedTotals names n tree steps tests edges operands states z
-        → RowTotals names n tree states z
+    pub totals-as-tree : {ρ : Rules} (z : Counting) → ListedTotals ρ names n tree steps tests edges operands states z
+        → RowTotals ρ names n tree states z
     totals-as-tree = same.totals-same written-tree rewritten-accepted written-are
 
-  pub push-as-tree : {q q′ : Queue} {row : List ℕ} (z : Matching)
-      → ListedPush names tree steps tests edges operands q row z q′ → Push names tree q row z q′
+  pub push-as-tree : {ρ : Rules} {q q′ : Queue} {row : List ℕ} (z : Matching)
+      → ListedPush ρ names tree steps tests edges operands q row z q′ → Push ρ names tree q row z q′
   push-as-tree = same.push-same written-tree rewritten-accepted written-are
 
   -- so, for every trace whose rows fit and hold codes, no call is refused, and what it tells is the document's
   module _ {n : ℕ} {states : List ℕ} (fit : Rows names n (length states)) (codes : Codes states) where
-    pub rewritten-found : {row : ℕ} → row < n → (y : Matching)
-        → ListedMatch names n tree steps tests edges operands states row y
-        → FoundAs (answersOn names tree states row) (triesOn names tree states row) y
+    pub rewritten-found : {ρ : Rules} {row : ℕ} → row < n → (y : Matching)
+        → ListedMatch ρ names n tree steps tests edges operands states row y
+        → FoundAs (answersOn ρ names tree states row) (triesOn ρ names tree states row) y
     rewritten-found l y m = matched fit written-tree codes l y (match-as-tree y m)
 
-    pub rewritten-filled : {answers tried answers′ tried′ : List ℕ} → length answers ≡ n → length tried ≡ n
-        → (r : Outcome) → ListedAll names n tree steps tests edges operands states answers tried answers′ tried′ r
-        → (r ≡ outcome.Done n) × FillsTree names n tree states answers′ tried′
+    pub rewritten-filled : {ρ : Rules} {answers tried answers′ tried′ : List ℕ} → length answers ≡ n → length tried ≡ n
+        → (r : Outcome) → ListedAll ρ names n tree steps tests edges operands states answers tried answers′ tried′ r
+        → (r ≡ outcome.Done n) × FillsTree ρ names n tree states answers′ tried′
     unfolding Comes after
     rewritten-filled a t (outcome.Done k) m =
         let x = all-as-tree (outcome.Done k) m in
@@ -183,8 +185,9 @@ module _ {names : ℕ} {tree steps tests edges operands : List ℕ}
         let x = all-as-tree (outcome.Refused r) m in
         absurd (refused-passed _ _ _ (codes-passed states ((a, t), fit) written-tree codes) (x .comes .by))
 
-    pub rewritten-counted : (z : Counting) → ListedTotals names n tree steps tests edges operands states z
-        → (t : Total) × ((z ≡ counting.Counted t) × TotalsTree names n tree states (t .yes) (t .no) (t .unknown))
+    pub rewritten-counted : {ρ : Rules} (z : Counting)
+        → ListedTotals ρ names n tree steps tests edges operands states z
+        → (t : Total) × ((z ≡ counting.Counted t) × TotalsTree ρ names n tree states (t .yes) (t .no) (t .unknown))
     unfolding Counts
     rewritten-counted (counting.Counted t) m = (t, (refl, totals-as-tree (counting.Counted t) m .comes .1))
     rewritten-counted (counting.Refused r) m =
@@ -192,17 +195,17 @@ module _ {names : ℕ} {tree steps tests edges operands : List ℕ}
         absurd (refused-passed _ _ _ (codes-passed states fit written-tree codes) (x .comes .by))
 
   -- and for every feed of rows that hold codes, the first pushed into a queue that keeps nothing
-  module _ {n : ℕ} {rows : ℕ → List ℕ} {queues : ℕ → Queue} {results : ℕ → Matching}
+  module _ {ρ : Rules} {n : ℕ} {rows : ℕ → List ℕ} {queues : ℕ → Queue} {results : ℕ → Matching}
       (first : queues 0 .kept .0 ≡ 0) (full : (i : ℕ) → i < n → length (rows i) ≡ names)
       (good : (i : ℕ) → i < n → Codes (rows i))
       (pushed : (i : ℕ) → i < n
-      → ListedPush names tree steps tests edges operands (queues i) (rows i) (results i) (queues (suc i))) where
-    pushed-tree : (i : ℕ) → i < n → Push names tree (queues i) (rows i) (results i) (queues (suc i))
+      → ListedPush ρ names tree steps tests edges operands (queues i) (rows i) (results i) (queues (suc i))) where
+    pushed-tree : (i : ℕ) → i < n → Push ρ names tree (queues i) (rows i) (results i) (queues (suc i))
     pushed-tree i l = push-as-tree (results i) (pushed i l)
 
     pub rewritten-never-refused : (i : ℕ) → i < n → results i ≡ Found (told-by (results i))
     rewritten-never-refused = never-refused written-names written-tree first full good pushed-tree
 
     pub rewritten-pushed : (i : ℕ) → i < n
-        → FoundAs (answersOn names tree (fed rows n) i) (triesOn names tree (fed rows n) i) (results i)
+        → FoundAs (answersOn ρ names tree (fed rows n) i) (triesOn ρ names tree (fed rows n) i) (results i)
     rewritten-pushed = pushed-found written-names written-tree first full good pushed-tree

@@ -4,6 +4,7 @@ use mathlib.Core.List.{List}
 use Prim.Native.Nat.{ℕ}
 use lib.Dec.{eqb}
 use lib.ListN.{length}
+use Rattle.alf.specs.declared.Rules.{Rules}
 use Rattle.alf.specs.declared.Answer.{Answer}
 use Rattle.basics.specs.declared.Refusal.{Refusal}
 use Rattle.alf.specs.declared.Sort.{Sort}
@@ -67,21 +68,23 @@ module _ {names n : ℕ} {tree states : List ℕ} {row : ℕ} {v : Verdict}
   pub boolean-ends : v ≡ Good → EndsBoolean tree names (length tree)
   boolean-ends e = accepted-boolean tree names (row-accepted c e)
 
-  pub state-refused : {r : Refusal} → v ≡ Refused r → RowState names n tree states row (outcome.Refused r)
+  pub state-refused : {ρ : Rules} {r : Refusal} → v ≡ Refused r
+      → RowState ρ names n tree states row (outcome.Refused r)
   unfolding Comes
   state-refused e = record { comes = judged-not (c .is) e }
 
-  pub value-refused : {r : Refusal} → v ≡ Refused r → RowValue names n tree states row (outcome.Refused r)
+  pub value-refused : {ρ : Rules} {r : Refusal} → v ≡ Refused r
+      → RowValue ρ names n tree states row (outcome.Refused r)
   unfolding Comes
   value-refused e = record { comes = judged-not (c .is) e }
 
-  pub state-told : {k : ℕ} → v ≡ Good → IsState (stateOf tree names states (length tree) row) k
-      → RowState names n tree states row (outcome.Done k)
+  pub state-told : {ρ : Rules} {k : ℕ} → v ≡ Good → IsState (stateOf ρ tree names states (length tree) row) k
+      → RowState ρ names n tree states row (outcome.Done k)
   unfolding Comes
   state-told e s = record { comes = (judged-good (c .is) e .0, s .is) }
 
-  pub value-told : {k : ℕ} → v ≡ Good → IsState (valueOf tree names states (length tree) row) k
-      → RowValue names n tree states row (outcome.Done k)
+  pub value-told : {ρ : Rules} {k : ℕ} → v ≡ Good → IsState (valueOf ρ tree names states (length tree) row) k
+      → RowValue ρ names n tree states row (outcome.Done k)
   unfolding Comes
   value-told e s = record { comes = (judged-good (c .is) e .0, s .is) }
 
@@ -90,13 +93,13 @@ module _ {names n : ℕ} {tree states : List ℕ} {row : ℕ} {v : Verdict}
   pub pattern-there : v ≡ Good → Pattern tree names (length tree)
   pattern-there e = accepted-pattern tree names (row-accepted c e)
 
-  pub answer-refused : {r : Refusal} → v ≡ Refused r → RowAnswer names n tree states row (told.Refused r)
+  pub answer-refused : {ρ : Rules} {r : Refusal} → v ≡ Refused r → RowAnswer ρ names n tree states row (told.Refused r)
   unfolding Tells
   answer-refused e = record { comes = judged-not (c .is) e }
 
-  pub answer-told : {a : Answer} → v ≡ Good
-      → numberOf a ≡ rowAnswer (stateAt names states) (vectorAt tree names (length tree)) row
-      → RowAnswer names n tree states row (told.Answered a)
+  pub answer-told : {ρ : Rules} {a : Answer} → v ≡ Good
+      → numberOf a ≡ rowAnswer (stateAt ρ names states) (vectorAt tree names (length tree)) row
+      → RowAnswer ρ names n tree states row (told.Answered a)
   unfolding Tells
   answer-told e s = record { comes = (judged-good (c .is) e .0, s) }
 
@@ -107,7 +110,8 @@ module _ {names n : ℕ} {tree states : List ℕ} (out : List ℕ) {v : Verdict}
       (((length out ≡ n) × Rows names n (length states)) × Accepted names Boolean tree × Codes states) v
   as-lists = lent-as names n tree Boolean states (eqb (length out) n) (length out ≡ n) (eqb-decides (length out) n) c
 
-  pub values-refused : {r : Refusal} → v ≡ Refused r → AllValues names n tree states out out (outcome.Refused r)
+  pub values-refused : {ρ : Rules} {r : Refusal} → v ≡ Refused r
+      → AllValues ρ names n tree states out out (outcome.Refused r)
   unfolding Comes after
   values-refused e = record { comes = judged-not as-lists e; memory = refl }
 
@@ -120,8 +124,9 @@ module _ {names n : ℕ} {tree states : List ℕ} (out : List ℕ) {v : Verdict}
         let ((k, l), a, s) = judged-good as-lists e .1 in
         trace-filling states names n (l .name-count) (l .row-count) (l .all) s out k
 
-    pub values-told : {out′ : List ℕ} → out′ ≡ front (listed 0 n (valueOf tree names states (length tree))) out
-        → AllValues names n tree states out out′ (outcome.Done n)
+    pub values-told : {ρ : Rules} {out′ : List ℕ}
+        → out′ ≡ front (listed 0 n (valueOf ρ tree names states (length tree))) out
+        → AllValues ρ names n tree states out out′ (outcome.Done n)
     unfolding Comes after
     values-told h =
         let (p, ((k, l), a, s)) = judged-good as-lists e in

@@ -4,6 +4,7 @@ use Prim.Native.Nat.{ℕ, max}
 use native.Mathlib.Omega.{arith}
 use mathlib.Core.Path.{_≡_, subst}
 use mathlib.Core.List.{List}
+use Rattle.alf.specs.declared.Rules.{Rules}
 use Rattle.alf.specs.declared.Answer.{Answer}
 use Rattle.basics.specs.declared.Refusal.{Refusal}
 use Rattle.alf.specs.declared.Sort.the-variants.{Vector}
@@ -27,11 +28,12 @@ module _ {names n : ℕ} {tree states : List ℕ} (a b : ℕ) {row : ℕ} {v : V
   pub window-asked : v ≡ Good → TreeWindow names tree states b
   window-asked e = record { ends = pattern-there both e; there = earlier-row b (omega arith) (row-there both e) }
 
-  pub window-refused : {r : Refusal} → v ≡ Refused r → WindowAnswer names n tree states a b (told.Refused r)
+  pub window-refused : {ρ : Rules} {r : Refusal} → v ≡ Refused r
+      → WindowAnswer ρ names n tree states a b (told.Refused r)
   unfolding Tells
   window-refused e = record { comes = judged-not (both .is) e }
 
-  pub window-told : {w : Answer} → v ≡ Good → numberOf w ≡ numbered (answerOver names tree states a b)
-      → WindowAnswer names n tree states a b (told.Answered w)
+  pub window-told : {ρ : Rules} {w : Answer} → v ≡ Good → numberOf w ≡ numbered (answerOver ρ names tree states a b)
+      → WindowAnswer ρ names n tree states a b (told.Answered w)
   unfolding Tells
   window-told e s = record { comes = (judged-good (both .is) e .0, s) }

@@ -6,6 +6,7 @@
 use Prim.Native.Nat.{ℕ, max}
 use mathlib.Core.List.{List}
 use lib.ListN.{length}
+use Rattle.alf.specs.declared.Rules.{Rules}
 use Rattle.alf.specs.declared.Sort.the-variants.{Vector}
 use Rattle.alf.specs.Values.{stateAt}
 use Rattle.alf.specs.Windows.{Rank, answer, numbered}
@@ -17,11 +18,11 @@ use Rattle.judging.specs.Orders.{rowOrder}
 use Rattle.row_calls.specs.Written.{Tells}
 
 -- the answer of the vector expression that a tree is, as a rank
-abbrev pub answerOver : ℕ → List ℕ → List ℕ → ℕ → ℕ → Rank
-answerOver names tree states = answer (stateAt names states) (vectorAt tree names (length tree))
+abbrev pub answerOver : Rules → ℕ → List ℕ → List ℕ → ℕ → ℕ → Rank
+answerOver ρ names tree states = answer (stateAt ρ names states) (vectorAt tree names (length tree))
 
-pub record WindowAnswer (names n : ℕ) (tree states : List ℕ) (a b : ℕ) (r : Told) : Type 0 where
-  pub comes : Tells (rowOrder names n tree Vector states (max a b)) (numbered (answerOver names tree states a b)) r
+pub record WindowAnswer (ρ : Rules) (names n : ℕ) (tree states : List ℕ) (a b : ℕ) (r : Told) : Type 0 where
+  pub comes : Tells (rowOrder names n tree Vector states (max a b)) (numbered (answerOver ρ names tree states a b)) r
 
 -- What the function inside asks: a vector expression within the limits, and a trace that has row b.
 pub record TreeWindow (names : ℕ) (tree states : List ℕ) (b : ℕ) : Type 0 where

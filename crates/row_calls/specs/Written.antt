@@ -7,6 +7,7 @@ use Prim.Native.Nat.{ℕ}
 use mathlib.Core.Path.{_≡_}
 use mathlib.Core.List.{List}
 use lib.ListN.{length}
+use Rattle.alf.specs.declared.Rules.{Rules}
 use Rattle.alf.specs.declared.Answer.{Answer}
 use Rattle.alf.specs.declared.Sort.the-variants.{Boolean, Vector}
 use Rattle.basics.specs.declared.Outcome.{Outcome}
@@ -23,18 +24,18 @@ use Rattle.judging.specs.Orders.{rowOrder, rowsOrder}
 use Rattle.basics.specs.Memory.{after}
 
 -- the state of the boolean expression that the tree is, at the row; its value
-pub record RowState (names n : ℕ) (tree states : List ℕ) (row : ℕ) (r : Outcome) : Type 0 where
+pub record RowState (ρ : Rules) (names n : ℕ) (tree states : List ℕ) (row : ℕ) (r : Outcome) : Type 0 where
   pub comes : Comes (rowOrder names n tree Boolean states row)
-      (λ k. k ≡ stateAt names states (booleanAt tree names (length tree)) row) r
+      (λ k. k ≡ stateAt ρ names states (booleanAt tree names (length tree)) row) r
 
-pub record RowValue (names n : ℕ) (tree states : List ℕ) (row : ℕ) (r : Outcome) : Type 0 where
+pub record RowValue (ρ : Rules) (names n : ℕ) (tree states : List ℕ) (row : ℕ) (r : Outcome) : Type 0 where
   pub comes : Comes (rowOrder names n tree Boolean states row)
-      (λ k. k ≡ valueAt names states (booleanAt tree names (length tree)) row) r
+      (λ k. k ≡ valueAt ρ names states (booleanAt tree names (length tree)) row) r
 
 -- its values at rows 0 to n-1, in a list of n entries
-pub record AllValues (names n : ℕ) (tree states out out′ : List ℕ) (r : Outcome) : Type 0 where
+pub record AllValues (ρ : Rules) (names n : ℕ) (tree states out out′ : List ℕ) (r : Outcome) : Type 0 where
   pub comes : Comes (rowsOrder names n (length out ≡ n) tree Boolean states) (λ k. k ≡ n) r
-  pub memory : out′ ≡ after (listed 0 n (valueAt names states (booleanAt tree names (length tree)))) out r
+  pub memory : out′ ≡ after (listed 0 n (valueAt ρ names states (booleanAt tree names (length tree)))) out r
 
 -- an answer, by document 01's number, or a refusal
 unfoldable pub Tells : Order → ℕ → Told → Type 0
@@ -48,6 +49,6 @@ pub record AnsweredAs (number : ℕ) (x : Told) : Type 0 where
   pub numbered : numberOf answer ≡ number
 
 -- the answer of the vector expression that the tree is, at the row
-pub record RowAnswer (names n : ℕ) (tree states : List ℕ) (row : ℕ) (r : Told) : Type 0 where
+pub record RowAnswer (ρ : Rules) (names n : ℕ) (tree states : List ℕ) (row : ℕ) (r : Told) : Type 0 where
   pub comes : Tells (rowOrder names n tree Vector states row)
-      (rowAnswer (stateAt names states) (vectorAt tree names (length tree)) row) r
+      (rowAnswer (stateAt ρ names states) (vectorAt tree names (length tree)) row) r

@@ -6,6 +6,7 @@ use mathlib.Core.Path.{_≡_, ap, sym, _∙_}
 use mathlib.Core.List.{List, [], _∷_, _++_}
 use lib.ListN.{length, drop}
 use Rattle.tokens.proofs.ShownBytes.{refused-in-unique}
+use Rattle.alf.specs.declared.Rules.{Rules}
 use Rattle.alf.specs.declared.Sort.{Sort}
 use Rattle.alf.specs.declared.Sort.the-variants as the-sort
 use Rattle.basics.specs.declared.Refusal.{Refusal}
@@ -56,13 +57,15 @@ module _ {A : Type 0} (into : A → Expression) (one : (a b : A) → into a ≡ 
       (ap Refused (refused-in-unique text _ (order-sole (length out)) a b), h ∙ sym i)
 
 module _ {names times states text out x y : List ℕ} {r s : Outcome} where
-  pub list-text-unique : ListsPattern names times states text out x r → ListsPattern names times states text out y s
+  pub list-text-unique : (ρ : Rules) → ListsPattern ρ names times states text out x r
+      → ListsPattern ρ names times states text out y s
       → (r ≡ s) × (x ≡ y)
-  list-text-unique = lists-unique vector vector-one the-sort.Vector _ names times states text
+  list-text-unique ρ = lists-unique vector vector-one the-sort.Vector _ names times states text
 
-  pub values-text-unique : ListsValues names times states text out x r → ListsValues names times states text out y s
+  pub values-text-unique : (ρ : Rules) → ListsValues ρ names times states text out x r
+      → ListsValues ρ names times states text out y s
       → (r ≡ s) × (x ≡ y)
-  values-text-unique = lists-unique boolean boolean-one the-sort.Boolean _ names times states text
+  values-text-unique ρ = lists-unique boolean boolean-one the-sort.Boolean _ names times states text
 
 pub lists-stays : {A : Type 0} {into : A → Expression} {sort : Sort} {shown : A → List ℕ}
     {names times states text out out′ : List ℕ} {r : Refusal}

@@ -11,6 +11,7 @@ use mathlib.Core.Bool.{true}
 use mathlib.Core.Logic.{inl, inr}
 use mathlib.Core.List.{List, [], _∷_}
 use lib.ListN.{length, take}
+use Rattle.alf.specs.declared.Rules.{Rules}
 use Rattle.alf.specs.declared.Sort.{Sort}
 use Rattle.alf.specs.declared.Sort.the-variants as the-sort
 use Rattle.basics.specs.declared.Outcome.{Outcome}
@@ -38,12 +39,12 @@ use Rattle.row_listings.specs.Listings.{ListsAs}
 use Rattle.expression_listings.specs.TreeListings.{treeListing}
 use Rattle.expression_listings.proofs.RowListings.{text-as}
 
-found-listing : {names text : List ℕ} {sort : Sort} {r : Read} (f : Found names text sort r)
+found-listing : (ρ : Rules) {names text : List ℕ} {sort : Sort} {r : Read} (f : Found names text sort r)
     (times states : List ℕ)
-    → treeListing (length names / 32) times states (take (r .len) (r .tree))
-    ≡ listingOf (length names / 32) times states (f .it)
-found-listing {names} {r = r} f times states =
-    ap (listingOf (length names / 32) times states)
+    → treeListing ρ (length names / 32) times states (take (r .len) (r .tree))
+    ≡ listingOf ρ (length names / 32) times states (f .it)
+found-listing ρ {names} {r = r} f times states =
+    ap (listingOf ρ (length names / 32) times states)
     (decoded (length names / 32) (take (r .len) (r .tree)) (f .it) (found-decodes f))
 
 -- the contract, for what the text gives
@@ -109,52 +110,53 @@ pub boolean-one : (b c : Boolean) → boolean b ≡ boolean c → b ≡ c
 boolean-one b c e = cc
 
 module _ {names times states text out : List ℕ} {rd : Read} where
-  pub pattern-refused : ReadsText names text the-sort.Vector rd → rd .refused ≡ true
-      → ListsPattern names times states text out out (Refused (rd .refusal))
-  pattern-refused = text-refused vector vector-one the-sort.Vector _ names times states text
+  pub pattern-refused : (ρ : Rules) → ReadsText names text the-sort.Vector rd → rd .refused ≡ true
+      → ListsPattern ρ names times states text out out (Refused (rd .refusal))
+  pattern-refused ρ = text-refused vector vector-one the-sort.Vector _ names times states text
 
-  pub values-refused : ReadsText names text the-sort.Boolean rd → rd .refused ≡ true
-      → ListsValues names times states text out out (Refused (rd .refusal))
-  values-refused = text-refused boolean boolean-one the-sort.Boolean _ names times states text
+  pub values-refused : (ρ : Rules) → ReadsText names text the-sort.Boolean rd → rd .refused ≡ true
+      → ListsValues ρ names times states text out out (Refused (rd .refusal))
+  values-refused ρ = text-refused boolean boolean-one the-sort.Boolean _ names times states text
 
 module _ {names times states text out out′ : List ℕ} {rd : Read} {r : Outcome} where
-  pub pattern-lists : Found names text the-sort.Vector rd
+  pub pattern-lists : (ρ : Rules) → Found names text the-sort.Vector rd
       → RowsText (length names / 32) times states
-      (treeListing (length names / 32) times states (take (rd .len) (rd .tree))) out out′ r
-      → ListsPattern names times states text out out′ r
+      (treeListing ρ (length names / 32) times states (take (rd .len) (rd .tree))) out out′ r
+      → ListsPattern ρ names times states text out out′ r
   unfolding listingOf
-  pattern-lists f h =
+  pattern-lists ρ f h =
       let v = found-vector f in
-      text-lists vector vector-one the-sort.Vector (patternListing (length names / 32) times states) names times
+      text-lists vector vector-one the-sort.Vector (patternListing ρ (length names / 32) times states) names times
       states text (v .p) (vector-given f) (f .passed)
-      (text-as (found-listing f times states ∙ ap (listingOf (length names / 32) times states) (v .is-vector)) h)
+      (text-as (found-listing ρ f times states ∙ ap (listingOf ρ (length names / 32) times states) (v .is-vector)) h)
 
-  pub values-lists : Found names text the-sort.Boolean rd
+  pub values-lists : (ρ : Rules) → Found names text the-sort.Boolean rd
       → RowsText (length names / 32) times states
-      (treeListing (length names / 32) times states (take (rd .len) (rd .tree))) out out′ r
-      → ListsValues names times states text out out′ r
+      (treeListing ρ (length names / 32) times states (take (rd .len) (rd .tree))) out out′ r
+      → ListsValues ρ names times states text out out′ r
   unfolding listingOf
-  values-lists f h =
+  values-lists ρ f h =
       let b = found-boolean f in
-      text-lists boolean boolean-one the-sort.Boolean (valueListing (length names / 32) times states) names times
+      text-lists boolean boolean-one the-sort.Boolean (valueListing ρ (length names / 32) times states) names times
       states text (b .c) (rw (b .is-boolean) at (f .gives)) (f .passed)
-      (text-as (found-listing f times states ∙ ap (listingOf (length names / 32) times states) (b .is-boolean)) h)
+      (text-as (found-listing ρ f times states ∙ ap (listingOf ρ (length names / 32) times states) (b .is-boolean)) h)
 
 -- by the sort
-pub sort-refused : (sort : Sort) {names text : List ℕ} (times states out : List ℕ) {rd : Read}
+pub sort-refused : (ρ : Rules) (sort : Sort) {names text : List ℕ} (times states out : List ℕ) {rd : Read}
     → ReadsText names text sort rd
     → rd .refused ≡ true
-    → ListsAs sort names times states text out out (Refused (rd .refusal))
+    → ListsAs ρ sort names times states text out out (Refused (rd .refusal))
 unfolding ListsAs
-sort-refused the-sort.Vector times states out h e = pattern-refused h e
-sort-refused the-sort.Boolean times states out h e = values-refused h e
+sort-refused ρ the-sort.Vector times states out h e = pattern-refused _ h e
+sort-refused ρ the-sort.Boolean times states out h e = values-refused _ h e
 
-pub sort-lists : (sort : Sort) {names text : List ℕ} {out out′ : List ℕ} (times states : List ℕ) {rd : Read}
+pub sort-lists : (ρ : Rules) (sort : Sort) {names text : List ℕ} {out out′ : List ℕ} (times states : List ℕ)
+    {rd : Read}
     {r : Outcome}
     → Found names text sort rd
     → RowsText (length names / 32) times states
-    (treeListing (length names / 32) times states (take (rd .len) (rd .tree))) out out′ r
-    → ListsAs sort names times states text out out′ r
+    (treeListing ρ (length names / 32) times states (take (rd .len) (rd .tree))) out out′ r
+    → ListsAs ρ sort names times states text out out′ r
 unfolding ListsAs
-sort-lists the-sort.Vector times states f h = pattern-lists f h
-sort-lists the-sort.Boolean times states f h = values-lists f h
+sort-lists ρ the-sort.Vector times states f h = pattern-lists _ f h
+sort-lists ρ the-sort.Boolean times states f h = values-lists _ f h

@@ -9,6 +9,7 @@ use Prim.Native.Nat.{ℕ, _/_}
 use mathlib.Core.Path.{_≡_}
 use mathlib.Core.List.{List, [], _∷_, _++_}
 use lib.ListN.{length}
+use Rattle.alf.specs.declared.Rules.{Rules}
 use Rattle.alf.specs.declared.Sort.{Sort}
 use Rattle.alf.specs.declared.Sort.the-variants as the-sort
 use Rattle.basics.specs.declared.Refusal.{Refusal}
@@ -56,18 +57,18 @@ pub data Lists {A : Type 0} (into : A → Expression) (sort : Sort) (shown : A �
       Lists into sort shown names times states text out out′ (Refused r)
 
 -- of names, times, states, a text, and the buffer before and after
-abbrev pub ListsPattern : List ℕ → List ℕ → List ℕ → List ℕ → List ℕ → List ℕ → Outcome
+abbrev pub ListsPattern : Rules → List ℕ → List ℕ → List ℕ → List ℕ → List ℕ → List ℕ → Outcome
     → Type 0
-ListsPattern names times states =
-    Lists vector the-sort.Vector (patternListing (length names / 32) times states) names times states
+ListsPattern ρ names times states =
+    Lists vector the-sort.Vector (patternListing ρ (length names / 32) times states) names times states
 
-abbrev pub ListsValues : List ℕ → List ℕ → List ℕ → List ℕ → List ℕ → List ℕ → Outcome
+abbrev pub ListsValues : Rules → List ℕ → List ℕ → List ℕ → List ℕ → List ℕ → List ℕ → Outcome
     → Type 0
-ListsValues names times states =
-    Lists boolean the-sort.Boolean (valueListing (length names / 32) times states) names times states
+ListsValues ρ names times states =
+    Lists boolean the-sort.Boolean (valueListing ρ (length names / 32) times states) names times states
 
 -- either, by the sort
-unfoldable pub ListsAs : Sort → List ℕ → List ℕ → List ℕ → List ℕ → List ℕ → List ℕ → Outcome
+unfoldable pub ListsAs : Rules → Sort → List ℕ → List ℕ → List ℕ → List ℕ → List ℕ → List ℕ → Outcome
     → Type 0
-ListsAs the-sort.Vector = ListsPattern
-ListsAs the-sort.Boolean = ListsValues
+ListsAs ρ the-sort.Vector = ListsPattern ρ
+ListsAs ρ the-sort.Boolean = ListsValues ρ

@@ -1,6 +1,7 @@
 // Listings of what a text gives, on a trace, into a lent buffer: of a pattern its answers, of a boolean expression its
 // values.
 ghost use Rattle.row_listings.specs.Listings.{ListsPattern, ListsValues, ListsAs};
+use alf::Rules;
 use alf::Sort;
 use basics::Outcome;
 use expression_listings::listings::list_tree;
@@ -8,6 +9,7 @@ use reader::read_expression;
 
 // The listing of what a text gives, by its sort.
 fn list_given(
+    rules: Rules,
     sort: Sort,
     names: &[u8],
     times: &[u64],
@@ -15,7 +17,7 @@ fn list_given(
     text: &[u8],
     out: &mut [u8],
 ) -> Outcome
-    ensures { λ r. ⌜ ListsAs sort (now (names .entry)) (now (times .entry)) (now (states .entry))
+    ensures { λ r. ⌜ ListsAs rules sort (now (names .entry)) (now (times .entry)) (now (states .entry))
         (now (text .entry)) (now (out .entry)) (now (out .exit)) r ⌝ }
 {
     let read = read_expression(names, text, sort);
@@ -26,27 +28,43 @@ fn list_given(
     }
     let tree = read.tree;
     let len = read.len;
-    list_tree(sort, names.len() / 32, &tree[..len], times, states, out)
+    list_tree(
+        rules,
+        sort,
+        names.len() / 32,
+        &tree[..len],
+        times,
+        states,
+        out,
+    )
 }
 
 // The listing of the pattern that a text gives; its length. Refused with what reading refuses, then 18, 15, 9.
-pub fn list_text(names: &[u8], times: &[u64], states: &[u8], text: &[u8], out: &mut [u8]) -> Outcome
-    ensures { λ r. ⌜ ListsPattern (now (names .entry)) (now (times .entry)) (now (states .entry))
-        (now (text .entry)) (now (out .entry)) (now (out .exit)) r ⌝ }
-{
-    list_given(Sort::Vector, names, times, states, text, out)
-}
-
-// The listing of the values of the boolean expression that a text gives; its length. Refused in the same order.
-pub fn values_text(
+pub fn list_text(
+    rules: Rules,
     names: &[u8],
     times: &[u64],
     states: &[u8],
     text: &[u8],
     out: &mut [u8],
 ) -> Outcome
-    ensures { λ r. ⌜ ListsValues (now (names .entry)) (now (times .entry)) (now (states .entry))
+    ensures { λ r. ⌜ ListsPattern rules (now (names .entry)) (now (times .entry)) (now (states .entry))
         (now (text .entry)) (now (out .entry)) (now (out .exit)) r ⌝ }
 {
-    list_given(Sort::Boolean, names, times, states, text, out)
+    list_given(rules, Sort::Vector, names, times, states, text, out)
+}
+
+// The listing of the values of the boolean expression that a text gives; its length. Refused in the same order.
+pub fn values_text(
+    rules: Rules,
+    names: &[u8],
+    times: &[u64],
+    states: &[u8],
+    text: &[u8],
+    out: &mut [u8],
+) -> Outcome
+    ensures { λ r. ⌜ ListsValues rules (now (names .entry)) (now (times .entry)) (now (states .entry))
+        (now (text .entry)) (now (out .entry)) (now (out .exit)) r ⌝ }
+{
+    list_given(rules, Sort::Boolean, names, times, states, text, out)
 }

@@ -1,6 +1,7 @@
 // Rows pushed onto a queue.
 use crate::answers::matching;
 use alf::RowNo;
+use alf::Rules;
 use queue::queues::Queue;
 use queue::queues::empty;
 use queue_calls::pushing::push;
@@ -10,7 +11,7 @@ use run_printing::printing::write;
 use run_printing::states::letter;
 
 // By the queue, one row after the other.
-pub fn by_queue(names: usize, tree: &[u8], states: &[u8]) {
+pub fn by_queue(rules: Rules, names: usize, tree: &[u8], states: &[u8]) {
     if names == 0 {
         return;
     }
@@ -18,7 +19,7 @@ pub fn by_queue(names: usize, tree: &[u8], states: &[u8]) {
     let mut at: usize = 0;
     while names <= states.len() - at {
         let next = at + names;
-        let p = push(names, tree, queue, &states[at..next]);
+        let p = push(rules, names, tree, queue, &states[at..next]);
         let found = p.told;
         matching(found);
         queue = p.queue;
@@ -46,8 +47,8 @@ fn show_queue(states: &[u8; 512], kept: u32) {
 }
 
 // A push onto such a queue; then how many rows it keeps, and its first state.
-pub fn by_push(names: usize, tree: &[u8], kept: u32, first: u8, row: &[u8]) {
-    let p = push(names, tree, queue_of(kept, first), row);
+pub fn by_push(rules: Rules, names: usize, tree: &[u8], kept: u32, first: u8, row: &[u8]) {
+    let p = push(rules, names, tree, queue_of(kept, first), row);
     let found = p.told;
     matching(found);
     let left = p.queue;

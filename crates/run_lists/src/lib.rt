@@ -2,6 +2,7 @@
 // lent are copies of a line's. All are proved to be safe and to end.
 ghost use Prim.Native.Nat.{_≤_};
 use alf::RowNo;
+use alf::Rules;
 use basics::Outcome;
 use matching_calls::matching::match_all;
 use row_calls::written::values;
@@ -29,10 +30,11 @@ fn show_values(kind: u8, v: Outcome, out: &[u8; 64], a: usize) {
 }
 
 // The values of all rows. Word 6 is the list that is lent.
-pub fn lend_out(kind: u8, line: &[u8], tree: &[u8]) {
+pub fn lend_out(rules: Rules, kind: u8, line: &[u8], tree: &[u8]) {
     let mut out = copy_of(list_in(line, 6));
     let a = least(list_in(line, 6).len());
     let v = values(
+        rules,
         number_in(line, 1),
         number_in(line, 2),
         tree,
@@ -43,8 +45,15 @@ pub fn lend_out(kind: u8, line: &[u8], tree: &[u8]) {
     character(b'\n');
 }
 
-fn match_in(line: &[u8], tree: &[u8], answers: &mut [u8], tried: &mut [u32]) -> Outcome {
+fn match_in(
+    rules: Rules,
+    line: &[u8],
+    tree: &[u8],
+    answers: &mut [u8],
+    tried: &mut [u32],
+) -> Outcome {
     match_all(
+        rules,
         number_in(line, 1),
         number_in(line, 2),
         tree,
@@ -55,11 +64,18 @@ fn match_in(line: &[u8], tree: &[u8], answers: &mut [u8], tried: &mut [u32]) -> 
 }
 
 // Word 4 is the row that is corrected, word 5 what it becomes.
-fn correct_in(line: &[u8], tree: &[u8], states: &mut [u8], answers: &mut [u8]) -> Outcome {
+fn correct_in(
+    rules: Rules,
+    line: &[u8],
+    tree: &[u8],
+    states: &mut [u8],
+    answers: &mut [u8],
+) -> Outcome {
     let row = narrow(number_in(line, 4));
     let names = number_in(line, 1);
     let n = number_in(line, 2);
     correct(
+        rules,
         names,
         n,
         tree,
@@ -80,20 +96,20 @@ fn show_correction(line: &[u8], c: Outcome) {
 }
 
 // All answers and the correction, with the totals in between.
-fn show_both(line: &[u8], tree: &[u8], m: Outcome, c: Outcome) {
+fn show_both(rules: Rules, line: &[u8], tree: &[u8], m: Outcome, c: Outcome) {
     outcome(m);
     character(b',');
-    totals_in(line, tree);
+    totals_in(rules, line, tree);
     character(b',');
     outcome(c);
 }
 
 // All answers, of a case by their numbers; the correction; the states afterwards.
-fn show_outcomes(kind: u8, line: &[u8], tree: &[u8], m: Outcome, c: Outcome) {
+fn show_outcomes(rules: Rules, kind: u8, line: &[u8], tree: &[u8], m: Outcome, c: Outcome) {
     match kind {
         b'v' => write(b" all"),
         b'c' => show_correction(line, c),
-        _ => show_both(line, tree, m, c),
+        _ => show_both(rules, line, tree, m, c),
     }
 }
 
@@ -118,27 +134,35 @@ fn same(list: [u8; 64]) -> [u8; 64] {
 }
 
 // The correction of the states, and of the answers as `match_all` left them, which came to m.
-fn lend_behind(kind: u8, line: &[u8], tree: &[u8], m: Outcome, given: [u8; 64], a: usize)
+fn lend_behind(
+    rules: Rules,
+    kind: u8,
+    line: &[u8],
+    tree: &[u8],
+    m: Outcome,
+    given: [u8; 64],
+    a: usize,
+)
     requires { ⌜ a ≤ 64 ⌝ }
 {
     let mut answers = same(given);
     let mut states = copy_of(list_in(line, 3));
     let s = least(list_in(line, 3).len());
-    let c = correct_in(line, tree, &mut states[0..s], &mut answers[0..a]);
-    show_outcomes(kind, line, tree, m, c);
+    let c = correct_in(rules, line, tree, &mut states[0..s], &mut answers[0..a]);
+    show_outcomes(rules, kind, line, tree, m, c);
     show_lists(kind, &states, s, &answers, a);
 }
 
 // All answers, and a correction. Words 3 and 6 are the states and the answers that are lent; word 7 says how many
 // numbers tried are lent. Of a case only one of the two calls is not refused: without a new row there is no
 // correction, and with no number tried lent there are no answers.
-pub fn lend(kind: u8, line: &[u8], tree: &[u8]) {
+pub fn lend(rules: Rules, kind: u8, line: &[u8], tree: &[u8]) {
     let mut answers = copy_of(list_in(line, 6));
     let a = least(list_in(line, 6).len());
     let mut tried = [7u32; 64];
     let t = least(number_in(line, 7));
-    let m = match_in(line, tree, &mut answers[0..a], &mut tried[0..t]);
-    lend_behind(kind, line, tree, m, answers, a);
+    let m = match_in(rules, line, tree, &mut answers[0..a], &mut tried[0..t]);
+    lend_behind(rules, kind, line, tree, m, answers, a);
     show_tried(kind, &tried, t);
 }
 

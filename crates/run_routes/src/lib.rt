@@ -2,6 +2,7 @@
 // queue, the totals, a push. Words 1 to 5 of a line are the names, the rows, the states, the row and the new row. All
 // are proved to be safe and to end.
 use alf::RowNo;
+use alf::Rules;
 use matching_calls::matching::totals;
 use run_calls::answers::counting;
 use run_calls::queues::by_push;
@@ -15,38 +16,38 @@ use run_words::words::list_in;
 use run_words::words::number_in;
 
 // At the row of a line.
-pub fn row_in(call: u8, line: &[u8], tree: &[u8]) {
+pub fn row_in(rules: Rules, call: u8, line: &[u8], tree: &[u8]) {
     let names = number_in(line, 1);
     let n = number_in(line, 2);
     let row = narrow(number_in(line, 4));
-    at_row(call, names, n, tree, list_in(line, 3), RowNo(row));
+    at_row(rules, call, names, n, tree, list_in(line, 3), RowNo(row));
     character(b',');
 }
 
 // At the rows of a line from a row on.
-pub fn rows_in(call: u8, line: &[u8], tree: &[u8], from: usize) {
+pub fn rows_in(rules: Rules, call: u8, line: &[u8], tree: &[u8], from: usize) {
     let names = number_in(line, 1);
     let n = number_in(line, 2);
-    at_rows(call, names, n, tree, list_in(line, 3), from);
+    at_rows(rules, call, names, n, tree, list_in(line, 3), from);
     character(b'\n');
 }
 
-pub fn queue_in(line: &[u8], tree: &[u8]) {
-    by_queue(number_in(line, 1), tree, list_in(line, 3));
+pub fn queue_in(rules: Rules, line: &[u8], tree: &[u8]) {
+    by_queue(rules, number_in(line, 1), tree, list_in(line, 3));
     character(b'\n');
 }
 
 // The totals.
-pub fn totals_in(line: &[u8], tree: &[u8]) {
+pub fn totals_in(rules: Rules, line: &[u8], tree: &[u8]) {
     let names = number_in(line, 1);
     let n = number_in(line, 2);
-    counting(totals(names, n, tree, list_in(line, 3)));
+    counting(totals(rules, names, n, tree, list_in(line, 3)));
 }
 
 // The totals on so many rows of a name that is 0.
-pub fn zeros_in(line: &[u8], tree: &[u8]) {
+pub fn zeros_in(rules: Rules, line: &[u8], tree: &[u8]) {
     let zeros = io::large_buffer();
-    totals_first(number_in(line, 2), tree, &zeros);
+    totals_first(rules, number_in(line, 2), tree, &zeros);
     character(b'\n');
 }
 
@@ -59,11 +60,12 @@ fn first_of(list: &[u8]) -> u8 {
 }
 
 // A push of the new row onto a queue that keeps so many rows as word 2 says, and whose first state is that of word 3.
-pub fn push_in(line: &[u8], tree: &[u8]) {
+pub fn push_in(rules: Rules, line: &[u8], tree: &[u8]) {
     let names = number_in(line, 1);
     let kept = narrow(number_in(line, 2));
     character(b':');
     by_push(
+        rules,
         names,
         tree,
         kept,

@@ -16,6 +16,7 @@ use mathlib.Core.Path.{_≡_, refl}
 use mathlib.Core.Logic.{inl, inr}
 use mathlib.Core.List.{List, _++_}
 use lib.ListN.{length}
+use Rattle.alf.specs.declared.Rules.{Rules}
 use Rattle.alf.specs.declared.Sort.{Sort}
 use Rattle.alf.specs.declared.Sort.the-variants.{Vector}
 use Rattle.basics.specs.declared.Outcome.{Outcome}
@@ -45,7 +46,8 @@ use Rattle.shut_out.proofs.RefusingTexts.{read-expression}
 use Rattle.shut_out.proofs.RefusingRows.{GoodTrace, match-row, match-all}
 use Rattle.shut_out.proofs.RefusingUpdates.{correct, push}
 
-module _ {k n : ℕ} {tree codes : List ℕ} {row : ℕ} (x : Matching) (w : RowMatch k n tree codes row x) where
+module _ {ρ : Rules} {k n : ℕ} {tree codes : List ℕ} {row : ℕ} (x : Matching)
+    (w : RowMatch ρ k n tree codes row x) where
   pub names-33 : 32 < k → x ≡ matching.Refused (refusal 18 0)
   unfolding RefusedWith
   names-33 h =
@@ -77,8 +79,8 @@ module _ {k n : ℕ} {tree codes : List ℕ} {row : ℕ} (x : Matching) (w : Row
         match-row k n tree codes row .no-other (refusal 15 i)
         (plainly _ 15 i (inr (λ p z. z .given l, inr (λ p z. z .given a, inl (refl, b))))) x tt w .0
 
-module _ {k n : ℕ} {tree codes answers : List ℕ} {row : ℕ} {new codes′ answers′ : List ℕ} (o : Outcome)
-    (w : Correction k n tree codes answers row new codes′ answers′ o) where
+module _ {ρ : Rules} {k n : ℕ} {tree codes answers : List ℕ} {row : ℕ} {new codes′ answers′ : List ℕ} (o : Outcome)
+    (w : Correction ρ k n tree codes answers row new codes′ answers′ o) where
   pub new-row-short : (length new ≡ k → ⊥) → o ≡ outcome.Refused (refusal 18 0)
   unfolding RefusedWith
   new-row-short h =
@@ -95,22 +97,22 @@ module _ {k n : ℕ} {tree codes answers : List ℕ} {row : ℕ} {new codes′ a
         inr (λ p z. z .given a, inr (codes-never codes (g .codes), inl (refl, b))),
       ))) o (codes′, answers′) w .0
 
-pub queue-over-K : {k : ℕ} {tree : List ℕ} {queue : Queue} {row : List ℕ} {queue′ : Queue} (x : Matching)
-    → Push k tree queue row x queue′ → RowFits k (length row) → stepsOf (expression tree k) < queue .kept .0
+pub queue-over-K : {ρ : Rules} {k : ℕ} {tree : List ℕ} {queue : Queue} {row : List ℕ} {queue′ : Queue} (x : Matching)
+    → Push ρ k tree queue row x queue′ → RowFits k (length row) → stepsOf (expression tree k) < queue .kept .0
     → x ≡ matching.Refused (refusal 10 0)
 unfolding RefusedWith
-queue-over-K {k} {tree} {queue} {row} {queue′} x w f h =
+queue-over-K {ρ} {k} {tree} {queue} {row} {queue′} x w f h =
     push k tree queue row .no-other (refusal 10 0)
     (plainly _ 10 0 (inr (
       λ p z. z .given f,
       inl (refl, record { given = λ g. omega (arith, h, g .kept .few); there = refl }),
     ))) x queue′ w .0
 
-pub short-tried : {k n : ℕ} {tree codes answers tried answers′ tried′ : List ℕ} (o : Outcome)
-    → AllMatched k n tree codes answers tried answers′ tried′ o → (length tried ≡ n → ⊥)
+pub short-tried : {ρ : Rules} {k n : ℕ} {tree codes answers tried answers′ tried′ : List ℕ} (o : Outcome)
+    → AllMatched ρ k n tree codes answers tried answers′ tried′ o → (length tried ≡ n → ⊥)
     → o ≡ outcome.Refused (refusal 18 0)
 unfolding RefusedWith
-short-tried {k} {n} {tree} {codes} {answers} {tried} {answers′} {tried′} o w h =
+short-tried {ρ} {k} {n} {tree} {codes} {answers} {tried} {answers′} {tried′} o w h =
     match-all k n tree codes answers tried .no-other (refusal 18 0)
     (plainly _ 18 0 (inl (refl, record { given = λ l. h (l .0 .1); there = refl }))) o (answers′, tried′) w .0
 

@@ -14,6 +14,7 @@ use lib.ListN.{length}
 use contract.Lifetimes.{Lfts}
 use denote.Ref.{now}
 use borrow.Fn.Kinds.{Dens}
+use Rattle.alf.specs.Values.{oldRules}
 use Rattle.basics.specs.declared.Outcome.{Outcome}
 use Rattle.basics.specs.declared.Outcome.the-variants as outcome
 use Rattle.basics.specs.declared.Refusal.{Refusal}
@@ -58,7 +59,7 @@ module _ (names times states : List ℕ) (n : ℕ) (out : List ℕ) where
         reason = λ r m w. w .outcome;
         parts = λ x m w. comes-parts _ _ x (w .outcome);
         refuses = λ r h. record { outcome = h; memory = refl };
-        one = demand-1 .activity names times states n out .one;
+        one = demand-1 {ρ = oldRules} .activity names times states n out .one;
       })
 
   pub no-other-activity : {m : ℕ} {out′ : List ℕ} → ListsActivity names times states n out out′ (outcome.Done m)
@@ -105,7 +106,7 @@ module _ (names times states : List ℕ) (n from to : ℕ) (out : List ℕ) wher
         reason = λ r m w. w .outcome;
         parts = λ x m w. comes-parts _ _ x (w .outcome);
         refuses = λ r h. record { outcome = h; memory = refl };
-        one = demand-1 .activity-part names times states n from to out .one;
+        one = demand-1 {ρ = oldRules} .activity-part names times states n from to out .one;
       })
 
   pub no-other-part : {m : ℕ} {out′ : List ℕ} → ListsPart names times states n from to out out′ (outcome.Done m)

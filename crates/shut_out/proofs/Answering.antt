@@ -11,6 +11,7 @@ use native.Mathlib.Omega.{arith}
 use mathlib.Core.Path.{_≡_, refl, sym, ap, _∙_}
 use mathlib.Core.List.{List, [], _∷_, _++_}
 use lib.ListN.{length, getD, drop, replicate}
+use Rattle.alf.specs.declared.Rules.{Rules}
 use Rattle.alf.specs.declared.Answer.{Answer}
 use Rattle.alf.specs.declared.Answer.the-variants.{No, NoEvent}
 use Rattle.basics.specs.declared.Outcome.{Outcome}
@@ -52,8 +53,8 @@ use Rattle.shut_out.proofs.RefusingRows.{match-all}
 use Rattle.shut_out.proofs.OnT.{trace-good, rises-accepted, rises-is}
 
 -- what is answered at a row of T, by document 01's number
-abbrev pub at : Vector → ℕ → ℕ
-at p i = rowAnswer (stateAt names states) p i
+abbrev pub at : Rules → Vector → ℕ → ℕ
+at ρ p i = rowAnswer (stateAt ρ names states) p i
 
 -- the numbers that are told: of an answer, and of tries
 unfoldable pub number : Told → ℕ
@@ -69,66 +70,66 @@ triesFound (matching.Found m) = m .tries
 triesFound (matching.Refused r) = 0
 
 -- case 1, computed at the rows that are used
-rises-0 : at rises 0 ≡ 3
+rises-0 : (ρ : Rules) → at ρ rises 0 ≡ 3
 unfolding rowAnswer
-rises-0 = refl
+rises-0 ρ = refl
 
-pub rises-1 : at rises 1 ≡ 1
+pub rises-1 : (ρ : Rules) → at ρ rises 1 ≡ 1
 unfolding states rowAnswer numbered best answer greatest value recordedOr state edgeOn asked digitAsked letterAsked
     reduce
-rises-1 = refl
+rises-1 ρ = refl
 
-pub rises-4 : at rises 4 ≡ 2
+pub rises-4 : (ρ : Rules) → at ρ rises 4 ≡ 2
 unfolding states rowAnswer numbered best answer greatest value recordedOr state edgeOn asked digitAsked letterAsked
     reduce
-rises-4 = refl
+rises-4 ρ = refl
 
-row-number : (i : ℕ) → i < rows → (x : Told) → RowAnswer names rows (T.asked rises) states i x
-    → number x ≡ at rises i
+row-number : {ρ : Rules} (i : ℕ) → i < rows → (x : Told) → RowAnswer ρ names rows (T.asked rises) states i x
+    → number x ≡ at ρ rises i
 unfolding number
-row-number i l x w =
+row-number {ρ} i l x w =
     let a = answered (trace-good .lists) rises-accepted (trace-good .codes) l x w in
     ap number (a .is) ∙ (rw rises-is at (a .numbered))
 
-row-found : (i : ℕ) → i < rows → (x : Matching) → RowMatch names rows (T.asked rises) states i x
-    → numberFound x ≡ at rises i
+row-found : {ρ : Rules} (i : ℕ) → i < rows → (x : Matching) → RowMatch ρ names rows (T.asked rises) states i x
+    → numberFound x ≡ at ρ rises i
 unfolding numberFound
-row-found i l x w =
+row-found {ρ} i l x w =
     let a = matched (trace-good .lists) rises-accepted (trace-good .codes) l x w in
     ap numberFound (a .is) ∙ (rw rises-is at (a .numbered))
 
 -- "one answer for all rows"
-pub one-answer-for-all : (x : Told)
-    → ((i : ℕ) → i < rows → RowAnswer names rows (T.asked rises) states i x) → ⊥
-one-answer-for-all x w =
+pub one-answer-for-all : {ρ : Rules} (x : Told)
+    → ((i : ℕ) → i < rows → RowAnswer ρ names rows (T.asked rises) states i x) → ⊥
+one-answer-for-all {ρ} x w =
     let a = sym (row-number 0 (omega arith) x (w 0 (omega arith)))
     ∙ row-number 1 (omega arith) x (w 1 (omega arith)) in
-    omega (arith, a, rises-0, rises-1)
+    omega (arith, a, rises-0 ρ, rises-1 ρ)
 
-pub one-match-for-all : (x : Matching)
-    → ((i : ℕ) → i < rows → RowMatch names rows (T.asked rises) states i x) → ⊥
-one-match-for-all x w =
+pub one-match-for-all : {ρ : Rules} (x : Matching)
+    → ((i : ℕ) → i < rows → RowMatch ρ names rows (T.asked rises) states i x) → ⊥
+one-match-for-all {ρ} x w =
     let a = sym (row-found 0 (omega arith) x (w 0 (omega arith))) ∙ row-found 1 (omega arith) x (w 1 (omega arith)) in
-    omega (arith, a, rises-0, rises-1)
+    omega (arith, a, rises-0 ρ, rises-1 ρ)
 
 -- unknown given as no
-pub unknown-as-no : RowAnswer names rows (T.asked rises) states 4 (told.Answered No) → ⊥
+pub unknown-as-no : {ρ : Rules} → RowAnswer ρ names rows (T.asked rises) states 4 (told.Answered No) → ⊥
 unfolding number numberOf
-unknown-as-no w = omega (arith, row-number 4 (omega arith) _ w, rises-4)
+unknown-as-no {ρ} w = omega (arith, row-number 4 (omega arith) _ w, rises-4 ρ)
 
-pub unknown-as-no-matched : (t : ℕ)
-    → RowMatch names rows (T.asked rises) states 4 (matching.Found (record { answer = No; tries = t })) → ⊥
+pub unknown-as-no-matched : {ρ : Rules} (t : ℕ)
+    → RowMatch ρ names rows (T.asked rises) states 4 (matching.Found (record { answer = No; tries = t })) → ⊥
 unfolding numberFound numberOf
-unknown-as-no-matched t w = omega (arith, row-found 4 (omega arith) _ w, rises-4)
+unknown-as-no-matched {ρ} t w = omega (arith, row-found 4 (omega arith) _ w, rises-4 ρ)
 
 -- the same of a whole list of answers, and of values: case 8
 at-front : (l m : List ℕ) → l ≡ m → (i : ℕ) → getD l i 0 ≡ getD m i 0
 at-front l m e i = ap (λ (x : List ℕ). getD x i 0) e
 
 module _ {answers tried answers′ tried′ : List ℕ} (room : length answers ≡ rows) (space : length tried ≡ rows) where
-  list-right : (o : Outcome)
-      → AllMatched names rows (T.asked rises) states answers tried answers′ tried′ o
-      → answers′ ≡ listed 0 rows (at (expression (T.asked rises) names))
+  list-right : {ρ : Rules} (o : Outcome)
+      → AllMatched ρ names rows (T.asked rises) states answers tried answers′ tried′ o
+      → answers′ ≡ listed 0 rows (at ρ (expression (T.asked rises) names))
   unfolding Comes after
   list-right (outcome.Done k) w = w .answers-memory
   list-right (outcome.Refused r) w =
@@ -136,32 +137,34 @@ module _ {answers tried answers′ tried′ : List ℕ} (room : length answers �
       (match-all names rows (T.asked rises) states answers tried .no-refusal
       (record { trace = trace-good; accepted = rises-accepted; room = (room, space) }) r (answers′, tried′) w)
 
-  entry : (o : Outcome) → AllMatched names rows (T.asked rises) states answers tried answers′ tried′ o
+  entry : {ρ : Rules} (o : Outcome) → AllMatched ρ names rows (T.asked rises) states answers tried answers′ tried′ o
       → (getD answers′ 0 0 ≡ 3) × (getD answers′ 1 0 ≡ 1) × (getD answers′ 4 0 ≡ 2)
   unfolding listed
-  entry o w =
-      let e = list-right o w ∙ ap (λ (p : Vector). listed 0 rows (at p)) rises-is in
-      (at-front _ _ e 0 ∙ rises-0, at-front _ _ e 1 ∙ rises-1, at-front _ _ e 4 ∙ rises-4)
+  entry {ρ} o w =
+      let e = list-right o w ∙ ap (λ (p : Vector). listed 0 rows (at ρ p)) rises-is in
+      (at-front _ _ e 0 ∙ rises-0 ρ, at-front _ _ e 1 ∙ rises-1 ρ, at-front _ _ e 4 ∙ rises-4 ρ)
 
-  pub one-number-for-all : (o : Outcome) (k : ℕ)
-      → AllMatched names rows (T.asked rises) states answers tried answers′ tried′ o
+  pub one-number-for-all : {ρ : Rules} (o : Outcome) (k : ℕ)
+      → AllMatched ρ names rows (T.asked rises) states answers tried answers′ tried′ o
       → answers′ ≡ replicate rows k → ⊥
   one-number-for-all o k w e =
       let x = entry o w in
       omega (arith, x .0, x .1, at-front _ _ e 0, at-front _ _ e 1)
 
-  pub unknown-as-no-listed : (o : Outcome)
-      → AllMatched names rows (T.asked rises) states answers tried answers′ tried′ o
+  pub unknown-as-no-listed : {ρ : Rules} (o : Outcome)
+      → AllMatched ρ names rows (T.asked rises) states answers tried answers′ tried′ o
       → getD answers′ 4 0 ≡ 0 → ⊥
   unknown-as-no-listed o w e = omega (arith, entry o w .2, e)
 
 -- row 0 has no event, no alternative is tried there, and nothing changed; whatever the tree and the trace
-pub row-0-answered : {k n : ℕ} {tree codes : List ℕ} (a : Answer) → RowAnswer k n tree codes 0 (told.Answered a)
+pub row-0-answered : {ρ : Rules} {k n : ℕ} {tree codes : List ℕ} (a : Answer)
+    → RowAnswer ρ k n tree codes 0 (told.Answered a)
     → (a ≡ NoEvent → ⊥) → ⊥
 unfolding Tells rowAnswer numberOf
 row-0-answered a w differ = differ (number-same a NoEvent (w .comes .1))
 
-pub row-0-tried : {k n : ℕ} {tree codes : List ℕ} (m : Matched) → RowMatch k n tree codes 0 (matching.Found m)
+pub row-0-tried : {ρ : Rules} {k n : ℕ} {tree codes : List ℕ} (m : Matched)
+    → RowMatch ρ k n tree codes 0 (matching.Found m)
     → 0 < m .tries → ⊥
 unfolding Finds tries
 row-0-tried m w h = omega (arith, h, w .comes .1 .count)
@@ -177,21 +180,22 @@ unfolding changes.RowChanged changeMask
 row-0-changed k n codes c w differ = differ (w .1 .changed ∙ none-changed k codes k)
 
 -- one value for all rows: A is 0 at row 0 and 1 at row 1
-A-0 : valueAt names states (booleanAt just-A names (length just-A)) 0 ≡ 0
+A-0 : (ρ : Rules) → valueAt ρ names states (booleanAt just-A names (length just-A)) 0 ≡ 0
 unfolding booleanBytes bytesOf leafAt operationAt run stackAt topBoolean states value reduce
-A-0 = refl
+A-0 ρ = refl
 
-A-1 : valueAt names states (booleanAt just-A names (length just-A)) 1 ≡ 1
+A-1 : (ρ : Rules) → valueAt ρ names states (booleanAt just-A names (length just-A)) 1 ≡ 1
 unfolding booleanBytes bytesOf leafAt operationAt run stackAt topBoolean states value reduce
-A-1 = refl
+A-1 ρ = refl
 
-pub one-value-for-all : {out out′ : List ℕ} (v m : ℕ) → AllValues names rows just-A states out out′ (outcome.Done m)
+pub one-value-for-all : {ρ : Rules} {out out′ : List ℕ} (v m : ℕ)
+    → AllValues ρ names rows just-A states out out′ (outcome.Done m)
     → out′ ≡ replicate rows v → ⊥
 unfolding after listed
-one-value-for-all v m w e =
+one-value-for-all {ρ} v m w e =
     let a = sym (at-front _ _ (w .memory) 0) ∙ at-front _ _ e 0 in
     let b = sym (at-front _ _ (w .memory) 1) ∙ at-front _ _ e 1 in
-    omega (arith, a, b, A-0, A-1)
+    omega (arith, a, b, A-0 ρ, A-1 ρ)
 
 -- the report of contradictory alternatives turned round
 flag-0 : flagList names (ownAt (T.asked rises) names) ≡ 0 ∷ []

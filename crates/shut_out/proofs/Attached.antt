@@ -114,54 +114,62 @@ contradictions κs a = (tt, λ r e p. p)
 
 pub row-state : (κs : Lfts 2) (a : Dens κs row-state-kinds.ps) → row-state-says.Pre κs a
     × ((r : Outcome) (e : Dens κs row-state-kinds.ps) → row-state-says.Post κs a r e
-    → RowState (a .0) (a .1 .0) (now (a .1 .1 .0)) (now (a .1 .1 .1 .0)) ((a .1 .1 .1 .1 .0) .0) r)
+    → RowState (a .0) (a .1 .0) (a .1 .1 .0) (now (a .1 .1 .1 .0)) (now (a .1 .1 .1 .1 .0))
+    ((a .1 .1 .1 .1 .1 .0) .0) r)
 row-state κs a = (tt, λ r e p. p)
 
 pub row-value : (κs : Lfts 2) (a : Dens κs row-value-kinds.ps) → row-value-says.Pre κs a
     × ((r : Outcome) (e : Dens κs row-value-kinds.ps) → row-value-says.Post κs a r e
-    → RowValue (a .0) (a .1 .0) (now (a .1 .1 .0)) (now (a .1 .1 .1 .0)) ((a .1 .1 .1 .1 .0) .0) r)
+    → RowValue (a .0) (a .1 .0) (a .1 .1 .0) (now (a .1 .1 .1 .0)) (now (a .1 .1 .1 .1 .0))
+    ((a .1 .1 .1 .1 .1 .0) .0) r)
 row-value κs a = (tt, λ r e p. p)
 
 pub values : (κs : Lfts 3) (a : Dens κs values-kinds.ps) → values-says.Pre κs a
     × ((r : Outcome) (e : Dens κs values-kinds.ps) → values-says.Post κs a r e
-    → AllValues (a .0) (a .1 .0) (now (a .1 .1 .0)) (now (a .1 .1 .1 .0)) (now (a .1 .1 .1 .1 .0)) (now (e .1 .1 .1
+    → AllValues (a .0) (a .1 .0) (a .1 .1 .0) (now (a .1 .1 .1 .0)) (now (a .1 .1 .1 .1 .0))
+    (now (a .1 .1 .1 .1 .1 .0)) (now (e .1 .1 .1 .1
     .1 .0)) r)
 values κs a = (tt, λ r e p. p)
 
 pub row-answer : (κs : Lfts 2) (a : Dens κs row-answer-kinds.ps) → row-answer-says.Pre κs a
     × ((r : Told) (e : Dens κs row-answer-kinds.ps) → row-answer-says.Post κs a r e
-    → RowAnswer (a .0) (a .1 .0) (now (a .1 .1 .0)) (now (a .1 .1 .1 .0)) ((a .1 .1 .1 .1 .0) .0) r)
+    → RowAnswer (a .0) (a .1 .0) (a .1 .1 .0) (now (a .1 .1 .1 .0)) (now (a .1 .1 .1 .1 .0))
+    ((a .1 .1 .1 .1 .1 .0) .0) r)
 row-answer κs a = (tt, λ r e p. p)
 
 pub window-answer : (κs : Lfts 2) (a : Dens κs window-answer-kinds.ps) → window-answer-says.Pre κs a
     × ((r : Told) (e : Dens κs window-answer-kinds.ps) → window-answer-says.Post κs a r e
-    → WindowAnswer (a .0) (a .1 .0) (now (a .1 .1 .0)) (now (a .1 .1 .1 .0)) ((a .1 .1 .1 .1 .0) .0) ((a .1
+    → WindowAnswer (a .0) (a .1 .0) (a .1 .1 .0) (now (a .1 .1 .1 .0)) (now (a .1 .1 .1 .1 .0))
+    ((a .1 .1 .1 .1 .1 .0) .0) ((a .1 .1
     .1 .1 .1 .1 .0) .0) r)
 window-answer κs a = (tt, λ r e p. p)
 
 pub match-row : (κs : Lfts 2) (a : Dens κs match-row-kinds.ps) → match-row-says.Pre κs a
     × ((r : Matching) (e : Dens κs match-row-kinds.ps) → match-row-says.Post κs a r e
-    → RowMatch (a .0) (a .1 .0) (now (a .1 .1 .0)) (now (a .1 .1 .1 .0)) ((a .1 .1 .1 .1 .0) .0) r)
+    → RowMatch (a .0) (a .1 .0) (a .1 .1 .0) (now (a .1 .1 .1 .0)) (now (a .1 .1 .1 .1 .0))
+    ((a .1 .1 .1 .1 .1 .0) .0) r)
 match-row κs a = (tt, λ r e p. p)
 
 pub match-all : (κs : Lfts 4) (a : Dens κs match-all-kinds.ps) → match-all-says.Pre κs a
     × ((r : Outcome) (e : Dens κs match-all-kinds.ps) → match-all-says.Post κs a r e
-    → AllMatched (a .0) (a .1 .0) (now (a .1 .1 .0)) (now (a .1 .1 .1 .0)) (now (a .1 .1 .1 .1 .0)) (now (a .1 .1 .1
-    .1 .1 .0)) (now (e .1 .1 .1 .1 .0)) (now (e .1 .1 .1 .1 .1 .0)) r)
+    → AllMatched (a .0) (a .1 .0) (a .1 .1 .0) (now (a .1 .1 .1 .0)) (now (a .1 .1 .1 .1 .0))
+    (now (a .1 .1 .1 .1 .1 .0)) (now (a .1 .1 .1 .1
+    .1 .1 .0)) (now (e .1 .1 .1 .1 .1 .0)) (now (e .1 .1 .1 .1 .1 .1 .0)) r)
 match-all κs a = (tt, λ r e p. p)
 
 pub totals : (κs : Lfts 2) (a : Dens κs totals-kinds.ps) → totals-says.Pre κs a
     × ((r : Counting) (e : Dens κs totals-kinds.ps) → totals-says.Post κs a r e
-    → RowTotals (a .0) (a .1 .0) (now (a .1 .1 .0)) (now (a .1 .1 .1 .0)) r)
+    → RowTotals (a .0) (a .1 .0) (a .1 .1 .0) (now (a .1 .1 .1 .0)) (now (a .1 .1 .1 .1 .0)) r)
 totals κs a = (tt, λ r e p. p)
 
 pub correct : (κs : Lfts 4) (a : Dens κs correct-kinds.ps) → correct-says.Pre κs a
     × ((r : Outcome) (e : Dens κs correct-kinds.ps) → correct-says.Post κs a r e
-    → Correction (a .0) (a .1 .0) (now (a .1 .1 .0)) (now (a .1 .1 .1 .0)) (now (a .1 .1 .1 .1 .0)) ((a .1 .1 .1 .1
-    .1 .0) .0) (now (a .1 .1 .1 .1 .1 .1 .0)) (now (e .1 .1 .1 .0)) (now (e .1 .1 .1 .1 .0)) r)
+    → Correction (a .0) (a .1 .0) (a .1 .1 .0) (now (a .1 .1 .1 .0)) (now (a .1 .1 .1 .1 .0))
+    (now (a .1 .1 .1 .1 .1 .0)) ((a .1 .1 .1 .1 .1
+    .1 .0) .0) (now (a .1 .1 .1 .1 .1 .1 .1 .0)) (now (e .1 .1 .1 .1 .0)) (now (e .1 .1 .1 .1 .1 .0)) r)
 correct κs a = (tt, λ r e p. p)
 
 pub push : (κs : Lfts 2) (a : Dens κs push-kinds.ps) → push-says.Pre κs a
     × ((r : Pushing) (e : Dens κs push-kinds.ps) → push-says.Post κs a r e
-    → Push (a .0) (now (a .1 .0)) (a .1 .1 .0) (now (a .1 .1 .1 .0)) (r .told) (r .queue))
+    → Push (a .0) (a .1 .0) (now (a .1 .1 .0)) (a .1 .1 .1 .0) (now (a .1 .1 .1 .1 .0)) (r .told) (r .queue))
 push κs a = (tt, λ r e p. p)

@@ -8,6 +8,8 @@ use lib.ListN.{length, replicate}
 use contract.Lifetimes.{Lfts}
 use denote.Ref.{now}
 use borrow.Fn.Kinds.{Dens}
+use Rattle.alf.specs.declared.Rules.{Rules}
+use Rattle.alf.specs.Values.{oldRules}
 use Rattle.alf.specs.Refusals.{Comes}
 use Rattle.names.specs.Check.{namesOrder}
 use Rattle.reader.specs.Reading.{ReadsText}
@@ -38,6 +40,8 @@ use Rattle.dachsmond.proofs.texts.dachsmond_read_expression.Reads as read-expre
 use Rattle.dachsmond.proofs.texts.dachsmond_read_expression.Kinds as read-expression-kinds
 use Rattle.dachsmond.proofs.texts.dachsmond_write_expression.Reads as write-expression-says
 use Rattle.dachsmond.proofs.texts.dachsmond_write_expression.Kinds as write-expression-kinds
+use Rattle.dachsmond.proofs.rules.dachsmond_old_rules.Reads as old-rules-says
+use Rattle.dachsmond.proofs.rules.dachsmond_old_rules.Kinds as old-rules-kinds
 use Rattle.dachsmond.proofs.versions.dachsmond_version.Reads as version-says
 use Rattle.dachsmond.proofs.versions.dachsmond_version.Kinds as version-kinds
 use Rattle.dachsmond.proofs.files.dachsmond_read_trace.Reads as read-trace-says
@@ -108,46 +112,52 @@ changes-at κs a = (tt, λ r e p. p)
 
 pub row-state : (κs : Lfts 2) (a : Dens κs row-state-kinds.ps) → row-state-says.Pre κs a
     × ((r : Told) (e : Dens κs row-state-kinds.ps) → row-state-says.Post κs a r e
-    → Hands (RowState (a .0) (a .1 .0) (now (a .1 .1 .0)) (now (a .1 .1 .1 .0)) (a .1 .1 .1 .1 .0)) told r)
+    → Hands (RowState (a .0) (a .1 .0) (a .1 .1 .0) (now (a .1 .1 .1 .0)) (now (a .1 .1 .1 .1 .0))
+    (a .1 .1 .1 .1 .1 .0)) told r)
 row-state κs a = (tt, λ r e p. p)
 
 pub row-value : (κs : Lfts 2) (a : Dens κs row-value-kinds.ps) → row-value-says.Pre κs a
     × ((r : Told) (e : Dens κs row-value-kinds.ps) → row-value-says.Post κs a r e
-    → Hands (RowValue (a .0) (a .1 .0) (now (a .1 .1 .0)) (now (a .1 .1 .1 .0)) (a .1 .1 .1 .1 .0)) told r)
+    → Hands (RowValue (a .0) (a .1 .0) (a .1 .1 .0) (now (a .1 .1 .1 .0)) (now (a .1 .1 .1 .1 .0))
+    (a .1 .1 .1 .1 .1 .0)) told r)
 row-value κs a = (tt, λ r e p. p)
 
 pub values : (κs : Lfts 3) (a : Dens κs values-kinds.ps) → values-says.Pre κs a
     × ((r : Told) (e : Dens κs values-kinds.ps) → values-says.Post κs a r e
-    → Hands (AllValues (a .0) (a .1 .0) (now (a .1 .1 .0)) (now (a .1 .1 .1 .0)) (now (a .1 .1 .1 .1 .0))
-    (now (e .1 .1 .1 .1 .0))) told r)
+    → Hands (AllValues (a .0) (a .1 .0) (a .1 .1 .0) (now (a .1 .1 .1 .0)) (now (a .1 .1 .1 .1 .0))
+    (now (a .1 .1 .1 .1 .1 .0))
+    (now (e .1 .1 .1 .1 .1 .0))) told r)
 values κs a = (tt, λ r e p. p)
 
 pub row-answer : (κs : Lfts 2) (a : Dens κs row-answer-kinds.ps) → row-answer-says.Pre κs a
     × ((r : Answered) (e : Dens κs row-answer-kinds.ps) → row-answer-says.Post κs a r e
-    → Hands (RowAnswer (a .0) (a .1 .0) (now (a .1 .1 .0)) (now (a .1 .1 .1 .0)) (a .1 .1 .1 .1 .0)) toldAnswer r)
+    → Hands (RowAnswer (a .0) (a .1 .0) (a .1 .1 .0) (now (a .1 .1 .1 .0)) (now (a .1 .1 .1 .1 .0))
+    (a .1 .1 .1 .1 .1 .0)) toldAnswer r)
 row-answer κs a = (tt, λ r e p. p)
 
 pub window-answer : (κs : Lfts 2) (a : Dens κs window-answer-kinds.ps) → window-answer-says.Pre κs a
     × ((r : Answered) (e : Dens κs window-answer-kinds.ps) → window-answer-says.Post κs a r e
-    → Hands (WindowAnswer (a .0) (a .1 .0) (now (a .1 .1 .0))
-    (now (a .1 .1 .1 .0)) (a .1 .1 .1 .1 .0) (a .1 .1 .1 .1 .1 .0)) toldAnswer r)
+    → Hands (WindowAnswer (a .0) (a .1 .0) (a .1 .1 .0) (now (a .1 .1 .1 .0))
+    (now (a .1 .1 .1 .1 .0)) (a .1 .1 .1 .1 .1 .0) (a .1 .1 .1 .1 .1 .1 .0)) toldAnswer r)
 window-answer κs a = (tt, λ r e p. p)
 
 pub match-row : (κs : Lfts 2) (a : Dens κs match-row-kinds.ps) → match-row-says.Pre κs a
     × ((r : Matched) (e : Dens κs match-row-kinds.ps) → match-row-says.Post κs a r e
-    → Hands (RowMatch (a .0) (a .1 .0) (now (a .1 .1 .0)) (now (a .1 .1 .1 .0)) (a .1 .1 .1 .1 .0)) toldMatch r)
+    → Hands (RowMatch (a .0) (a .1 .0) (a .1 .1 .0) (now (a .1 .1 .1 .0)) (now (a .1 .1 .1 .1 .0))
+    (a .1 .1 .1 .1 .1 .0)) toldMatch r)
 match-row κs a = (tt, λ r e p. p)
 
 pub match-all : (κs : Lfts 4) (a : Dens κs match-all-kinds.ps) → match-all-says.Pre κs a
     × ((r : Told) (e : Dens κs match-all-kinds.ps) → match-all-says.Post κs a r e
-    → Hands (AllMatched (a .0) (a .1 .0) (now (a .1 .1 .0)) (now (a .1 .1 .1 .0))
-    (now (a .1 .1 .1 .1 .0)) (now (a .1 .1 .1 .1 .1 .0)) (now (e .1 .1 .1 .1 .0))
-    (now (e .1 .1 .1 .1 .1 .0))) told r)
+    → Hands (AllMatched (a .0) (a .1 .0) (a .1 .1 .0) (now (a .1 .1 .1 .0)) (now (a .1 .1 .1 .1 .0))
+    (now (a .1 .1 .1 .1 .1 .0)) (now (a .1 .1 .1 .1 .1 .1 .0)) (now (e .1 .1 .1 .1 .1 .0))
+    (now (e .1 .1 .1 .1 .1 .1 .0))) told r)
 match-all κs a = (tt, λ r e p. p)
 
 pub totals : (κs : Lfts 2) (a : Dens κs totals-kinds.ps) → totals-says.Pre κs a
     × ((r : Counted) (e : Dens κs totals-kinds.ps) → totals-says.Post κs a r e
-    → Hands (RowTotals (a .0) (a .1 .0) (now (a .1 .1 .0)) (now (a .1 .1 .1 .0))) toldCounts r)
+    → Hands (RowTotals (a .0) (a .1 .0) (a .1 .1 .0) (now (a .1 .1 .1 .0))
+    (now (a .1 .1 .1 .1 .0))) toldCounts r)
 totals κs a = (tt, λ r e p. p)
 
 pub rewrite : (κs : Lfts 5) (a : Dens κs rewrite-kinds.ps) → rewrite-says.Pre κs a
@@ -164,14 +174,18 @@ contradictions κs a = (tt, λ r e p. p)
 
 pub correct : (κs : Lfts 4) (a : Dens κs correct-kinds.ps) → correct-says.Pre κs a
     × ((r : Told) (e : Dens κs correct-kinds.ps) → correct-says.Post κs a r e
-    → Hands (Correction (a .0) (a .1 .0) (now (a .1 .1 .0)) (now (a .1 .1 .1 .0))
-    (now (a .1 .1 .1 .1 .0)) (a .1 .1 .1 .1 .1 .0) (now (a .1 .1 .1 .1 .1 .1 .0)) (now (e .1 .1 .1 .0))
-    (now (e .1 .1 .1 .1 .0))) told r)
+    → Hands (Correction (a .0) (a .1 .0) (a .1 .1 .0) (now (a .1 .1 .1 .0)) (now (a .1 .1 .1 .1 .0))
+    (now (a .1 .1 .1 .1 .1 .0)) (a .1 .1 .1 .1 .1 .1 .0) (now (a .1 .1 .1 .1 .1 .1 .1 .0)) (now (e .1 .1 .1 .1 .0))
+    (now (e .1 .1 .1 .1 .1 .0))) told r)
 correct κs a = (tt, λ r e p. p)
 
 pub version : (κs : Lfts 0) (a : Dens κs version-kinds.ps) → version-says.Pre κs a
     × ((r : ℕ) (e : Dens κs version-kinds.ps) → version-says.Post κs a r e → r ≡ 131072)
 version κs a = (tt, λ r e p. p)
+
+pub old-rules : (κs : Lfts 0) (a : Dens κs old-rules-kinds.ps) → old-rules-says.Pre κs a
+    × ((r : Rules) (e : Dens κs old-rules-kinds.ps) → old-rules-says.Post κs a r e → r ≡ oldRules)
+old-rules κs a = (tt, λ r e p. p)
 
 pub empty-queue : (κs : Lfts 0) (a : Dens κs empty-queue-kinds.ps) → empty-queue-says.Pre κs a
     × ((r : Queue) (e : Dens κs empty-queue-kinds.ps) → empty-queue-says.Post κs a r e
@@ -180,5 +194,6 @@ empty-queue κs a = (tt, λ r e p. p)
 
 pub push : (κs : Lfts 2) (a : Dens κs push-kinds.ps) → push-says.Pre κs a
     × ((r : Pushed) (e : Dens κs push-kinds.ps) → push-says.Post κs a r e
-    → Hands (Pushes (a .0) (now (a .1 .0)) (queueOf (a .1 .1 .0)) (now (a .1 .1 .1 .0))) toldPush r)
+    → Hands (Pushes (a .0) (a .1 .0) (now (a .1 .1 .0)) (queueOf (a .1 .1 .1 .0))
+    (now (a .1 .1 .1 .1 .0))) toldPush r)
 push κs a = (tt, λ r e p. p)

@@ -50,13 +50,14 @@ use Rattle.column_listings.proofs.listings.list_values.Kinds as list-values-kin
 
 pub count-text : (κs : Lfts 3) (a : Dens κs count-text-kinds.ps) → count-text-says.Pre κs a
     × ((r : Counting) (e : Dens κs count-text-kinds.ps) → count-text-says.Post κs a r e
-    → CountsText (now (a .0)) (a .1 .0) (now (a .1 .1 .0)) (now (a .1 .1 .1 .0)) r)
+    → CountsText (a .0) (now (a .1 .0)) (a .1 .1 .0) (now (a .1 .1 .1 .0)) (now (a .1 .1 .1 .1 .0)) r)
 count-text κs a = (tt, λ r e p. p)
 
 pub table-line : (κs : Lfts 4) (a : Dens κs table-line-kinds.ps) → table-line-says.Pre κs a
     × ((r : Line) (e : Dens κs table-line-kinds.ps) → table-line-says.Post κs a r e
-    → TableLine (now (a .0)) (a .1 .0) (now (a .1 .1 .0)) (now (a .1 .1 .1 .0)) (now (a .1 .1 .1 .1 .0))
-    (now (e .1 .1 .1 .1 .0)) r)
+    → TableLine (a .0) (now (a .1 .0)) (a .1 .1 .0) (now (a .1 .1 .1 .0)) (now (a .1 .1 .1 .1 .0))
+    (now (a .1 .1 .1 .1 .1 .0))
+    (now (e .1 .1 .1 .1 .1 .0)) r)
 table-line κs a = (tt, λ r e p. p)
 
 pub add : (κs : Lfts 0) (a : Dens κs add-kinds.ps) → add-says.Pre κs a
@@ -90,14 +91,16 @@ write-alternatives κs a = (tt, λ r e p. p)
 
 pub list-text : (κs : Lfts 5) (a : Dens κs list-text-kinds.ps) → list-text-says.Pre κs a
     × ((r : Outcome) (e : Dens κs list-text-kinds.ps) → list-text-says.Post κs a r e
-    → ListsPattern (now (a .0)) (now (a .1 .0)) (now (a .1 .1 .0)) (now (a .1 .1 .1 .0)) (now (a .1 .1 .1 .1 .0))
-    (now (e .1 .1 .1 .1 .0)) r)
+    → ListsPattern (a .0) (now (a .1 .0)) (now (a .1 .1 .0)) (now (a .1 .1 .1 .0)) (now (a .1 .1 .1 .1 .0))
+    (now (a .1 .1 .1 .1 .1 .0))
+    (now (e .1 .1 .1 .1 .1 .0)) r)
 list-text κs a = (tt, λ r e p. p)
 
 pub values-text : (κs : Lfts 5) (a : Dens κs values-text-kinds.ps) → values-text-says.Pre κs a
     × ((r : Outcome) (e : Dens κs values-text-kinds.ps) → values-text-says.Post κs a r e
-    → ListsValues (now (a .0)) (now (a .1 .0)) (now (a .1 .1 .0)) (now (a .1 .1 .1 .0)) (now (a .1 .1 .1 .1 .0))
-    (now (e .1 .1 .1 .1 .0)) r)
+    → ListsValues (a .0) (now (a .1 .0)) (now (a .1 .1 .0)) (now (a .1 .1 .1 .0)) (now (a .1 .1 .1 .1 .0))
+    (now (a .1 .1 .1 .1 .1 .0))
+    (now (e .1 .1 .1 .1 .1 .0)) r)
 values-text κs a = (tt, λ r e p. p)
 
 pub list-values : (κs : Lfts 3) (a : Dens κs list-values-kinds.ps) → list-values-says.Pre κs a

@@ -41,35 +41,42 @@ listed-fits κs a = (tt, λ r e p. p)
 
 pub listed-match-row : (κs : Lfts 6) (a : Dens κs listed-match-row-kinds.ps) → listed-match-row-says.Pre κs a
     × ((r : Matching) (e : Dens κs listed-match-row-kinds.ps) → listed-match-row-says.Post κs a r e
-    → ListedMatch (a .0) (a .1 .0) (now (a .1 .1 .0)) (now (a .1 .1 .1 .0)) (now (a .1 .1 .1 .1 .0)) (now (a .1 .1
-    .1 .1 .1 .0)) (now (a .1 .1 .1 .1 .1 .1 .0)) (now (a .1 .1 .1 .1 .1 .1 .1 .0))
-    ((a .1 .1 .1 .1 .1 .1 .1 .1 .0) .0) r)
+    → ListedMatch (a .0) (a .1 .0) (a .1 .1 .0) (now (a .1 .1 .1 .0)) (now (a .1 .1 .1 .1 .0))
+    (now (a .1 .1 .1 .1 .1 .0)) (now (a .1 .1 .1
+    .1 .1 .1 .0)) (now (a .1 .1 .1 .1 .1 .1 .1 .0)) (now (a .1 .1 .1 .1 .1 .1 .1 .1 .0))
+    ((a .1 .1 .1 .1 .1 .1 .1 .1 .1 .0) .0) r)
 listed-match-row κs a = (tt, λ r e p. p)
 
 pub listed-match-all : (κs : Lfts 8) (a : Dens κs listed-match-all-kinds.ps) → listed-match-all-says.Pre κs a
     × ((r : Outcome) (e : Dens κs listed-match-all-kinds.ps) → listed-match-all-says.Post κs a r e
-    → ListedAll (a .0) (a .1 .0) (now (a .1 .1 .0)) (now (a .1 .1 .1 .0)) (now (a .1 .1 .1 .1 .0)) (now (a .1 .1 .1
-    .1 .1 .0)) (now (a .1 .1 .1 .1 .1 .1 .0)) (now (a .1 .1 .1 .1 .1 .1 .1 .0)) (now (a .1 .1 .1 .1 .1 .1 .1 .1 .0))
-    (now (a .1 .1 .1 .1 .1 .1 .1 .1 .1 .0)) (now (e .1 .1 .1 .1 .1 .1 .1 .1 .0)) (now (e .1 .1 .1 .1 .1 .1 .1 .1 .1
+    → ListedAll (a .0) (a .1 .0) (a .1 .1 .0) (now (a .1 .1 .1 .0)) (now (a .1 .1 .1 .1 .0))
+    (now (a .1 .1 .1 .1 .1 .0)) (now (a .1 .1 .1 .1
+    .1 .1 .0)) (now (a .1 .1 .1 .1 .1 .1 .1 .0)) (now (a .1 .1 .1 .1 .1 .1 .1 .1 .0))
+    (now (a .1 .1 .1 .1 .1 .1 .1 .1 .1 .0))
+    (now (a .1 .1 .1 .1 .1 .1 .1 .1 .1 .1 .0)) (now (e .1 .1 .1 .1 .1 .1 .1 .1 .1 .0))
+    (now (e .1 .1 .1 .1 .1 .1 .1 .1 .1 .1
     .0)) r)
 listed-match-all κs a = (tt, λ r e p. p)
 
 pub listed-totals : (κs : Lfts 6) (a : Dens κs listed-totals-kinds.ps) → listed-totals-says.Pre κs a
     × ((r : Counting) (e : Dens κs listed-totals-kinds.ps) → listed-totals-says.Post κs a r e
-    → ListedTotals (a .0) (a .1 .0) (now (a .1 .1 .0)) (now (a .1 .1 .1 .0)) (now (a .1 .1 .1 .1 .0)) (now (a .1 .1
-    .1 .1 .1 .0)) (now (a .1 .1 .1 .1 .1 .1 .0)) (now (a .1 .1 .1 .1 .1 .1 .1 .0)) r)
+    → ListedTotals (a .0) (a .1 .0) (a .1 .1 .0) (now (a .1 .1 .1 .0)) (now (a .1 .1 .1 .1 .0))
+    (now (a .1 .1 .1 .1 .1 .0)) (now (a .1 .1 .1
+    .1 .1 .1 .0)) (now (a .1 .1 .1 .1 .1 .1 .1 .0)) (now (a .1 .1 .1 .1 .1 .1 .1 .1 .0)) r)
 listed-totals κs a = (tt, λ r e p. p)
 
 pub listed-push : (κs : Lfts 6) (a : Dens κs listed-push-kinds.ps) → listed-push-says.Pre κs a
     × ((r : Pushing) (e : Dens κs listed-push-kinds.ps) → listed-push-says.Post κs a r e
-    → ListedPush (a .0) (now (a .1 .0)) (now (a .1 .1 .0)) (now (a .1 .1 .1 .0)) (now (a .1 .1 .1 .1 .0)) (now (a .1
-    .1 .1 .1 .1 .0)) (a .1 .1 .1 .1 .1 .1 .0) (now (a .1 .1 .1 .1 .1 .1 .1 .0)) (r .told) (r .queue))
+    → ListedPush (a .0) (a .1 .0) (now (a .1 .1 .0)) (now (a .1 .1 .1 .0)) (now (a .1 .1 .1 .1 .0))
+    (now (a .1 .1 .1 .1 .1 .0)) (now (a .1 .1
+    .1 .1 .1 .1 .0)) (a .1 .1 .1 .1 .1 .1 .1 .0) (now (a .1 .1 .1 .1 .1 .1 .1 .1 .0)) (r .told) (r .queue))
 listed-push κs a = (tt, λ r e p. p)
 
 pub list : (κs : Lfts 4) (a : Dens κs list-kinds.ps) → list-says.Pre κs a
     × ((r : Outcome) (e : Dens κs list-kinds.ps) → list-says.Post κs a r e
-    → ListsTree (a .0) (a .1 .0) (now (a .1 .1 .0)) (now (a .1 .1 .1 .0)) (now (a .1 .1 .1 .1 .0))
-    (now (a .1 .1 .1 .1 .1 .0)) (now (e .1 .1 .1 .1 .1 .0)) r)
+    → ListsTree (a .0) (a .1 .0) (a .1 .1 .0) (now (a .1 .1 .1 .0)) (now (a .1 .1 .1 .1 .0))
+    (now (a .1 .1 .1 .1 .1 .0))
+    (now (a .1 .1 .1 .1 .1 .1 .0)) (now (e .1 .1 .1 .1 .1 .1 .0)) r)
 list κs a = (tt, λ r e p. p)
 
 pub table-heading : (κs : Lfts 1) (a : Dens κs table-heading-kinds.ps) → table-heading-says.Pre κs a
@@ -79,8 +86,9 @@ table-heading κs a = (tt, λ r e p. p)
 
 pub table-line : (κs : Lfts 4) (a : Dens κs table-line-kinds.ps) → table-line-says.Pre κs a
     × ((r : Outcome) (e : Dens κs table-line-kinds.ps) → table-line-says.Post κs a r e
-    → LinesTree (a .0) (a .1 .0) (now (a .1 .1 .0)) (now (a .1 .1 .1 .0)) (now (a .1 .1 .1 .1 .0))
-    (now (a .1 .1 .1 .1 .1 .0)) (now (e .1 .1 .1 .1 .1 .0)) r)
+    → LinesTree (a .0) (a .1 .0) (a .1 .1 .0) (now (a .1 .1 .1 .0)) (now (a .1 .1 .1 .1 .0))
+    (now (a .1 .1 .1 .1 .1 .0))
+    (now (a .1 .1 .1 .1 .1 .1 .0)) (now (e .1 .1 .1 .1 .1 .1 .0)) r)
 table-line κs a = (tt, λ r e p. p)
 
 pub table-refused : (κs : Lfts 2) (a : Dens κs table-refused-kinds.ps) → table-refused-says.Pre κs a

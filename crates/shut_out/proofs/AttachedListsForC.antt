@@ -43,37 +43,39 @@ listed-fits κs a = (tt, λ r e p. p)
 
 pub listed-match-row : (κs : Lfts 6) (a : Dens κs listed-match-row-kinds.ps) → listed-match-row-says.Pre κs a
     × ((r : Matched) (e : Dens κs listed-match-row-kinds.ps) → listed-match-row-says.Post κs a r e
-    → Hands (ListedMatch (a .0) (a .1 .0) (now (a .1 .1 .0)) (now (a .1 .1 .1 .0))
-    (now (a .1 .1 .1 .1 .0)) (now (a .1 .1 .1 .1 .1 .0)) (now (a .1 .1 .1 .1 .1 .1 .0))
-    (now (a .1 .1 .1 .1 .1 .1 .1 .0)) (a .1 .1 .1 .1 .1 .1 .1 .1 .0)) toldMatch r)
+    → Hands (ListedMatch (a .0) (a .1 .0) (a .1 .1 .0) (now (a .1 .1 .1 .0)) (now (a .1 .1 .1 .1 .0))
+    (now (a .1 .1 .1 .1 .1 .0)) (now (a .1 .1 .1 .1 .1 .1 .0)) (now (a .1 .1 .1 .1 .1 .1 .1 .0))
+    (now (a .1 .1 .1 .1 .1 .1 .1 .1 .0)) (a .1 .1 .1 .1 .1 .1 .1 .1 .1 .0)) toldMatch r)
 listed-match-row κs a = (tt, λ r e p. p)
 
 pub listed-match-all : (κs : Lfts 8) (a : Dens κs listed-match-all-kinds.ps) → listed-match-all-says.Pre κs a
     × ((r : Told) (e : Dens κs listed-match-all-kinds.ps) → listed-match-all-says.Post κs a r e
-    → Hands (ListedAll (a .0) (a .1 .0) (now (a .1 .1 .0)) (now (a .1 .1 .1 .0)) (now (a .1 .1 .1 .1 .0))
-    (now (a .1 .1 .1 .1 .1 .0)) (now (a .1 .1 .1 .1 .1 .1 .0)) (now (a .1 .1 .1 .1 .1 .1 .1 .0))
-    (now (a .1 .1 .1 .1 .1 .1 .1 .1 .0)) (now (a .1 .1 .1 .1 .1 .1 .1 .1 .1 .0))
-    (now (e .1 .1 .1 .1 .1 .1 .1 .1 .0)) (now (e .1 .1 .1 .1 .1 .1 .1 .1 .1 .0))) told r)
+    → Hands (ListedAll (a .0) (a .1 .0) (a .1 .1 .0) (now (a .1 .1 .1 .0)) (now (a .1 .1 .1 .1 .0))
+    (now (a .1 .1 .1 .1 .1 .0))
+    (now (a .1 .1 .1 .1 .1 .1 .0)) (now (a .1 .1 .1 .1 .1 .1 .1 .0)) (now (a .1 .1 .1 .1 .1 .1 .1 .1 .0))
+    (now (a .1 .1 .1 .1 .1 .1 .1 .1 .1 .0)) (now (a .1 .1 .1 .1 .1 .1 .1 .1 .1 .1 .0))
+    (now (e .1 .1 .1 .1 .1 .1 .1 .1 .1 .0)) (now (e .1 .1 .1 .1 .1 .1 .1 .1 .1 .1 .0))) told r)
 listed-match-all κs a = (tt, λ r e p. p)
 
 pub listed-totals : (κs : Lfts 6) (a : Dens κs listed-totals-kinds.ps) → listed-totals-says.Pre κs a
     × ((r : Counted) (e : Dens κs listed-totals-kinds.ps) → listed-totals-says.Post κs a r e
-    → Hands (ListedTotals (a .0) (a .1 .0) (now (a .1 .1 .0)) (now (a .1 .1 .1 .0))
-    (now (a .1 .1 .1 .1 .0)) (now (a .1 .1 .1 .1 .1 .0)) (now (a .1 .1 .1 .1 .1 .1 .0))
-    (now (a .1 .1 .1 .1 .1 .1 .1 .0))) toldCounts r)
+    → Hands (ListedTotals (a .0) (a .1 .0) (a .1 .1 .0) (now (a .1 .1 .1 .0)) (now (a .1 .1 .1 .1 .0))
+    (now (a .1 .1 .1 .1 .1 .0)) (now (a .1 .1 .1 .1 .1 .1 .0)) (now (a .1 .1 .1 .1 .1 .1 .1 .0))
+    (now (a .1 .1 .1 .1 .1 .1 .1 .1 .0))) toldCounts r)
 listed-totals κs a = (tt, λ r e p. p)
 
 pub listed-push : (κs : Lfts 6) (a : Dens κs listed-push-kinds.ps) → listed-push-says.Pre κs a
     × ((r : Pushed) (e : Dens κs listed-push-kinds.ps) → listed-push-says.Post κs a r e
-    → Hands (ListedPushes (a .0) (now (a .1 .0)) (now (a .1 .1 .0)) (now (a .1 .1 .1 .0))
-    (now (a .1 .1 .1 .1 .0)) (now (a .1 .1 .1 .1 .1 .0)) (queueOf (a .1 .1 .1 .1 .1 .1 .0))
-    (now (a .1 .1 .1 .1 .1 .1 .1 .0))) toldPush r)
+    → Hands (ListedPushes (a .0) (a .1 .0) (now (a .1 .1 .0)) (now (a .1 .1 .1 .0)) (now (a .1 .1 .1 .1 .0))
+    (now (a .1 .1 .1 .1 .1 .0)) (now (a .1 .1 .1 .1 .1 .1 .0)) (queueOf (a .1 .1 .1 .1 .1 .1 .1 .0))
+    (now (a .1 .1 .1 .1 .1 .1 .1 .1 .0))) toldPush r)
 listed-push κs a = (tt, λ r e p. p)
 
 pub list : (κs : Lfts 4) (a : Dens κs list-kinds.ps) → list-says.Pre κs a
     × ((r : Told) (e : Dens κs list-kinds.ps) → list-says.Post κs a r e
-    → Hands (ListsTree (a .0) (a .1 .0) (now (a .1 .1 .0)) (now (a .1 .1 .1 .0)) (now (a .1 .1 .1 .1 .0))
-    (now (a .1 .1 .1 .1 .1 .0)) (now (e .1 .1 .1 .1 .1 .0))) told r)
+    → Hands (ListsTree (a .0) (a .1 .0) (a .1 .1 .0) (now (a .1 .1 .1 .0)) (now (a .1 .1 .1 .1 .0))
+    (now (a .1 .1 .1 .1 .1 .0))
+    (now (a .1 .1 .1 .1 .1 .1 .0)) (now (e .1 .1 .1 .1 .1 .1 .0))) told r)
 list κs a = (tt, λ r e p. p)
 
 pub table-heading : (κs : Lfts 1) (a : Dens κs table-heading-kinds.ps) → table-heading-says.Pre κs a
@@ -83,8 +85,9 @@ table-heading κs a = (tt, λ r e p. p)
 
 pub table-line : (κs : Lfts 4) (a : Dens κs table-line-kinds.ps) → table-line-says.Pre κs a
     × ((r : Told) (e : Dens κs table-line-kinds.ps) → table-line-says.Post κs a r e
-    → Hands (LinesTree (a .0) (a .1 .0) (now (a .1 .1 .0)) (now (a .1 .1 .1 .0)) (now (a .1 .1 .1 .1 .0))
-    (now (a .1 .1 .1 .1 .1 .0)) (now (e .1 .1 .1 .1 .1 .0))) told r)
+    → Hands (LinesTree (a .0) (a .1 .0) (a .1 .1 .0) (now (a .1 .1 .1 .0)) (now (a .1 .1 .1 .1 .0))
+    (now (a .1 .1 .1 .1 .1 .0))
+    (now (a .1 .1 .1 .1 .1 .1 .0)) (now (e .1 .1 .1 .1 .1 .1 .0))) told r)
 table-line κs a = (tt, λ r e p. p)
 
 pub table-refused : (κs : Lfts 2) (a : Dens κs table-refused-kinds.ps) → table-refused-says.Pre κs a

@@ -17,6 +17,7 @@ use lib.ListN.{length, getD}
 use Rattle.basics.specs.declared.Outcome.{Outcome}
 use Rattle.basics.specs.declared.Outcome.the-variants.{Done, Refused}
 use Rattle.basics.specs.Words.{greatest}
+use Rattle.alf.specs.declared.Rules.{Rules}
 use Rattle.alf.specs.States.{reduce}
 use Rattle.alf.specs.Expressions.{Vector}
 use Rattle.alf.specs.Values.{value, recordedOr, state, stateAt}
@@ -42,15 +43,15 @@ last k n tree r = lastRewritten (stepsOf (expression tree k)) n r
 
 module _ {k n : ℕ} {tree codes answers : List ℕ} {r : ℕ} {new codes′ answers′ : List ℕ}
     (g : Correctable k n tree codes answers r new) where
-  module _ (o : Outcome) (w : Correction k n tree codes answers r new codes′ answers′ o) where
-    done : Correction k n tree codes answers r new codes′ answers′ (Done 1)
+  module _ {ρ : Rules} (o : Outcome) (w : Correction ρ k n tree codes answers r new codes′ answers′ o) where
+    done : Correction ρ k n tree codes answers r new codes′ answers′ (Done 1)
     unfolding Comes
     done = go o w
       where
-        go : (z : Outcome) → Correction k n tree codes answers r new codes′ answers′ z
-            → Correction k n tree codes answers r new codes′ answers′ (Done 1)
+        go : (z : Outcome) → Correction ρ k n tree codes answers r new codes′ answers′ z
+            → Correction ρ k n tree codes answers r new codes′ answers′ (Done 1)
         go (Done m) v =
-            subst (λ (j : ℕ). Correction k n tree codes answers r new codes′ answers′ (Done j)) (v .comes .1) v
+            subst (λ (j : ℕ). Correction ρ k n tree codes answers r new codes′ answers′ (Done j)) (v .comes .1) v
         go (Refused e) v = absurd (correct k n tree codes answers r new .no-refusal g e (codes′, answers′) v)
 
     pub leaves-junk : (i : ℕ) → r ≤ i → i ≤ last k n tree r → 3 < getD answers i 0
@@ -61,7 +62,7 @@ module _ {k n : ℕ} {tree codes answers : List ℕ} {r : ℕ} {new codes′ ans
           junk-there,
           same,
           correction-reaches (g .accepted) done i a b,
-          row-answer-small (stateAt k codes′) (expression tree k) i,
+          row-answer-small (stateAt ρ k codes′) (expression tree k) i,
         )
 
     reached : r ≤ last k n tree r
@@ -106,23 +107,23 @@ correctable answers l =
       there = omega arith;
     }
 
-yes-then : rowAnswer (stateAt names (corrected names states 3 new-row)) rises 4 ≡ 1
+yes-then : (ρ : Rules) → rowAnswer (stateAt ρ names (corrected names states 3 new-row)) rises 4 ≡ 1
 unfolding states corrected rowAnswer numbered best answer greatest value recordedOr state edgeOn asked digitAsked
     letterAsked reduce
-yes-then = refl
+yes-then ρ = refl
 
-pub stops-at-row-3 : {answers states′ answers′ : List ℕ} (o : Outcome) → length answers ≡ rows
-    → Correction names rows (T.asked rises) states answers 3 new-row states′ answers′ o → getD answers′ 4 0 ≡ 2 → ⊥
-stops-at-row-3 {answers} {states′} o l w same =
+pub stops-at-row-3 : {ρ : Rules} {answers states′ answers′ : List ℕ} (o : Outcome) → length answers ≡ rows
+    → Correction ρ names rows (T.asked rises) states answers 3 new-row states′ answers′ o → getD answers′ 4 0 ≡ 2 → ⊥
+stops-at-row-3 {ρ} {answers} {states′} o l w same =
     let g = correctable answers l in
     let e = correction-reaches rises-accepted (done g o w) 4 (omega arith) (next-reached g o w (omega arith)) in
-    let s = ap (λ (z : List ℕ). rowAnswer (stateAt names z) (expression (T.asked rises) names) 4)
+    let s = ap (λ (z : List ℕ). rowAnswer (stateAt ρ names z) (expression (T.asked rises) names) 4)
     (stored g o w) in
-    let p = ap (λ (p : Vector). rowAnswer (stateAt names (corrected names states 3 new-row)) p 4)
+    let p = ap (λ (p : Vector). rowAnswer (stateAt ρ names (corrected names states 3 new-row)) p 4)
     rises-is in
-    omega (arith, same, e ∙ (s ∙ (p ∙ yes-then)))
+    omega (arith, same, e ∙ (s ∙ (p ∙ yes-then ρ)))
 
-pub changes-nothing-on-T : {states′ answers′ : List ℕ} (o : Outcome)
-    → Correction names rows (T.asked rises) states junk 3 new-row states′ answers′ o → answers′ ≡ junk → ⊥
+pub changes-nothing-on-T : {ρ : Rules} {states′ answers′ : List ℕ} (o : Outcome)
+    → Correction ρ names rows (T.asked rises) states junk 3 new-row states′ answers′ o → answers′ ≡ junk → ⊥
 unfolding junk
 changes-nothing-on-T o w same = changes-nothing (correctable junk refl) o w (omega arith) same

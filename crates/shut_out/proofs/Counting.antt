@@ -9,6 +9,7 @@ use native.Mathlib.Omega.{arith}
 use mathlib.Core.Path.{_≡_, refl, sym, ap, _∙_}
 use mathlib.Core.List.{List}
 use lib.ListN.{length, drop}
+use Rattle.alf.specs.declared.Rules.{Rules}
 use Rattle.alf.specs.declared.Answer.{Answer}
 use Rattle.basics.specs.Words.{greatest, leastOf, count, all}
 use Rattle.alf.specs.States.{reduce}
@@ -43,67 +44,68 @@ use Rattle.shut_out.proofs.Answering.{at, numberFound, triesFound, rise
 use Rattle.shut_out.proofs.RefusingUpdates.{Pushable, push}
 
 -- "an invented number of tries": 01 A | 10 B is yes at row 1 by its first alternative, at row 2 by its second
-tries-1 : tries (stateAt names states) (alternatives one-of) 1 ≡ 1
+tries-1 : (ρ : Rules) → tries (stateAt ρ names states) (alternatives one-of) 1 ≡ 1
 unfolding states alternatives rewritten tries tried atRow stepsFrom stepAt testAt leastOf value recordedOr state
     edgeOn asked digitAsked letterAsked reduce
-tries-1 = refl
+tries-1 ρ = refl
 
-tries-2 : tries (stateAt names states) (alternatives one-of) 2 ≡ 2
+tries-2 : (ρ : Rules) → tries (stateAt ρ names states) (alternatives one-of) 2 ≡ 2
 unfolding states alternatives rewritten tries tried atRow stepsFrom stepAt testAt leastOf value recordedOr state
     edgeOn asked digitAsked letterAsked reduce
-tries-2 = refl
+tries-2 ρ = refl
 
-row-tries : (i : ℕ) → i < rows → (x : Matching) → RowMatch names rows (T.asked one-of) states i x
-    → triesFound x ≡ tries (stateAt names states) (alternatives one-of) i
+row-tries : {ρ : Rules} (i : ℕ) → i < rows → (x : Matching) → RowMatch ρ names rows (T.asked one-of) states i x
+    → triesFound x ≡ tries (stateAt ρ names states) (alternatives one-of) i
 unfolding triesFound
-row-tries i l x w =
+row-tries {ρ} i l x w =
     ap triesFound (matched (trace-good .lists) one-of-accepted (trace-good .codes) l x w .is)
-    ∙ ap (λ (p : Vector). tries (stateAt names states) (alternatives p) i) one-of-is
+    ∙ ap (λ (p : Vector). tries (stateAt ρ names states) (alternatives p) i) one-of-is
 
-pub one-number-of-tries : (t : ℕ) (answers : ℕ → Answer)
+pub one-number-of-tries : {ρ : Rules} (t : ℕ) (answers : ℕ → Answer)
     → ((i : ℕ) → 0 < i → i < rows
-    → RowMatch names rows (T.asked one-of) states i (matching.Found (record { answer = answers i; tries = t })))
+    → RowMatch ρ names rows (T.asked one-of) states i (matching.Found (record { answer = answers i; tries = t })))
     → ⊥
 unfolding triesFound
-one-number-of-tries t answers w =
+one-number-of-tries {ρ} t answers w =
     let a = row-tries 1 (omega arith) _ (w 1 (omega arith) (omega arith)) in
     let b = row-tries 2 (omega arith) _ (w 2 (omega arith) (omega arith)) in
-    omega (arith, a, b, tries-1, tries-2)
+    omega (arith, a, b, tries-1 ρ, tries-2 ρ)
 
 -- whatever the tree and the trace: no number but that of the alternatives up to the first yes, or of all
-pub tries-unlike : {k n : ℕ} {tree codes : List ℕ} {row : ℕ} (m : Matched)
-    → RowMatch k n tree codes row (matching.Found m) → (m .tries ≡ triesOn k tree codes row → ⊥) → ⊥
+pub tries-unlike : {ρ : Rules} {k n : ℕ} {tree codes : List ℕ} {row : ℕ} (m : Matched)
+    → RowMatch ρ k n tree codes row (matching.Found m) → (m .tries ≡ triesOn ρ k tree codes row → ⊥) → ⊥
 unfolding Finds
 tries-unlike m w h = h (w .comes .1 .count)
 
 -- "an invented .. total": case 1 has one yes, three no, one unknown
-pub total-yes : total (stateAt names states) rises rows 1 ≡ 1
+pub total-yes : (ρ : Rules) → total (stateAt ρ names states) rises rows 1 ≡ 1
 unfolding total count states rowAnswer numbered best answer greatest value recordedOr state edgeOn asked digitAsked
     letterAsked reduce
-total-yes = refl
+total-yes ρ = refl
 
-pub total-no : total (stateAt names states) rises rows 0 ≡ 3
+pub total-no : (ρ : Rules) → total (stateAt ρ names states) rises rows 0 ≡ 3
 unfolding total count states rowAnswer numbered best answer greatest value recordedOr state edgeOn asked digitAsked
     letterAsked reduce
-total-no = refl
+total-no ρ = refl
 
-pub total-unknown : total (stateAt names states) rises rows 2 ≡ 1
+pub total-unknown : (ρ : Rules) → total (stateAt ρ names states) rises rows 2 ≡ 1
 unfolding total count states rowAnswer numbered best answer greatest value recordedOr state edgeOn asked digitAsked
     letterAsked reduce
-total-unknown = refl
+total-unknown ρ = refl
 
-pub invented-total : (t : Total) → RowTotals names rows (T.asked rises) states (counting.Counted t)
+pub invented-total : {ρ : Rules} (t : Total) → RowTotals ρ names rows (T.asked rises) states (counting.Counted t)
     → (t .yes ≡ 1) × (t .no ≡ 3) × (t .unknown ≡ 1)
 unfolding Counts
-invented-total t w =
+invented-total {ρ} t w =
     let c = rw rises-is at (w .comes .1) in
-    (c .yeses ∙ total-yes, c .noes ∙ total-no, c .unknowns ∙ total-unknown)
+    (c .yeses ∙ total-yes ρ, c .noes ∙ total-no ρ, c .unknowns ∙ total-unknown ρ)
 
-pub totals-nothing : (t : Total) → RowTotals names rows (T.asked rises) states (counting.Counted t)
+pub totals-nothing : {ρ : Rules} (t : Total) → RowTotals ρ names rows (T.asked rises) states (counting.Counted t)
     → t .yes + t .no + t .unknown ≡ 0 → ⊥
 totals-nothing t w e = omega (arith, e, invented-total t w .0)
 
-pub unknown-counted-as-no : (t : Total) → RowTotals names rows (T.asked rises) states (counting.Counted t)
+pub unknown-counted-as-no : {ρ : Rules} (t : Total)
+    → RowTotals ρ names rows (T.asked rises) states (counting.Counted t)
     → t .no ≡ 4 → ⊥
 unknown-counted-as-no t w e = omega (arith, e, invented-total t w .1)
 
@@ -121,10 +123,10 @@ unfolding codesOf
 row-codes i l =
     codes-take names (drop (i * names) states) (codes-drop (i * names) states (trace-good .codes))
 
-module _ {queues : ℕ → Queue} {results : ℕ → Matching} (first : queues 0 .kept .0 ≡ 0)
+module _ {ρ : Rules} {queues : ℕ → Queue} {results : ℕ → Matching} (first : queues 0 .kept .0 ≡ 0)
     (pushed : (i : ℕ) → i < rows
-    → Push names (T.asked rises) (queues i) (codesOf names states i) (results i) (queues (suc i))) where
-  queue-number : (i : ℕ) → i < rows → numberFound (results i) ≡ at rises i
+    → Push ρ names (T.asked rises) (queues i) (codesOf names states i) (results i) (queues (suc i))) where
+  queue-number : (i : ℕ) → i < rows → numberFound (results i) ≡ at ρ rises i
   unfolding numberFound
   queue-number i l =
       let r = pushed-found (trace-good .lists .name-count) rises-accepted first row-full row-codes pushed i l in
@@ -134,19 +136,19 @@ module _ {queues : ℕ → Queue} {results : ℕ → Matching} (first : queues 0
   first-event-only same =
       let a = sym (queue-number 4 (omega arith))
       ∙ (ap numberFound (same 4 (omega arith) (omega arith)) ∙ queue-number 1 (omega arith)) in
-      omega (arith, a, rises-1, rises-4)
+      omega (arith, a, rises-1 ρ, rises-4 ρ)
 
 -- whatever the tree: what is pushed is kept, as long as K rows are not kept yet
-pub stands-still : {k : ℕ} {tree : List ℕ} {queue : Queue} {row : List ℕ} {queue′ : Queue}
+pub stands-still : {ρ : Rules} {k : ℕ} {tree : List ℕ} {queue : Queue} {row : List ℕ} {queue′ : Queue}
     → Pushable k tree queue row → queue .kept .0 < stepsOf (expression tree k) → (x : Matching)
-    → Push k tree queue row x queue′ → queue′ .kept .0 ≡ queue .kept .0 → ⊥
+    → Push ρ k tree queue row x queue′ → queue′ .kept .0 ≡ queue .kept .0 → ⊥
 unfolding Takes stepsOf
-stands-still {k} {tree} {queue} {row} {queue′} g l (matching.Found m) w e = omega (arith, l, e, w .comes .1 .kept)
-stands-still {k} {tree} {queue} {row} {queue′} g l (matching.Refused r) w e =
+stands-still {ρ} {k} {tree} {queue} {row} {queue′} g l (matching.Found m) w e = omega (arith, l, e, w .comes .1 .kept)
+stands-still {ρ} {k} {tree} {queue} {row} {queue′} g l (matching.Refused r) w e =
     push k tree queue row .no-refusal g r queue′ w
 
-pub keeps-nothing : {k : ℕ} {tree : List ℕ} {queue : Queue} {row : List ℕ} {queue′ : Queue}
-    → Pushable k tree queue row → (x : Matching) → Push k tree queue row x queue′
+pub keeps-nothing : {ρ : Rules} {k : ℕ} {tree : List ℕ} {queue : Queue} {row : List ℕ} {queue′ : Queue}
+    → Pushable k tree queue row → (x : Matching) → Push ρ k tree queue row x queue′
     → queue .kept .0 ≡ 0 → queue′ .kept .0 ≡ 0 → ⊥
-keeps-nothing {k} {tree} g x w a b =
+keeps-nothing {ρ} {k} {tree} g x w a b =
     stands-still g (omega (arith, a, steps-pos (expression tree k))) x w (b ∙ sym a)

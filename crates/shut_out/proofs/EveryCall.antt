@@ -7,6 +7,7 @@ use mathlib.Core.Path.{_≡_, refl}
 use mathlib.Core.List.{List}
 use lib.ListN.{length}
 use Rattle.basics.specs.declared.Refusal.{Refusal}
+use Rattle.alf.specs.declared.Rules.{Rules}
 use Rattle.alf.specs.declared.Sort.the-variants as sort
 use Rattle.basics.specs.declared.Outcome.the-variants as outcome
 use Rattle.alf.specs.Expressions.{boolean}
@@ -105,52 +106,54 @@ module _ (r : Refusal) where
     good-rises : over-rows.GoodRow names rows (asked rises) sort.Vector states i
     good-rises = record { trace = trace-good; accepted = rises-accepted; there = l }
 
-    pub row-state : RowState names rows just-A states i (outcome.Refused r) → ⊥
+    pub row-state : {ρ : Rules} → RowState ρ names rows just-A states i (outcome.Refused r) → ⊥
     row-state w = over-rows.row-state names rows just-A states i .no-refusal good-A r tt w
 
-    pub row-value : RowValue names rows just-A states i (outcome.Refused r) → ⊥
+    pub row-value : {ρ : Rules} → RowValue ρ names rows just-A states i (outcome.Refused r) → ⊥
     row-value w = over-rows.row-value names rows just-A states i .no-refusal good-A r tt w
 
-    pub row-answer : RowAnswer names rows (asked rises) states i (told.Refused r) → ⊥
+    pub row-answer : {ρ : Rules} → RowAnswer ρ names rows (asked rises) states i (told.Refused r) → ⊥
     row-answer w = over-rows.row-answer names rows (asked rises) states i .no-refusal good-rises r tt w
 
-    pub match-row : RowMatch names rows (asked rises) states i (matching.Refused r) → ⊥
+    pub match-row : {ρ : Rules} → RowMatch ρ names rows (asked rises) states i (matching.Refused r) → ⊥
     match-row w = over-rows.match-row names rows (asked rises) states i .no-refusal good-rises r tt w
 
-  pub window-answer : (a b : ℕ) → max a b < rows → WindowAnswer names rows (asked rises) states a b (told.Refused r)
+  pub window-answer : {ρ : Rules} (a b : ℕ) → max a b < rows
+      → WindowAnswer ρ names rows (asked rises) states a b (told.Refused r)
       → ⊥
   window-answer a b l w =
       over-rows.window-answer names rows (asked rises) states a b .no-refusal (good-rises (max a b) l) r tt w
 
-  pub values : {out out′ : List ℕ} → length out ≡ rows
-      → AllValues names rows just-A states out out′ (outcome.Refused r) → ⊥
-  values {out} {out′} room w =
+  pub values : {ρ : Rules} {out out′ : List ℕ} → length out ≡ rows
+      → AllValues ρ names rows just-A states out out′ (outcome.Refused r) → ⊥
+  values {ρ} {out} {out′} room w =
       over-rows.values names rows just-A states out .no-refusal
       (record { trace = trace-good; accepted = A-accepted; room = room }) r out′ w
 
-  pub match-all : {answers tried answers′ tried′ : List ℕ} → length answers ≡ rows → length tried ≡ rows
-      → AllMatched names rows (asked rises) states answers tried answers′ tried′ (outcome.Refused r) → ⊥
-  match-all {answers} {tried} {answers′} {tried′} a t w =
+  pub match-all : {ρ : Rules} {answers tried answers′ tried′ : List ℕ} → length answers ≡ rows → length tried ≡ rows
+      → AllMatched ρ names rows (asked rises) states answers tried answers′ tried′ (outcome.Refused r) → ⊥
+  match-all {ρ} {answers} {tried} {answers′} {tried′} a t w =
       over-rows.match-all names rows (asked rises) states answers tried .no-refusal
       (record { trace = trace-good; accepted = rises-accepted; room = (a, t) }) r (answers′, tried′) w
 
-  pub totals : RowTotals names rows (asked rises) states (counting.Refused r) → ⊥
+  pub totals : {ρ : Rules} → RowTotals ρ names rows (asked rises) states (counting.Refused r) → ⊥
   totals w =
       over-rows.totals names rows (asked rises) states .no-refusal
       (record { trace = trace-good; accepted = rises-accepted; room = tt }) r tt w
 
-  pub correct : {answers new states′ answers′ : List ℕ} {i : ℕ} → length answers ≡ rows → length new ≡ names
+  pub correct : {ρ : Rules} {answers new states′ answers′ : List ℕ} {i : ℕ} → length answers ≡ rows
+      → length new ≡ names
       → Codes new → i < rows
-      → Correction names rows (asked rises) states answers i new states′ answers′ (outcome.Refused r) → ⊥
-  correct {answers} {new} {states′} {answers′} {i} a f c l w =
+      → Correction ρ names rows (asked rises) states answers i new states′ answers′ (outcome.Refused r) → ⊥
+  correct {ρ} {answers} {new} {states′} {answers′} {i} a f c l w =
       updating.correct names rows (asked rises) states answers i new .no-refusal
       (record { trace = trace-good; accepted = rises-accepted; room = a; full = f; codes = c; there = l }) r
       (states′, answers′) w
 
   -- a queue that keeps nothing yet
-  pub push : {queue queue′ : Queue} {row : List ℕ} → queue .kept .0 ≡ 0 → length row ≡ names → Codes row
-      → Push names (asked rises) queue row (matching.Refused r) queue′ → ⊥
-  push {queue} {queue′} {row} e f c w =
+  pub push : {ρ : Rules} {queue queue′ : Queue} {row : List ℕ} → queue .kept .0 ≡ 0 → length row ≡ names → Codes row
+      → Push ρ names (asked rises) queue row (matching.Refused r) queue′ → ⊥
+  push {ρ} {queue} {queue′} {row} e f c w =
       let h = holding-first names 1 queue e in
       updating.push names (asked rises) queue row .no-refusal
       (record {

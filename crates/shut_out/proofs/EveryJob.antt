@@ -12,6 +12,7 @@ use mathlib.Core.Path.{_≡_, refl, sym, ap, _∙_}
 use mathlib.Core.List.{List, map}
 use lib.ListN.{length, getD}
 use Rattle.basics.specs.declared.Refusal.{Refusal}
+use Rattle.alf.specs.declared.Rules.{Rules}
 use Rattle.alf.specs.Names.{namesIn}
 use Rattle.alf.specs.declared.Sort.the-variants as sort
 use Rattle.basics.specs.declared.Outcome.{Outcome}
@@ -115,33 +116,34 @@ T-good = rw letters-count trace-good
 countable : jobs.Countable letters rows states (bytes "01 A")
 countable = record { readable = rises-readable; trace = T-good }
 
-pub count-text : (r : Refusal) → CountsText letters rows states (bytes "01 A") (counting.Refused r) → ⊥
+pub count-text : {ρ : Rules} (r : Refusal) → CountsText ρ letters rows states (bytes "01 A") (counting.Refused r) → ⊥
 count-text r w = jobs.count-text letters rows states (bytes "01 A") .no-refusal countable r tt w
 
-pub invented-total-of-text : (t : Total) → CountsText letters rows states (bytes "01 A") (counting.Counted t)
+pub invented-total-of-text : {ρ : Rules} (t : Total)
+    → CountsText ρ letters rows states (bytes "01 A") (counting.Counted t)
     → (t .yes ≡ 1) × (t .no ≡ 3) × (t .unknown ≡ 1)
 unfolding CountsIn
 invented-total-of-text t w =
     let c = w .comes .1 in
     let e = vector-one (c .pattern) rises (gives-unique (c .given) rises-gives) in
     let s = rw (e, letters-count) at (c .totals) in
-    (s .yeses ∙ total-yes, s .noes ∙ total-no, s .unknowns ∙ total-unknown)
+    (s .yeses ∙ total-yes _, s .noes ∙ total-no _, s .unknowns ∙ total-unknown _)
 
-flips-yes : total (stateAt names states) flips rows 1 ≡ 3
+flips-yes : (ρ : Rules) → total (stateAt ρ names states) flips rows 1 ≡ 3
 unfolding total count states rowAnswer numbered best answer greatest value recordedOr state edgeOn windows.asked
     digitAsked letterAsked reduce
-flips-yes = refl
+flips-yes ρ = refl
 
-pub one-total-for-all : (t : Total) → CountsText letters rows states (bytes "01 A") (counting.Counted t)
-    → CountsText letters rows states (bytes "?! B") (counting.Counted t) → ⊥
+pub one-total-for-all : {ρ : Rules} (t : Total) → CountsText ρ letters rows states (bytes "01 A") (counting.Counted t)
+    → CountsText ρ letters rows states (bytes "?! B") (counting.Counted t) → ⊥
 unfolding CountsIn
-one-total-for-all t v w =
+one-total-for-all {ρ} t v w =
     let c = w .comes .1 in
     let e = vector-one (c .pattern) flips (gives-unique (c .given) flips-gives) in
     let s = rw (e, letters-count) at (c .totals) in
-    omega (arith, invented-total-of-text t v .0, s .yeses, flips-yes)
+    omega (arith, invented-total-of-text t v .0, s .yeses, flips-yes ρ)
 
-counted-so : (c : Counting) → CountsText letters rows states (bytes "01 A") c
+counted-so : {ρ : Rules} (c : Counting) → CountsText ρ letters rows states (bytes "01 A") c
     → c ≡ counting.Counted (record { yes = 1; no = 3; unknown = 1 })
 counted-so (counting.Counted t) w =
     let e = invented-total-of-text t w in
@@ -153,10 +155,10 @@ unfolding lineOf bytes
 line-length = ap length case-1-line
 
 -- the line of these totals is written: 20 bytes
-pub table-line : {out out′ : List ℕ} {c : Counting} (r : Refusal) → 20 ≤ length out
-    → TableLine letters rows states (bytes "01 A") out out′ (record { counted = c; written = outcome.Refused r })
+pub table-line : {ρ : Rules} {out out′ : List ℕ} {c : Counting} (r : Refusal) → 20 ≤ length out
+    → TableLine ρ letters rows states (bytes "01 A") out out′ (record { counted = c; written = outcome.Refused r })
     → ⊥
-table-line {out} {out′} {c} r room w =
+table-line {ρ} {out} {out′} {c} r room w =
     jobs.table-line letters rows states (bytes "01 A") out c .no-refusal
     (rw (counted-so c (w .counts)) (omega (arith, room, line-length))) r out′ w
 
@@ -166,37 +168,37 @@ pub other-sums : (n : ℕ) (cs : List Counting) (s : Sums) → addedAll (Added (
 other-sums n cs s e differ = differ (sums-exact n cs s e)
 
 -- Listings: of 01 A, of A, of any values.
-answers-length : length (patternListing (namesIn letters) times states rises) ≡ 76
+answers-length : (ρ : Rules) → length (patternListing ρ (namesIn letters) times states rises) ≡ 76
 unfolding bytes
-answers-length = rw letters-count (ap length case-1)
+answers-length ρ = rw letters-count (ap length (case-1 _))
 
-pub list-text : {out out′ : List ℕ} (r : Refusal) → 76 ≤ length out
-    → ListsPattern letters times states (bytes "01 A") out out′ (outcome.Refused r) → ⊥
+pub list-text : (ρ : Rules) {out out′ : List ℕ} (r : Refusal) → 76 ≤ length out
+    → ListsPattern ρ letters times states (bytes "01 A") out out′ (outcome.Refused r) → ⊥
 unfolding times
-list-text {out} {out′} r room w =
-    jobs.list-text letters times states (bytes "01 A") out .no-refusal
+list-text ρ {out} {out′} r room w =
+    jobs.list-text letters times states (bytes "01 A") out ρ .no-refusal
     (record {
       readable = rises-readable;
       trace = T-good;
-      room = λ p g. rw (vector-one p rises (gives-unique g rises-gives)) (omega (arith, room, answers-length));
+      room = λ p g. rw (vector-one p rises (gives-unique g rises-gives)) (omega (arith, room, answers-length ρ));
     }) r out′ w
 
-values-length : length (valueListing names times states A) ≡ 40
+values-length : (ρ : Rules) → length (valueListing ρ names times states A) ≡ 40
 unfolding
     valueListing valuesListing lines line wordOf letter bytes joined decimal width widthUpTo digits times states listed
     reduce value
-values-length = refl
+values-length ρ = refl
 
-pub values-text : {out out′ : List ℕ} (r : Refusal) → 40 ≤ length out
-    → ListsValues letters times states (bytes "A") out out′ (outcome.Refused r) → ⊥
+pub values-text : (ρ : Rules) {out out′ : List ℕ} (r : Refusal) → 40 ≤ length out
+    → ListsValues ρ letters times states (bytes "A") out out′ (outcome.Refused r) → ⊥
 unfolding times
-values-text {out} {out′} r room w =
-    jobs.values-text letters times states (bytes "A") out .no-refusal
+values-text ρ {out} {out′} r room w =
+    jobs.values-text letters times states (bytes "A") out ρ .no-refusal
     (record {
       readable = A-readable;
       trace = T-good;
       room = λ p g.
-          rw (boolean-one p A (gives-unique g A-gives), letters-count) (omega (arith, room, values-length));
+          rw (boolean-one p A (gives-unique g A-gives), letters-count) (omega (arith, room, values-length ρ));
     }) r out′ w
 
 pub list-values : {values out out′ : List ℕ} (r : Refusal) → length values ≡ rows

@@ -7,6 +7,7 @@ use lib.ListN.{length, getD}
 use Rattle.basics.specs.declared.Refusal.{Refusal}
 use Rattle.basics.specs.declared.Outcome.the-variants as outcome
 use Rattle.basics.specs.Words.{greatestOf, sumOf}
+use Rattle.alf.specs.declared.Rules.{Rules}
 use Rattle.alf.specs.Bytes.{halfNumber, edgeNumber, booleanBytes, vectorBytes, bytesOf}
 use Rattle.alf.specs.Decoder.{halfAt, edgeAt, leafAt, operationAt}
 use Rattle.alf.specs.Decoder.{isBoolean, topBoolean, under, run, stackAt}
@@ -79,27 +80,30 @@ module _ (r : Refusal) where
       over-lists.listed-fits names (asked rises) one one edge-01 one .no-refusal
       (record { name-count = three; accepted = one-accepted }) r tt w
 
-  pub listed-match-row : (i : ℕ) → i < rows
-      → listed.ListedMatch names rows (asked rises) one one edge-01 one states i (matching.Refused r) → ⊥
+  pub listed-match-row : {ρ : Rules} (i : ℕ) → i < rows
+      → listed.ListedMatch ρ names rows (asked rises) one one edge-01 one states i (matching.Refused r) → ⊥
   listed-match-row i l w =
       over-lists.listed-match-row names rows (asked rises) one one edge-01 one states i .no-refusal
       (record { trace = trace-good; accepted = one-accepted; asked = l }) r tt w
 
-  pub listed-match-all : {answers tried answers′ tried′ : List ℕ} → length answers ≡ rows → length tried ≡ rows
-      → listed.ListedAll names rows (asked rises) one one edge-01 one states answers tried answers′ tried′
+  pub listed-match-all : {ρ : Rules} {answers tried answers′ tried′ : List ℕ} → length answers ≡ rows
+      → length tried ≡ rows
+      → listed.ListedAll ρ names rows (asked rises) one one edge-01 one states answers tried answers′ tried′
       (outcome.Refused r) → ⊥
-  listed-match-all {answers} {tried} {answers′} {tried′} a t w =
+  listed-match-all {ρ} {answers} {tried} {answers′} {tried′} a t w =
       over-lists.listed-match-all names rows (asked rises) one one edge-01 one states answers tried .no-refusal
       (record { trace = trace-good; accepted = one-accepted; asked = (a, t) }) r (answers′, tried′) w
 
-  pub listed-totals : listed.ListedTotals names rows (asked rises) one one edge-01 one states (counting.Refused r) → ⊥
+  pub listed-totals : {ρ : Rules}
+      → listed.ListedTotals ρ names rows (asked rises) one one edge-01 one states (counting.Refused r) → ⊥
   listed-totals w =
       over-lists.listed-totals names rows (asked rises) one one edge-01 one states .no-refusal
       (record { trace = trace-good; accepted = one-accepted; asked = tt }) r tt w
 
-  pub listed-push : {queue queue′ : Queue} {row : List ℕ} → queue .kept .0 ≡ 0 → length row ≡ names → Codes row
-      → listed.ListedPush names (asked rises) one one edge-01 one queue row (matching.Refused r) queue′ → ⊥
-  listed-push {queue} {queue′} {row} e f c w =
+  pub listed-push : {ρ : Rules} {queue queue′ : Queue} {row : List ℕ} → queue .kept .0 ≡ 0 → length row ≡ names
+      → Codes row
+      → listed.ListedPush ρ names (asked rises) one one edge-01 one queue row (matching.Refused r) queue′ → ⊥
+  listed-push {ρ} {queue} {queue′} {row} e f c w =
       let h = holding-first names 1 queue e in
       over-lists.listed-push names (asked rises) one one edge-01 one queue row .no-refusal
       (record {

@@ -19,7 +19,8 @@ use Rattle.text_reading.proofs.reading.make_trace.Kinds as kinds
 
 pub make-trace-attached : (κs : Lfts 4) (a : Dens κs kinds.ps) → says.Pre κs a
     × ((r : Reading) (e : Dens κs kinds.ps) → says.Post κs a r e
-    → MakesTrace (now (a .0)) (now (a .1 .0)) (now (a .1 .1 .0)) (now (a .1 .1 .1 .0)) (now (e .1 .0)) (now (e .1 .1 .0))
+    → MakesTrace (now (a .0)) (now (a .1 .0)) (now (a .1 .1 .0)) (now (a .1 .1 .1 .0)) (now (e .1 .0))
+    (now (e .1 .1 .0))
     (now (e .1 .1 .1 .0)) r)
 make-trace-attached κs a = (tt, λ r e p. p)
 

@@ -8,6 +8,7 @@ use native.Mathlib.Omega.{arith}
 use mathlib.Core.Path.{_≡_}
 use mathlib.Core.List.{List, _++_}
 use lib.ListN.{length, drop}
+use Rattle.alf.specs.declared.Rules.{Rules}
 use Rattle.alf.specs.declared.Answer.{Answer}
 use Rattle.alf.specs.declared.Sort.{Sort}
 use Rattle.basics.specs.declared.Outcome.the-variants.{Done}
@@ -76,16 +77,17 @@ module _ {out out′ : List ℕ} {m : ℕ} where
   unfolding Comes after
   no-other-file w = (w .outcome .1, w .memory)
 
-  pub no-other-listing : {k n : ℕ} {tree times states : List ℕ} → ListsTree k n tree times states out out′ (Done m)
-      → (m ≡ length (patternListing k times states (expression tree k)))
-      × (out′ ≡ front (patternListing k times states (expression tree k)) out)
+  pub no-other-listing : {ρ : Rules} {k n : ℕ} {tree times states : List ℕ}
+      → ListsTree ρ k n tree times states out out′ (Done m)
+      → (m ≡ length (patternListing ρ k times states (expression tree k)))
+      × (out′ ≡ front (patternListing ρ k times states (expression tree k)) out)
   unfolding Comes after
   no-other-listing w = (w .comes .1, w .memory)
 
-  pub no-other-totals-line : {k n : ℕ} {tree states pattern : List ℕ}
-      → LinesTree k n tree states pattern out out′ (Done m)
-      → (m ≡ length (totalsLine k n states pattern (expression tree k)))
-      × (out′ ≡ front (totalsLine k n states pattern (expression tree k)) out)
+  pub no-other-totals-line : {ρ : Rules} {k n : ℕ} {tree states pattern : List ℕ}
+      → LinesTree ρ k n tree states pattern out out′ (Done m)
+      → (m ≡ length (totalsLine ρ k n states pattern (expression tree k)))
+      × (out′ ≡ front (totalsLine ρ k n states pattern (expression tree k)) out)
   unfolding Comes after
   no-other-totals-line w = (w .comes .1, w .memory)
 
@@ -117,76 +119,76 @@ no-other-changes k n codes row c w = (w .1 .changed, w .1 .number)
 
 module _ {k n : ℕ} {tree codes : List ℕ} where
   module _ {row : ℕ} where
-    pub no-other-state : {m : ℕ} → RowState k n tree codes row (Done m)
-        → m ≡ stateAt k codes (booleanAt tree k (length tree)) row
+    pub no-other-state : {ρ : Rules} {m : ℕ} → RowState ρ k n tree codes row (Done m)
+        → m ≡ stateAt ρ k codes (booleanAt tree k (length tree)) row
     unfolding Comes
     no-other-state w = w .comes .1
 
-    pub no-other-value : {m : ℕ} → RowValue k n tree codes row (Done m)
-        → m ≡ valueAt k codes (booleanAt tree k (length tree)) row
+    pub no-other-value : {ρ : Rules} {m : ℕ} → RowValue ρ k n tree codes row (Done m)
+        → m ≡ valueAt ρ k codes (booleanAt tree k (length tree)) row
     unfolding Comes
     no-other-value w = w .comes .1
 
-    pub no-other-answer : {b : Answer} → RowAnswer k n tree codes row (Answered b)
-        → numberOf b ≡ rowAnswer (stateAt k codes) (vectorAt tree k (length tree)) row
+    pub no-other-answer : {ρ : Rules} {b : Answer} → RowAnswer ρ k n tree codes row (Answered b)
+        → numberOf b ≡ rowAnswer (stateAt ρ k codes) (vectorAt tree k (length tree)) row
     unfolding Tells
     no-other-answer w = w .comes .1
 
-    pub no-other-match : {m : Matched} → RowMatch k n tree codes row (Found m)
-        → MatchesTree k tree codes row (m .answer) (m .tries)
+    pub no-other-match : {ρ : Rules} {m : Matched} → RowMatch ρ k n tree codes row (Found m)
+        → MatchesTree ρ k tree codes row (m .answer) (m .tries)
     unfolding Finds
     no-other-match w = w .comes .1
 
-  pub no-other-on-window : {a b : ℕ} {c : Answer} → WindowAnswer k n tree codes a b (Answered c)
-      → numberOf c ≡ numbered (answerOver k tree codes a b)
+  pub no-other-on-window : {ρ : Rules} {a b : ℕ} {c : Answer} → WindowAnswer ρ k n tree codes a b (Answered c)
+      → numberOf c ≡ numbered (answerOver ρ k tree codes a b)
   unfolding Tells
   no-other-on-window w = w .comes .1
 
-  pub no-other-values : {out out′ : List ℕ} {m : ℕ} → AllValues k n tree codes out out′ (Done m)
-      → out′ ≡ listed 0 n (valueAt k codes (booleanAt tree k (length tree)))
+  pub no-other-values : {ρ : Rules} {out out′ : List ℕ} {m : ℕ} → AllValues ρ k n tree codes out out′ (Done m)
+      → out′ ≡ listed 0 n (valueAt ρ k codes (booleanAt tree k (length tree)))
   unfolding after
   no-other-values w = w .memory
 
-  pub no-other-answers : {answers tried answers′ tried′ : List ℕ} {m : ℕ}
-      → AllMatched k n tree codes answers tried answers′ tried′ (Done m)
-      → (answers′ ≡ listed 0 n (answersOn k tree codes)) × (tried′ ≡ listed 0 n (triesOn k tree codes))
+  pub no-other-answers : {ρ : Rules} {answers tried answers′ tried′ : List ℕ} {m : ℕ}
+      → AllMatched ρ k n tree codes answers tried answers′ tried′ (Done m)
+      → (answers′ ≡ listed 0 n (answersOn ρ k tree codes)) × (tried′ ≡ listed 0 n (triesOn ρ k tree codes))
   unfolding after
   no-other-answers w = (w .answers-memory, w .tried-memory)
 
-  pub no-other-totals : {t : Total} → RowTotals k n tree codes (Counted t)
-      → TotalsTree k n tree codes (t .yes) (t .no) (t .unknown)
+  pub no-other-totals : {ρ : Rules} {t : Total} → RowTotals ρ k n tree codes (Counted t)
+      → TotalsTree ρ k n tree codes (t .yes) (t .no) (t .unknown)
   unfolding Counts
   no-other-totals w = w .comes .1
 
-  pub no-other-correction : {answers : List ℕ} {row : ℕ} {new codes′ answers′ : List ℕ} {m : ℕ}
-      → Correction k n tree codes answers row new codes′ answers′ (Done m)
+  pub no-other-correction : {ρ : Rules} {answers : List ℕ} {row : ℕ} {new codes′ answers′ : List ℕ} {m : ℕ}
+      → Correction ρ k n tree codes answers row new codes′ answers′ (Done m)
       → (codes′ ≡ corrected k codes row new)
-      × (answers′ ≡ rewritten k n tree answers row (corrected k codes row new))
+      × (answers′ ≡ rewritten ρ k n tree answers row (corrected k codes row new))
   unfolding after
   no-other-correction w = (w .states-memory, w .answers-memory)
 
-pub no-other-push : {k : ℕ} {tree : List ℕ} {queue : Queue} {row : List ℕ} {queue′ : Queue} {m : Matched}
-    → Push k tree queue row (Found m) queue′ → PushesTree k tree queue row (m .answer) (m .tries) queue′
+pub no-other-push : {ρ : Rules} {k : ℕ} {tree : List ℕ} {queue : Queue} {row : List ℕ} {queue′ : Queue} {m : Matched}
+    → Push ρ k tree queue row (Found m) queue′ → PushesTree ρ k tree queue row (m .answer) (m .tries) queue′
 unfolding Takes
 no-other-push w = w .comes .1
 
 -- Alternatives handed in.
 module _ {k n : ℕ} {tree s t e o codes : List ℕ} where
-  pub no-other-listed-match : {row : ℕ} {m : Matched}
-      → listed-calls.ListedMatch k n tree s t e o codes row (Found m)
-      → Matches (stateAt k codes) (alternativesIn k n tree s t e o codes) row (m .answer) (m .tries)
+  pub no-other-listed-match : {ρ : Rules} {row : ℕ} {m : Matched}
+      → listed-calls.ListedMatch ρ k n tree s t e o codes row (Found m)
+      → Matches (stateAt ρ k codes) (alternativesIn k n tree s t e o codes) row (m .answer) (m .tries)
   unfolding Finds
   no-other-listed-match w = w .comes .1
 
-  pub no-other-listed-answers : {answers tried answers′ tried′ : List ℕ} {m : ℕ}
-      → listed-calls.ListedAll k n tree s t e o codes answers tried answers′ tried′ (Done m)
-      → (answers′ ≡ listed 0 n (answerOf (stateAt k codes) (alternativesIn k n tree s t e o codes)))
-      × (tried′ ≡ listed 0 n (tries (stateAt k codes) (alternativesIn k n tree s t e o codes)))
+  pub no-other-listed-answers : {ρ : Rules} {answers tried answers′ tried′ : List ℕ} {m : ℕ}
+      → listed-calls.ListedAll ρ k n tree s t e o codes answers tried answers′ tried′ (Done m)
+      → (answers′ ≡ listed 0 n (answerOf (stateAt ρ k codes) (alternativesIn k n tree s t e o codes)))
+      × (tried′ ≡ listed 0 n (tries (stateAt ρ k codes) (alternativesIn k n tree s t e o codes)))
   unfolding after
   no-other-listed-answers w = (w .answers-memory, w .tried-memory)
 
-  pub no-other-listed-totals : {z : Total} → listed-calls.ListedTotals k n tree s t e o codes (Counted z)
-      → tables.TotalsOf (stateAt k codes) (alternativesIn k n tree s t e o codes) n (z .yes) (z .no) (z .unknown)
+  pub no-other-listed-totals : {ρ : Rules} {z : Total} → listed-calls.ListedTotals ρ k n tree s t e o codes (Counted z)
+      → tables.TotalsOf (stateAt ρ k codes) (alternativesIn k n tree s t e o codes) n (z .yes) (z .no) (z .unknown)
   unfolding Counts
   no-other-listed-totals w = w .comes .1
 
@@ -196,12 +198,14 @@ unfolding Comes
 no-other-number-of-lists w = w .comes .1
 
 module _ {k : ℕ} {tree s t e o : List ℕ} {queue : Queue} {row : List ℕ} {queue′ : Queue} where
-  pub no-other-listed-push : {m : Matched} → listed-calls.ListedPush k tree s t e o queue row (Found m) queue′
-      → Pushes k (alternativesOf tree k s t e o) queue row (m .answer) (m .tries) queue′
+  pub no-other-listed-push : {ρ : Rules} {m : Matched}
+      → listed-calls.ListedPush ρ k tree s t e o queue row (Found m) queue′
+      → Pushes ρ k (alternativesOf tree k s t e o) queue row (m .answer) (m .tries) queue′
   unfolding listed-calls.Takes
   no-other-listed-push w = w .comes .1
 
   -- so what is pushed is kept, as long as K rows are not kept yet
-  pub listed-stands-still : {m : Matched} → listed-calls.ListedPush k tree s t e o queue row (Found m) queue′
+  pub listed-stands-still : {ρ : Rules} {m : Matched}
+      → listed-calls.ListedPush ρ k tree s t e o queue row (Found m) queue′
       → queue .kept .0 < longestOf (alternativesOf tree k s t e o) → queue′ .kept .0 ≡ queue .kept .0 → ⊥
   listed-stands-still w l same = omega (arith, no-other-listed-push w .kept, l, same)

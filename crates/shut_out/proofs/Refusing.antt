@@ -8,6 +8,7 @@ use native.Mathlib.Omega.{arith}
 use mathlib.Core.Path.{_≡_, refl}
 use mathlib.Core.List.{List}
 use lib.ListN.{length, getD}
+use Rattle.alf.specs.Values.{oldRules}
 use Rattle.alf.specs.declared.Sort.{Sort}
 use Rattle.alf.specs.declared.Sort.the-variants.{Vector}
 use Rattle.basics.specs.declared.Outcome.the-variants as outcome
@@ -51,7 +52,7 @@ module _ (names : List ℕ) where
         reason = λ r m w. w;
         parts = λ x m w. comes-parts (namesOrder names) (λ k. k ≡ length names / 32) x w;
         refuses = λ r h. h;
-        one = both (demand-1 .check-names names);
+        one = both (demand-1 {ρ = oldRules} .check-names names);
       })
 
   module _ (tree : List ℕ) (sort : Sort) (out : List ℕ) where
@@ -83,7 +84,7 @@ module _ (names : List ℕ) where
           reason = λ r m w. w .outcome;
           parts = λ x m w. comes-parts _ _ x (w .outcome);
           refuses = λ r h. record { outcome = h; memory = refl };
-          one = demand-1 .write-expression names tree sort out .one;
+          one = demand-1 {ρ = oldRules} .write-expression names tree sort out .one;
         })
 
 -- Trace files.
@@ -101,7 +102,7 @@ module _ (names times states : List ℕ) (n : ℕ) (out : List ℕ) where
         reason = λ r m w. w .outcome;
         parts = λ x m w. comes-parts _ _ x (w .outcome);
         refuses = λ r h. record { outcome = h; memory = refl };
-        one = demand-1 .write-trace names times states n out .one;
+        one = demand-1 {ρ = oldRules} .write-trace names times states n out .one;
       })
 
 -- Rewriting.
@@ -149,7 +150,7 @@ module _ (names : ℕ) (tree : List ℕ) where
                 outcome = h;
                 memory = record { steps-are = refl; tests-are = refl; edges-are = refl; operands-are = refl };
               };
-          one = demand-1 .rewrite names tree steps tests edges operands .one;
+          one = demand-1 {ρ = oldRules} .rewrite names tree steps tests edges operands .one;
         })
 
   module _ (flags : List ℕ) where
@@ -176,7 +177,7 @@ module _ (names : ℕ) (tree : List ℕ) where
           reason = λ r m w. w .outcome;
           parts = λ x m w. comes-parts _ _ x (w .outcome);
           refuses = λ r h. record { outcome = h; memory = refl };
-          one = demand-1 .contradictions names tree flags .one;
+          one = demand-1 {ρ = oldRules} .contradictions names tree flags .one;
         })
 
 -- The listing of values, and each line of the table but a pattern's.
@@ -223,5 +224,5 @@ module _ (out : List ℕ) where
           reason = λ r m w. w .outcome;
           parts = λ x m w. comes-parts _ _ x (w .outcome);
           refuses = λ r h. record { outcome = h; memory = refl };
-          one = demand-1 .line text out .one;
+          one = demand-1 {ρ = oldRules} .line text out .one;
         })

@@ -13,6 +13,7 @@ use mathlib.Core.Path.{_≡_, refl}
 use mathlib.Core.Logic.{_⊎_, inl, inr}
 use mathlib.Core.List.{List, map}
 use lib.ListN.{length}
+use Rattle.alf.specs.declared.Rules.{Rules}
 use Rattle.alf.specs.declared.Sort.{Sort}
 use Rattle.alf.specs.declared.Sort.the-variants as sort
 use Rattle.basics.specs.declared.Outcome.{Outcome}
@@ -58,39 +59,41 @@ module _ (names : List ℕ) (n : ℕ) (states text : List ℕ) where
       passed-both (readOrder names text sort.Vector) _ (read-passes names text sort.Vector (g .readable))
       (λ p a. a .given (g .trace .lists), (codes-never states (g .trace .codes), tt))
 
-  text-parts : (x : Counting) → CountsIn text (countOrder names n states text) (TotalsText names n states text) x
+  text-parts : (ρ : Rules) (x : Counting)
+      → CountsIn text (countOrder names n states text) (TotalsText ρ names n states text) x
       → Passed (countOrder names n states text) ⊎ IsRefusal counting.Refused x
   unfolding CountsIn
-  text-parts (counting.Counted t) w = inl (w .0)
-  text-parts (counting.Refused r) w = inr (r, refl)
+  text-parts ρ (counting.Counted t) w = inl (w .0)
+  text-parts ρ (counting.Refused r) w = inr (r, refl)
 
-  pub count-text : ExactlyIn {M = None} text Countable (countOrder names n states text) counting.Refused
-      (λ r m. CountsText names n states text r) tt
+  pub count-text : {ρ : Rules} → ExactlyIn {M = None} text Countable (countOrder names n states text) counting.Refused
+      (λ r m. CountsText ρ names n states text r) tt
   unfolding CountsIn
   count-text =
       exactly-in text count-passes
       (record {
         reason = λ r m w. w .comes;
-        parts = λ x m w. text-parts x (w .comes);
+        parts = λ x m w. text-parts _ x (w .comes);
         refuses = λ r h. record { comes = h };
         one = both (λ a b x y. counts-unique x y);
       })
 
   module _ (out : List ℕ) where
     -- c is counted, whatever is written
-    pub record InLine (c : Counting) : Type 0 where
+    pub record InLine (ρ : Rules) (c : Counting) : Type 0 where
       pub written : Outcome
       pub out′ : List ℕ
-      pub made : TableLine names n states text out out′ (record { counted = c; written = written })
+      pub made : TableLine ρ names n states text out out′ (record { counted = c; written = written })
 
-    pub counted-in-line : ExactlyIn {M = None} text Countable (countOrder names n states text) counting.Refused
-        (λ r m. InLine r) tt
+    pub counted-in-line : {ρ : Rules}
+        → ExactlyIn {M = None} text Countable (countOrder names n states text) counting.Refused
+        (λ r m. InLine ρ r) tt
     counted-in-line = narrowed count-text (λ x m w. w .made .counts)
 
     -- whatever is counted, the line is refused with 9, where there is no room for it
-    pub table-line : (c : Counting)
+    pub table-line : {ρ : Rules} (c : Counting)
         → Exactly (length (lineOf text n c) ≤ length out) (lineOrder (lineOf text n c) (length out)) outcome.Refused
-        (λ r m. TableLine names n states text out m (record { counted = c; written = r })) out
+        (λ r m. TableLine ρ names n states text out m (record { counted = c; written = r })) out
     table-line c = narrowed (line out (lineOf text n c)) (λ x m w. w .writes)
 
 -- The correction of a row by letters.
@@ -163,18 +166,20 @@ module _ {A : Type 0} (into : A → Expression) (of : Sort) (shown : A → List 
       })
 
 module _ (names times states text out : List ℕ) where
-  abbrev pub answers-shown : Vector → List ℕ
-  answers-shown = patternListing (length names / 32) times states
+  abbrev pub answers-shown : Rules → Vector → List ℕ
+  answers-shown ρ = patternListing ρ (length names / 32) times states
 
-  abbrev pub values-shown : Boolean → List ℕ
-  values-shown = valueListing (length names / 32) times states
+  abbrev pub values-shown : Rules → Boolean → List ℕ
+  values-shown ρ = valueListing ρ (length names / 32) times states
 
-  pub list-text : ExactlyIn text (TextListable vector sort.Vector answers-shown names times states text out)
-      (listOrder vector sort.Vector answers-shown names times states text (length out)) outcome.Refused
-      (λ r m. ListsPattern names times states text out m r) out
-  list-text = lists-exactly vector sort.Vector answers-shown names times states text out vector-one
+  pub list-text : (ρ : Rules)
+      → ExactlyIn text (TextListable vector sort.Vector (answers-shown ρ) names times states text out)
+      (listOrder vector sort.Vector (answers-shown ρ) names times states text (length out)) outcome.Refused
+      (λ r m. ListsPattern ρ names times states text out m r) out
+  list-text ρ = lists-exactly vector sort.Vector (answers-shown ρ) names times states text out vector-one
 
-  pub values-text : ExactlyIn text (TextListable boolean sort.Boolean values-shown names times states text out)
-      (listOrder boolean sort.Boolean values-shown names times states text (length out)) outcome.Refused
-      (λ r m. ListsValues names times states text out m r) out
-  values-text = lists-exactly boolean sort.Boolean values-shown names times states text out boolean-one
+  pub values-text : (ρ : Rules)
+      → ExactlyIn text (TextListable boolean sort.Boolean (values-shown ρ) names times states text out)
+      (listOrder boolean sort.Boolean (values-shown ρ) names times states text (length out)) outcome.Refused
+      (λ r m. ListsValues ρ names times states text out m r) out
+  values-text ρ = lists-exactly boolean sort.Boolean (values-shown ρ) names times states text out boolean-one

@@ -5,6 +5,7 @@ use mathlib.Core.Logic.{_⊎_, inl, inr}
 use mathlib.Core.List.{List}
 use lib.ListN.{length}
 use Rattle.basics.specs.declared.Outcome.the-variants as outcome
+use Rattle.alf.specs.declared.Rules.{Rules}
 use Rattle.alf.specs.Refusals.{NameCount, Passed, Comes}
 use Rattle.queue.specs.declared.queues.Queue.{Queue}
 use Rattle.states.specs.FirstBadCode.{Codes}
@@ -58,9 +59,9 @@ module _ (names n : ℕ) (tree steps tests edges operands states : List ℕ) whe
         → Passed (listed.rowOrder names n tree steps tests edges operands states row)
     match-passes g = row-passed states n row (g .trace .lists) (g .accepted) (g .trace .codes) (g .asked)
 
-    pub listed-match-row : Exactly {M = None} (GoodLists (row < n))
+    pub listed-match-row : {ρ : Rules} → Exactly {M = None} (GoodLists (row < n))
         (listed.rowOrder names n tree steps tests edges operands states row) matching.Refused
-        (λ r m. listed.ListedMatch names n tree steps tests edges operands states row r) tt
+        (λ r m. listed.ListedMatch ρ names n tree steps tests edges operands states row r) tt
     unfolding Finds
     listed-match-row =
         exactly match-passes
@@ -80,10 +81,10 @@ module _ (names n : ℕ) (tree steps tests edges operands states : List ℕ) whe
         (room × Rows names n (length states)))
     all-pass g = codes-passed states (g .asked, g .trace .lists) (g .accepted) (g .trace .codes)
 
-    pub listed-match-all : Exactly {M = Two} (GoodLists room)
+    pub listed-match-all : {ρ : Rules} → Exactly {M = Two} (GoodLists room)
         (listed.rowsOrder names n tree steps tests edges operands states (room × Rows names n (length states)))
         outcome.Refused
-        (λ r m. listed.ListedAll names n tree steps tests edges operands states answers tried (m .0) (m .1) r)
+        (λ r m. listed.ListedAll ρ names n tree steps tests edges operands states answers tried (m .0) (m .1) r)
         (answers, tried)
     unfolding Comes after
     listed-match-all =
@@ -99,9 +100,9 @@ module _ (names n : ℕ) (tree steps tests edges operands states : List ℕ) whe
       → Passed (listed.rowsOrder names n tree steps tests edges operands states (Rows names n (length states)))
   totals-pass g = codes-passed states (g .trace .lists) (g .accepted) (g .trace .codes)
 
-  pub listed-totals : Exactly {M = None} (GoodLists (Unit {0}))
+  pub listed-totals : {ρ : Rules} → Exactly {M = None} (GoodLists (Unit {0}))
       (listed.rowsOrder names n tree steps tests edges operands states (Rows names n (length states)))
-      counting.Refused (λ r m. listed.ListedTotals names n tree steps tests edges operands states r) tt
+      counting.Refused (λ r m. listed.ListedTotals ρ names n tree steps tests edges operands states r) tt
   unfolding Counts
   listed-totals =
       exactly totals-pass
@@ -118,20 +119,21 @@ module _ (names : ℕ) (tree steps tests edges operands : List ℕ) (queue : Que
     pub fits : RowFits names (length row)
     pub codes : Codes row
 
-  takes-parts : (x : Matching) (q : Queue) → listed.Takes names tree steps tests edges operands queue row x q
+  takes-parts : (ρ : Rules) (x : Matching) (q : Queue)
+      → listed.Takes ρ names tree steps tests edges operands queue row x q
       → Passed (listed.pushOrder names tree steps tests edges operands queue row) ⊎ IsRefusal matching.Refused x
   unfolding listed.Takes
-  takes-parts (matching.Found m) q w = inl (w .0)
-  takes-parts (matching.Refused r) q w = inr (r, refl)
+  takes-parts ρ (matching.Found m) q w = inl (w .0)
+  takes-parts ρ (matching.Refused r) q w = inr (r, refl)
 
-  pub listed-push : Exactly Pushable (listed.pushOrder names tree steps tests edges operands queue row)
-      matching.Refused (λ r q. listed.ListedPush names tree steps tests edges operands queue row r q) queue
+  pub listed-push : {ρ : Rules} → Exactly Pushable (listed.pushOrder names tree steps tests edges operands queue row)
+      matching.Refused (λ r q. listed.ListedPush ρ names tree steps tests edges operands queue row r q) queue
   unfolding listed.Takes
   listed-push =
       exactly (λ g. codes-passed row (g .fits) (g .handed) (g .codes))
       (record {
         reason = λ r q w. w .comes .0;
-        parts = λ x q w. takes-parts x q (w .comes);
+        parts = λ x q w. takes-parts _ x q (w .comes);
         refuses = λ r h. record { comes = (h, refl) };
         one = demand-1 .listed-push names tree steps tests edges operands queue row .one;
       })

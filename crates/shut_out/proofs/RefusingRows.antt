@@ -8,6 +8,8 @@ use mathlib.Core.Path.{_≡_, refl}
 use mathlib.Core.Logic.{_⊎_, inl, inr}
 use mathlib.Core.List.{List}
 use lib.ListN.{length}
+use Rattle.alf.specs.Values.{oldRules}
+use Rattle.alf.specs.declared.Rules.{Rules}
 use Rattle.alf.specs.declared.Answer.{Answer}
 use Rattle.alf.specs.declared.Sort.{Sort}
 use Rattle.alf.specs.declared.Sort.the-variants.{Boolean, Vector}
@@ -92,7 +94,7 @@ module _ (names n : ℕ) (states : List ℕ) (row : ℕ) where
         reason = λ r m w. w;
         parts = λ x m w. changes-parts x w;
         refuses = λ r h. h;
-        one = both (demand-1 .changes-at names n states row);
+        one = both (demand-1 {ρ = oldRules} .changes-at names n states row);
       })
 
 -- A tree handed in.
@@ -106,8 +108,8 @@ module _ (names n : ℕ) (tree states : List ℕ) where
   rows-pass sort lent g = codes-passed states (g .room, g .trace .lists) (g .accepted) (g .trace .codes)
 
   module _ (row : ℕ) where
-    pub row-state : Exactly {M = None} (GoodRow names n tree Boolean states row)
-        (rowOrder names n tree Boolean states row) outcome.Refused (λ r m. RowState names n tree states row r) tt
+    pub row-state : {ρ : Rules} → Exactly {M = None} (GoodRow names n tree Boolean states row)
+        (rowOrder names n tree Boolean states row) outcome.Refused (λ r m. RowState ρ names n tree states row r) tt
     unfolding Comes
     row-state =
         exactly (row-passes Boolean row)
@@ -118,8 +120,8 @@ module _ (names n : ℕ) (tree states : List ℕ) where
           one = both (demand-1 .row-state names n tree states row);
         })
 
-    pub row-value : Exactly {M = None} (GoodRow names n tree Boolean states row)
-        (rowOrder names n tree Boolean states row) outcome.Refused (λ r m. RowValue names n tree states row r) tt
+    pub row-value : {ρ : Rules} → Exactly {M = None} (GoodRow names n tree Boolean states row)
+        (rowOrder names n tree Boolean states row) outcome.Refused (λ r m. RowValue ρ names n tree states row r) tt
     unfolding Comes
     row-value =
         exactly (row-passes Boolean row)
@@ -130,8 +132,8 @@ module _ (names n : ℕ) (tree states : List ℕ) where
           one = both (demand-1 .row-value names n tree states row);
         })
 
-    pub row-answer : Exactly {M = None} (GoodRow names n tree Vector states row)
-        (rowOrder names n tree Vector states row) told.Refused (λ r m. RowAnswer names n tree states row r) tt
+    pub row-answer : {ρ : Rules} → Exactly {M = None} (GoodRow names n tree Vector states row)
+        (rowOrder names n tree Vector states row) told.Refused (λ r m. RowAnswer ρ names n tree states row r) tt
     unfolding Tells
     row-answer =
         exactly (row-passes Vector row)
@@ -142,8 +144,8 @@ module _ (names n : ℕ) (tree states : List ℕ) where
           one = both (demand-1 .row-answer names n tree states row);
         })
 
-    pub match-row : Exactly {M = None} (GoodRow names n tree Vector states row)
-        (rowOrder names n tree Vector states row) matching.Refused (λ r m. RowMatch names n tree states row r) tt
+    pub match-row : {ρ : Rules} → Exactly {M = None} (GoodRow names n tree Vector states row)
+        (rowOrder names n tree Vector states row) matching.Refused (λ r m. RowMatch ρ names n tree states row r) tt
     unfolding Finds
     match-row =
         exactly (row-passes Vector row)
@@ -154,9 +156,9 @@ module _ (names n : ℕ) (tree states : List ℕ) where
           one = both (demand-1 .match-row names n tree states row);
         })
 
-  pub window-answer : (from to : ℕ) → Exactly {M = None} (GoodRow names n tree Vector states (max from to))
+  pub window-answer : {ρ : Rules} (from to : ℕ) → Exactly {M = None} (GoodRow names n tree Vector states (max from to))
       (rowOrder names n tree Vector states (max from to)) told.Refused
-      (λ r m. WindowAnswer names n tree states from to r) tt
+      (λ r m. WindowAnswer ρ names n tree states from to r) tt
   unfolding Tells
   window-answer from to =
       exactly (row-passes Vector (max from to))
@@ -167,9 +169,9 @@ module _ (names n : ℕ) (tree states : List ℕ) where
         one = both (demand-1 .window-answer names n tree states from to);
       })
 
-  pub values : (out : List ℕ) → Exactly (GoodRows names n (length out ≡ n) tree Boolean states)
+  pub values : {ρ : Rules} (out : List ℕ) → Exactly (GoodRows names n (length out ≡ n) tree Boolean states)
       (rowsOrder names n (length out ≡ n) tree Boolean states) outcome.Refused
-      (λ r m. AllValues names n tree states out m r) out
+      (λ r m. AllValues ρ names n tree states out m r) out
   unfolding Comes after
   values out =
       exactly (rows-pass Boolean (length out ≡ n))
@@ -180,10 +182,10 @@ module _ (names n : ℕ) (tree states : List ℕ) where
         one = demand-1 .values names n tree states out .one;
       })
 
-  pub match-all : (answers tried : List ℕ)
+  pub match-all : {ρ : Rules} (answers tried : List ℕ)
       → Exactly {M = Two} (GoodRows names n ((length answers ≡ n) × (length tried ≡ n)) tree Vector states)
       (rowsOrder names n ((length answers ≡ n) × (length tried ≡ n)) tree Vector states) outcome.Refused
-      (λ r m. AllMatched names n tree states answers tried (m .0) (m .1) r) (answers, tried)
+      (λ r m. AllMatched ρ names n tree states answers tried (m .0) (m .1) r) (answers, tried)
   unfolding Comes after
   match-all answers tried =
       exactly (rows-pass Vector ((length answers ≡ n) × (length tried ≡ n)))
@@ -197,8 +199,8 @@ module _ (names n : ℕ) (tree states : List ℕ) where
   totals-pass : GoodRows names n (Unit {0}) tree Vector states → Passed (traceOrder names n tree Vector states)
   totals-pass g = codes-passed states (g .trace .lists) (g .accepted) (g .trace .codes)
 
-  pub totals : Exactly {M = None} (GoodRows names n (Unit {0}) tree Vector states)
-      (traceOrder names n tree Vector states) counting.Refused (λ r m. RowTotals names n tree states r) tt
+  pub totals : {ρ : Rules} → Exactly {M = None} (GoodRows names n (Unit {0}) tree Vector states)
+      (traceOrder names n tree Vector states) counting.Refused (λ r m. RowTotals ρ names n tree states r) tt
   unfolding Counts
   totals =
       exactly totals-pass

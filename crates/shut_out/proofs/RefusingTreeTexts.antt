@@ -6,6 +6,7 @@ use native.Mathlib.Omega.{arith}
 use mathlib.Core.Path.{_≡_, refl}
 use mathlib.Core.List.{List}
 use lib.ListN.{length}
+use Rattle.alf.specs.declared.Rules.{Rules}
 use Rattle.alf.specs.declared.Sort.the-variants.{Vector}
 use Rattle.basics.specs.declared.Outcome.the-variants as outcome
 use Rattle.basics.specs.Memory.{after}
@@ -42,15 +43,15 @@ module _ (names n : ℕ) (tree states : List ℕ) where
     abbrev pub Listed : Type 0
     Listed = (length times ≡ n) × Rows names n (length states)
 
-    abbrev pub listed : List ℕ
-    listed = patternListing names times states (expression tree names)
+    abbrev pub listed : Rules → List ℕ
+    listed ρ = patternListing ρ names times states (expression tree names)
 
-    pub list : (out : List ℕ) → Exactly (Textable Listed names tree states listed out)
-        (textOrder Listed names tree states listed (length out)) outcome.Refused
-        (λ r m. ListsTree names n tree times states out m r) out
+    pub list : {ρ : Rules} (out : List ℕ) → Exactly (Textable Listed names tree states (listed ρ) out)
+        (textOrder Listed names tree states (listed ρ) (length out)) outcome.Refused
+        (λ r m. ListsTree ρ names n tree times states out m r) out
     unfolding Comes after
-    list out =
-        exactly (text-passes Listed names tree states listed out)
+    list {ρ} out =
+        exactly (text-passes Listed names tree states (listed ρ) out)
         (record {
           reason = λ r m w. w .comes;
           parts = λ x m w. comes-parts _ _ x (w .comes);
@@ -59,15 +60,16 @@ module _ (names n : ℕ) (tree states : List ℕ) where
         })
 
   module _ (pattern : List ℕ) where
-    abbrev pub line : List ℕ
-    line = totalsLine names n states pattern (expression tree names)
+    abbrev pub line : Rules → List ℕ
+    line ρ = totalsLine ρ names n states pattern (expression tree names)
 
-    pub table-line : (out : List ℕ) → Exactly (Textable (Rows names n (length states)) names tree states line out)
-        (textOrder (Rows names n (length states)) names tree states line (length out)) outcome.Refused
-        (λ r m. LinesTree names n tree states pattern out m r) out
+    pub table-line : {ρ : Rules} (out : List ℕ)
+        → Exactly (Textable (Rows names n (length states)) names tree states (line ρ) out)
+        (textOrder (Rows names n (length states)) names tree states (line ρ) (length out)) outcome.Refused
+        (λ r m. LinesTree ρ names n tree states pattern out m r) out
     unfolding Comes after
-    table-line out =
-        exactly (text-passes (Rows names n (length states)) names tree states line out)
+    table-line {ρ} out =
+        exactly (text-passes (Rows names n (length states)) names tree states (line ρ) out)
         (record {
           reason = λ r m w. w .comes;
           parts = λ x m w. comes-parts _ _ x (w .comes);

@@ -7,6 +7,7 @@ use mathlib.Core.Path.{_≡_, refl}
 use mathlib.Core.Logic.{_⊎_, inl, inr}
 use mathlib.Core.List.{List}
 use lib.ListN.{length}
+use Rattle.alf.specs.declared.Rules.{Rules}
 use Rattle.alf.specs.declared.Sort.the-variants.{Vector}
 use Rattle.basics.specs.declared.Outcome.the-variants as outcome
 use Rattle.alf.specs.Refusals.{Passed, Comes}
@@ -48,8 +49,9 @@ module _ (names n : ℕ) (tree states : List ℕ) where
       ),
     )
 
-    pub correct : Exactly {M = Two} Correctable (correctionOrder names n tree states answers row new) outcome.Refused
-        (λ r m. Correction names n tree states answers row new (m .0) (m .1) r) (states, answers)
+    pub correct : {ρ : Rules}
+        → Exactly {M = Two} Correctable (correctionOrder names n tree states answers row new) outcome.Refused
+        (λ r m. Correction ρ names n tree states answers row new (m .0) (m .1) r) (states, answers)
     unfolding Comes after
     correct =
         exactly correct-passes
@@ -67,20 +69,20 @@ module _ (names : ℕ) (tree : List ℕ) (queue : Queue) (row : List ℕ) where
     pub fits : RowFits names (length row)
     pub codes : Codes row
 
-  takes-parts : (x : Matching) (q : Queue) → Takes names tree queue row x q
+  takes-parts : (ρ : Rules) (x : Matching) (q : Queue) → Takes ρ names tree queue row x q
       → Passed (pushOrder names tree queue row) ⊎ IsRefusal matching.Refused x
   unfolding Takes
-  takes-parts (matching.Found m) q w = inl (w .0)
-  takes-parts (matching.Refused r) q w = inr (r, refl)
+  takes-parts ρ (matching.Found m) q w = inl (w .0)
+  takes-parts ρ (matching.Refused r) q w = inr (r, refl)
 
-  pub push : Exactly Pushable (pushOrder names tree queue row) matching.Refused
-      (λ r q. Push names tree queue row r q) queue
+  pub push : {ρ : Rules} → Exactly Pushable (pushOrder names tree queue row) matching.Refused
+      (λ r q. Push ρ names tree queue row r q) queue
   unfolding Takes
   push =
       exactly (λ g. codes-passed row (g .fits) (g .handed) (g .codes))
       (record {
         reason = λ r q w. w .comes .0;
-        parts = λ x q w. takes-parts x q (w .comes);
+        parts = λ x q w. takes-parts _ x q (w .comes);
         refuses = λ r h. record { comes = (h, refl) };
         one = demand-1 .push names tree queue row .one;
       })

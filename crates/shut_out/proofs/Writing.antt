@@ -9,6 +9,8 @@ use native.Mathlib.Omega.{arith}
 use mathlib.Core.Path.{_≡_, sym, ap, _∙_}
 use mathlib.Core.List.{List, [], _∷_, _++_}
 use lib.ListN.{length, getD, take, drop, length-append, length-take, List·getD-append}
+use Rattle.alf.specs.Values.{oldRules}
+use Rattle.alf.specs.declared.Rules.{Rules}
 use Rattle.alf.specs.Names.{namesIn}
 use Rattle.basics.specs.declared.Refusal.{Refusal}
 use Rattle.alf.specs.declared.Sort.{Sort}
@@ -83,37 +85,37 @@ rows-swapped n₀ t₀ s₀ m r a b c w e =
 -- a refusal that has written something
 module _ {names tree : List ℕ} {sort : Sort} {out out′ : List ℕ} {e : Refusal} where
   pub wrote-and-refused : writing.Writes names tree sort out out′ (Refused e) → (out′ ≡ out → ⊥) → ⊥
-  wrote-and-refused w differ = differ (demand-1 .write-expression names tree sort out .stays e out′ w)
+  wrote-and-refused w differ = differ (demand-1 {ρ = oldRules} .write-expression names tree sort out .stays e out′ w)
 
-pub matched-and-refused : {k n : ℕ} {tree codes answers tried answers′ tried′ : List ℕ} {e : Refusal}
-    → AllMatched k n tree codes answers tried answers′ tried′ (Refused e)
+pub matched-and-refused : {ρ : Rules} {k n : ℕ} {tree codes answers tried answers′ tried′ : List ℕ} {e : Refusal}
+    → AllMatched ρ k n tree codes answers tried answers′ tried′ (Refused e)
     → ((answers′ ≡ answers) × (tried′ ≡ tried) → ⊥) → ⊥
-matched-and-refused {k} {n} {tree} {codes} {answers} {tried} {answers′} {tried′} {e} w differ =
-    let s = demand-1 .match-all k n tree codes answers tried .stays e (answers′, tried′) w in
+matched-and-refused {ρ} {k} {n} {tree} {codes} {answers} {tried} {answers′} {tried′} {e} w differ =
+    let s = demand-1 {ρ = ρ} .match-all k n tree codes answers tried .stays e (answers′, tried′) w in
     differ (ap (λ (p : Two). p .0) s, ap (λ (p : Two). p .1) s)
 
-pub corrected-and-refused : {k n : ℕ} {tree codes answers : List ℕ} {row : ℕ}
+pub corrected-and-refused : {ρ : Rules} {k n : ℕ} {tree codes answers : List ℕ} {row : ℕ}
     {new codes′ answers′ : List ℕ} {e : Refusal}
-    → Correction k n tree codes answers row new codes′ answers′ (Refused e)
+    → Correction ρ k n tree codes answers row new codes′ answers′ (Refused e)
     → ((codes′ ≡ codes) × (answers′ ≡ answers) → ⊥) → ⊥
-corrected-and-refused {k} {n} {tree} {codes} {answers} {row} {new} {codes′} {answers′} {e} w differ =
-    let s = demand-1 .correct k n tree codes answers row new .stays e (codes′, answers′) w in
+corrected-and-refused {ρ} {k} {n} {tree} {codes} {answers} {row} {new} {codes′} {answers′} {e} w differ =
+    let s = demand-1 {ρ = ρ} .correct k n tree codes answers row new .stays e (codes′, answers′) w in
     differ (ap (λ (p : Two). p .0) s, ap (λ (p : Two). p .1) s)
 
 pub read-and-refused : (bytes n₀ t₀ s₀ : List ℕ) (m : Three) (e : Refusal)
     → Reads bytes n₀ t₀ s₀ (m .0) (m .1) (m .2) (file.Refused e) → (m ≡ (n₀, t₀, s₀) → ⊥) → ⊥
-read-and-refused bytes n₀ t₀ s₀ m e w differ = differ (demand-1 .read-trace bytes n₀ t₀ s₀ .stays e m w)
+read-and-refused bytes n₀ t₀ s₀ m e w differ = differ (demand-1 {ρ = oldRules} .read-trace bytes n₀ t₀ s₀ .stays e m w)
 
-pub listed-and-refused : {k n : ℕ} {tree times states out out′ : List ℕ} {e : Refusal}
-    → ListsTree k n tree times states out out′ (Refused e) → (out′ ≡ out → ⊥) → ⊥
-listed-and-refused {k} {n} {tree} {times} {states} {out} {out′} {e} w differ =
-    differ (demand-1 .list k n tree states times out .stays e out′ w)
+pub listed-and-refused : {ρ : Rules} {k n : ℕ} {tree times states out out′ : List ℕ} {e : Refusal}
+    → ListsTree ρ k n tree times states out out′ (Refused e) → (out′ ≡ out → ⊥) → ⊥
+listed-and-refused {ρ} {k} {n} {tree} {times} {states} {out} {out′} {e} w differ =
+    differ (demand-1 {ρ = ρ} .list k n tree states times out .stays e out′ w)
 
 pub rewrote-and-refused : {k : ℕ} {tree s t e o s′ t′ e′ o′ : List ℕ} {r : Refusal}
     → Rewrites k tree s t e o s′ t′ e′ o′ (Refused r)
     → ((s′ ≡ s) × (t′ ≡ t) × (e′ ≡ e) × (o′ ≡ o) → ⊥) → ⊥
 rewrote-and-refused {k} {tree} {s} {t} {e} {o} {s′} {t′} {e′} {o′} {r} w differ =
-    let p = demand-1 .rewrite k tree s t e o .stays r (s′, t′, e′, o′) w in
+    let p = demand-1 {ρ = oldRules} .rewrite k tree s t e o .stays r (s′, t′, e′, o′) w in
     differ (
       ap (λ (x : Four). x .0) p,
       ap (λ (x : Four). x .1) p,
@@ -121,7 +123,8 @@ rewrote-and-refused {k} {tree} {s} {t} {e} {o} {s′} {t′} {e′} {o′} {r} w
       ap (λ (x : Four). x .3) p,
     )
 
-pub pushed-and-refused : {k : ℕ} {tree : List ℕ} {queue : Queue} {row : List ℕ} {queue′ : Queue} {e : Refusal}
-    → Push k tree queue row (matching.Refused e) queue′ → (queue′ ≡ queue → ⊥) → ⊥
-pushed-and-refused {k} {tree} {queue} {row} {queue′} {e} w differ =
-    differ (demand-1 .push k tree queue row .stays e queue′ w)
+pub pushed-and-refused : {ρ : Rules} {k : ℕ} {tree : List ℕ} {queue : Queue} {row : List ℕ} {queue′ : Queue}
+    {e : Refusal}
+    → Push ρ k tree queue row (matching.Refused e) queue′ → (queue′ ≡ queue → ⊥) → ⊥
+pushed-and-refused {ρ} {k} {tree} {queue} {row} {queue′} {e} w differ =
+    differ (demand-1 {ρ = ρ} .push k tree queue row .stays e queue′ w)

@@ -1,4 +1,5 @@
 // The command's words: patterns, and behind `-f` files of patterns. On a terminal it is told how far long work is.
+use alf::Rules;
 use complaints::unfit;
 use console::output::complain;
 use console::output::note;
@@ -12,6 +13,7 @@ use table_lines::lines::Sums;
 
 // The patterns of m bytes that a file's name gave: the room is one byte more than a file may have.
 fn read_lines(
+    rules: Rules,
     names: &[u8],
     n: usize,
     states: &[u8],
@@ -26,11 +28,12 @@ fn read_lines(
         note(b": a file of patterns has at most 1,048,576 bytes\n");
         return s;
     }
-    lines(names, n, states, &data[0..m], s)
+    lines(rules, names, n, states, &data[0..m], s)
 }
 
 // The patterns of a file; one that is not read to its end is not used at all.
 fn file_lines(
+    rules: Rules,
     names: &[u8],
     n: usize,
     states: &[u8],
@@ -41,11 +44,12 @@ fn file_lines(
     let filled = fill(path, data);
     match filled {
         Filled::Failed => s,
-        Filled::Bytes(m) => read_lines(names, n, states, path, data, m, s),
+        Filled::Bytes(m) => read_lines(rules, names, n, states, path, data, m, s),
     }
 }
 
 fn file_lent(
+    rules: Rules,
     names: &[u8],
     n: usize,
     states: &[u8],
@@ -53,22 +57,30 @@ fn file_lent(
     data: &mut [u8; 1048577],
     s: Sums,
 ) -> Sums {
-    file_lines(names, n, states, path, data, s)
+    file_lines(rules, names, n, states, path, data, s)
 }
 
-fn file(names: &[u8], n: usize, states: &[u8], path: &[u8], s: Sums) -> Sums {
+fn file(rules: Rules, names: &[u8], n: usize, states: &[u8], path: &[u8], s: Sums) -> Sums {
     let mut data = [0u8; 1048577];
-    file_lent(names, n, states, path, &mut data, s)
+    file_lent(rules, names, n, states, path, &mut data, s)
 }
 
 // Argument i: a pattern; behind `-f` a file of patterns.
-fn argument(names: &[u8], n: usize, states: &[u8], i: usize, behind: bool, s: Sums) -> Sums {
+fn argument(
+    rules: Rules,
+    names: &[u8],
+    n: usize,
+    states: &[u8],
+    i: usize,
+    behind: bool,
+    s: Sums,
+) -> Sums {
     let mut text = io::large_buffer();
     let m = take_argument(i, &mut text);
     if behind {
-        return file(names, n, states, &text[..m], s);
+        return file(rules, names, n, states, &text[..m], s);
     }
-    pattern(names, n, states, &text[..m], s)
+    pattern(rules, names, n, states, &text[..m], s)
 }
 
 // Whether argument i is `-f`; behind `-f` it is a file.
@@ -115,16 +127,24 @@ fn finish(behind: bool, n: usize) {
     }
 }
 
-// All patterns of the command's words, from argument 3 on.
-pub fn arguments(names: &[u8], n: usize, states: &[u8], count: usize, s: Sums) -> Sums {
+// All patterns of the command's words, from argument `first` on.
+pub fn arguments(
+    rules: Rules,
+    first: usize,
+    names: &[u8],
+    n: usize,
+    states: &[u8],
+    count: usize,
+    s: Sums,
+) -> Sums {
     let mut sums = s;
     let mut behind = false;
-    let mut i: usize = 3;
+    let mut i: usize = first;
     while i < count {
         progress(i, count, n);
         let option = is_option(i, behind);
         if !option {
-            sums = argument(names, n, states, i, behind, sums);
+            sums = argument(rules, names, n, states, i, behind, sums);
         }
         behind = option;
         i += 1;

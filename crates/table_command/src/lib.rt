@@ -3,6 +3,8 @@
 mod arguments;
 
 use crate::arguments::arguments;
+use alf::Rules;
+use console::output::say;
 use jobs::sums::no_sums;
 use pattern_lines::accounts::say_heading;
 use pattern_lines::accounts::say_total;
@@ -18,10 +20,22 @@ fn end(s: Sums, line: &mut [u8; 4096]) {
     say_total(line, s);
 }
 
-pub fn table(names: &[u8], n: usize, states: &[u8]) {
+// A last line says that the table is by the rule of equal branches. Without that line it is by document 01's rule.
+fn say_rules(rules: Rules) {
+    if rules.equal_branches {
+        say(b"rules\tequal-branches\n");
+    }
+}
+
+// The words from argument `first` on are patterns.
+pub fn table(rules: Rules, first: usize, names: &[u8], n: usize, states: &[u8]) {
     let mut line = io::buffer();
     let s = begin(n, &mut line);
-    end(arguments(names, n, states, os::arg_count(), s), &mut line);
+    end(
+        arguments(rules, first, names, n, states, os::arg_count(), s),
+        &mut line,
+    );
+    say_rules(rules);
 }
 
 // A first look: the vector expressions of document 01's table T on T, names A B C and rows 011 111 10X X01 1Z1 10H.
@@ -29,6 +43,9 @@ pub fn first_look() {
     let mut line = io::buffer();
     let s = begin(6, &mut line);
     let t = lines(
+        Rules {
+            equal_branches: false,
+        },
         b"A\0\0\0\0\0\0\0\0\0\0\0\0\0\0\0\0\0\0\0\0\0\0\0\0\0\0\0\0\0\0\0\
           B\0\0\0\0\0\0\0\0\0\0\0\0\0\0\0\0\0\0\0\0\0\0\0\0\0\0\0\0\0\0\0\
           C\0\0\0\0\0\0\0\0\0\0\0\0\0\0\0\0\0\0\0\0\0\0\0\0\0\0\0\0\0\0\0",

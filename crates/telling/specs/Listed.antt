@@ -4,9 +4,10 @@ use mathlib.Core.List.{List}
 use Rattle.queue.specs.declared.queues.Queue.{Queue}
 use Rattle.queue_calls.specs.declared.pushing.Pushing.{Pushing}
 use Rattle.listed_calls.specs.Listed.{ListedPush}
+use Rattle.alf.specs.declared.Rules.{Rules}
 
 -- what came of the push, refused or not, and the queue then
-abbrev pub ListedPushes :
+abbrev pub ListedPushes : Rules →
     ℕ → List ℕ → List ℕ → List ℕ → List ℕ → List ℕ → Queue → List ℕ → Pushing → Type 0
-ListedPushes names tree steps tests edges operands queue row p =
-    ListedPush names tree steps tests edges operands queue row (p .told) (p .queue)
+ListedPushes ρ names tree steps tests edges operands queue row p =
+    ListedPush ρ names tree steps tests edges operands queue row (p .told) (p .queue)

@@ -4,6 +4,7 @@
 --   queueOf, Pushes                     a queue of C's as the call's, and what a push hands on
 use Prim.Native.Nat.{ℕ}
 use mathlib.Core.List.{List}
+use Rattle.alf.specs.declared.Rules.{Rules}
 use Rattle.alf.specs.Answers.{numberOf}
 use Rattle.queue.specs.declared.queues.Queue as updates
 use Rattle.matching_calls.specs.declared.matching.Matching.{Matching}
@@ -32,8 +33,8 @@ unfoldable pub queueOf : Queue → updates.Queue
 queueOf q = record { kept = record { 0 = q .kept }; states = q .states }
 
 -- what came of a push, refused or not, and the queue then
-abbrev pub Pushes : ℕ → List ℕ → updates.Queue → List ℕ → Pushing → Type 0
-Pushes names tree queue row p = Push names tree queue row (p .told) (p .queue)
+abbrev pub Pushes : Rules → ℕ → List ℕ → updates.Queue → List ℕ → Pushing → Type 0
+Pushes ρ names tree queue row p = Push ρ names tree queue row (p .told) (p .queue)
 
 unfoldable pub toldPush : Pushing → Pushed
 toldPush p =

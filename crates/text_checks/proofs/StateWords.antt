@@ -1,6 +1,6 @@
 -- The states of a line, one after the other.
---   states-none, states-missing, states-bad, states-next, states-done     no state yet; a word is missing, is no state, is
---                                                                         one; all are
+--   states-none, states-missing, states-bad, states-next, states-done     no state yet; a word is missing, is no
+--                                                                         state, is one; all are
 --   code-long, code-one                                                   the code of a word
 use Prim.Native.Nat.{ℕ, suc, _+_, _-_, _<_, _≤_}
 use native.Mathlib.Omega.{arith}

@@ -98,7 +98,8 @@ module _ {word : List ℕ} {n i : ℕ} (g : Timing word n i) where
     pub time-high : 57 < getD word i 0 → ReadsTime word false 0
     unfolding isDecimal
     time-high l =
-        let e : isDecimal (getD word i 0) ≡ false = rw (lt-leb (getD word i 0) 57 l) (and-no (leb 48 (getD word i 0))) in
+        let e : isDecimal (getD word i 0) ≡ false =
+        rw (lt-leb (getD word i 0) 57 l) (and-no (leb 48 (getD word i 0))) in
         untimely (sym here ∙ no-digit n (getD word i 0) (drop (suc i) word) e)
 
     module _ (low : 48 ≤ getD word i 0) (high : getD word i 0 ≤ 57) where
@@ -111,7 +112,8 @@ module _ {word : List ℕ} {n i : ℕ} (g : Timing word n i) where
 
       value-next : reading (n * 10 + (getD word i 0 - 48)) (drop (suc i) word) ≡ reading 0 word
       value-next =
-          sym (digit-read n (getD word i 0) (drop (suc i) word)) ∙ ap (reading n) (sym (drop-cons word i 0 h)) ∙ g .value
+          sym (digit-read n (getD word i 0) (drop (suc i) word)) ∙ ap (reading n) (sym (drop-cons word i 0 h))
+          ∙ g .value
 
       pub time-large : timeBound ≤ n * 10 + (getD word i 0 - 48) → ReadsTime word false 0
       time-large l = untimely (sym next ∙ too-large _ (drop (suc i) word) l)

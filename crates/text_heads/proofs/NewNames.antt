@@ -92,7 +92,8 @@ module _ {text : List ℕ} {p i s e : ℕ} (w : WordIs text p i s e) where
             let q : m ≡ j = omega arith in
             λ r. never (sym x ∙ y (sym (there h) ∙ ap (λ (v : ℕ). getD names v none .bytes) (sym q) ∙ r ∙ here))
 
-    pub new-all : {b : Bool} → i ≤ j → b ≡ isName (take (e - s) (drop s text)) → b ≡ true → Decides true (NewName names i)
+    pub new-all : {b : Bool} → i ≤ j → b ≡ isName (take (e - s) (drop s text)) → b ≡ true
+        → Decides true (NewName names i)
     new-all h y x =
         let q : j ≡ i = omega (arith, g .within) in
         holds (record { name = ap isName here ∙ sym y ∙ x; new = λ m k. g .other m (omega arith) })

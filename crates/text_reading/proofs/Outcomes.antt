@@ -41,7 +41,8 @@ module _ {text : List ℕ} {h : ℕ} (n : Next text 0 h) where
 
   module _ (other : h ≡ length text → ⊥) where
     inside : h < length text
-    inside = lt-stable h (length text) (λ m. other (omega (arith, le-stable (length text) h (λ f. m (omega arith)), n .within)))
+    inside = lt-stable h (length text)
+        (λ m. other (omega (arith, le-stable (length text) h (λ f. m (omega arith)), n .within)))
 
     module _ {k end : ℕ} {passed : Bool} (c : CountsNames (from text h .first) k passed end) where
       pub head-in : HeadIn text h k end
@@ -66,7 +67,8 @@ module _ {text : List ℕ} {h : ℕ} (n : Next text 0 h) where
         unfolding Checks
         head-refused checked e = rw (apart .order) (by-first _ _ (comes-refused _ _ checked e))
 
-        module _ {x : Outcome} {m : ℕ} (checked : Comes (headOrder (from text h .first)) (λ m. m ≡ k) x) (e : x ≡ Done m)
+        module _ {x : Outcome} {m : ℕ} (checked : Comes (headOrder (from text h .first)) (λ m. m ≡ k) x)
+            (e : x ≡ Done m)
           where
             in-head : Passed (headOrder (from text h .first))
             in-head = comes-done _ _ checked e .0
@@ -117,7 +119,8 @@ module _ {text : List ℕ} {k n : ℕ} (g : Checked text k n) where
     rows-are : n ≡ length (saidFrom text b)
     rows-are = g .counted ∙ ap length (split .rows-are)
 
-    rows-pass : Passed (rowsOrder (length (nameWords (from text h .first))) (wide (from text h .first)) (saidFrom text b)
+    rows-pass : Passed (rowsOrder (length (nameWords (from text h .first))) (wide (from text h .first))
+        (saidFrom text b)
         (length (saidFrom text b)))
     rows-pass =
         passed-left
@@ -147,7 +150,8 @@ module _ {text : List ℕ} {k n : ℕ} (g : Checked text k n) where
           within = next .within;
           counted = names-are;
           short = λ i l.
-              name-short _ (one-name (nameWords head) (length (nameWords head)) i in-names (omega (arith, l, names-are)) .1 .name);
+              name-short _ (one-name (nameWords head) (length (nameWords head)) i in-names
+              (omega (arith, l, names-are)) .1 .name);
           room = omega (arith, room, names-long head, names-are);
         }
 
@@ -162,7 +166,8 @@ module _ {text : List ℕ} {k n : ℕ} (g : Checked text k n) where
           counted = rows-are;
           timely = λ r l.
               row-time (length (nameWords (from text h .first))) (wide (from text h .first)) rows r
-              (one-row (length (nameWords (from text h .first))) (wide (from text h .first)) rows (length rows) r rows-pass
+              (one-row (length (nameWords (from text h .first))) (wide (from text h .first)) rows (length rows) r
+              rows-pass
               (omega (arith, l, rows-are)));
           times-room = omega (arith, t, times-long rows, rows-are);
           states-room = omega (arith, s, long);

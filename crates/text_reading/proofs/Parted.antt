@@ -24,7 +24,8 @@ pub record Parted (text : List ℕ) (h b : ℕ) : Type 1 where
   pub rows-are : rowsOf text ≡ saidFrom text b
   pub order : textOrder text
       ≡ headOrder (from text h .first)
-      ++ linesOrder (length (nameWords (from text h .first))) (wide (from text h .first)) (length text) (saidFrom text b)
+      ++ linesOrder (length (nameWords (from text h .first))) (wide (from text h .first)) (length text)
+      (saidFrom text b)
 
 said-all : (text : List ℕ) → linesOf text ≡ saidFrom text 0
 unfolding linesOf saidFrom from

@@ -63,8 +63,13 @@ module _ {text : List ℕ} {k n : ℕ} (g : Checked text k n) (names times state
       unfolding MakesTrace Passed
       filled c next behind ns rs =
           let parts = split g next behind in
-          let room : Passed (roomOrder names times states k n) =
-          ((λ q x. omega (arith, x .given, a)), ((λ q x. omega (arith, x .given, b)), ((λ q x. omega (arith, x .given, c)), tt)))
+          let room : Passed (roomOrder names times states k n) = (
+            (λ q x. omega (arith, x .given, a)),
+            (
+              (λ q x. omega (arith, x .given, b)),
+              ((λ q x. omega (arith, x .given, c)), tt),
+            ),
+          )
           in
           let head = parts .head-is in
           record {

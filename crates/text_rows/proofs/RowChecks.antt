@@ -55,7 +55,8 @@ module _ (r last : ℕ) {row : Line} {at t : ℕ} {good : Bool} (g : TimedAt row
       value : t ≡ timeOf row
       value = g .reads .value is-time
 
-      no-word-time : (q : ℕ) → At (getD (row .words) 0 none .at) (isTime (getD (row .words) 0 none .bytes) ≡ false) q → ⊥
+      no-word-time : (q : ℕ) → At (getD (row .words) 0 none .at) (isTime (getD (row .words) 0 none .bytes) ≡ false) q
+          → ⊥
       no-word-time q a = never (sym (a .given) ∙ sym (g .reads .is) ∙ is-time)
 
       pub time-early : {o : Outcome} (made : ℕ → Type 0) → (r ≡ 0 → ⊥) → t ≤ last → Is o 13 at

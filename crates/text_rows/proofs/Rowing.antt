@@ -127,7 +127,9 @@ module _ {text : List ℕ} {p k : ℕ} {passed : Bool} {at r last : ℕ} (g : Ro
 
     order : rowOrder k passed rows r ≡ timeOrder r soon row ++ restOrder k passed row
     unfolding rowOrder
-    order = ap (λ (l : Line). timeOrder r (early r (timeOf (getD rows (r - 1) noLine)) l) l ++ restOrder k passed l) (here .1)
+    order =
+        ap (λ (l : Line). timeOrder r (early r (timeOf (getD rows (r - 1) noLine)) l) l ++ restOrder k passed l)
+        (here .1)
 
     to : early r last row → soon
     to a = (a .0, rw (g .later (a .0)) at (a .1))
@@ -135,58 +137,63 @@ module _ {text : List ℕ} {p k : ℕ} {passed : Bool} {at r last : ℕ} (g : Ro
     back : soon → early r last row
     back a = (a .0, rw (g .later (a .0)) (a .1))
 
-    module _ {x : Outcome} (c : Comes (timeOrder r (early r last row) row ++ restOrder k passed row) (λ m. m ≡ k) x) where
-      pub rowing-refused : {q : Refusal} (made : ℕ → Type 0) → x ≡ Refused q
-          → Comes (linesOrder k passed (length text) rows) made (Refused q)
-      unfolding Comes
-      rowing-refused {q} made e =
-          let refused = comes-refused _ _ c e in
-          record {
-            by =
-                refused-first (rowsOrder k passed rows (length rows)) _ (q .number) (q .place)
-                (piece-refused (rowsOrder k passed rows) (rowOrder k passed rows) (grows k passed rows) r (length rows)
-                (q .number) (q .place) (here .0) (g .good) (rw order (go (refused-either _ _ _ _ (refused .by)))));
-            bare = refused .bare;
-          }
-        where
-          go : RefusedWith (timeOrder r (early r last row) row) (q .number) (q .place)
-              ⊎ (Passed (timeOrder r (early r last row) row)
-              × RefusedWith (restOrder k passed row) (q .number) (q .place))
-              → RefusedWith (timeOrder r soon row ++ restOrder k passed row) (q .number) (q .place)
-          go (inl a) =
-              refused-first (timeOrder r soon row) (restOrder k passed row) _ _
-              (time-refused r (early r last row) soon row to back _ _ a)
-          go (inr (a, b)) =
-              refused-then (timeOrder r soon row) (restOrder k passed row) _ _
-              (time-passed r (early r last row) soon row back a) b
-
-      module _ {m : ℕ} (e : x ≡ Done m) where
-        passes-row : Passed (rowOrder k passed rows r)
-        passes-row =
-            let both = comes-done _ _ c e .0 in
-            rw order
-            (passed-both (timeOrder r soon row) (restOrder k passed row)
-            (time-passed r (early r last row) soon row back (passed-left (timeOrder r (early r last row) row) _ both))
-            (passed-right (timeOrder r (early r last row) row) _ both))
-
-        timed-row : isTime (getD (row .words) 0 none .bytes) ≡ true
-        timed-row =
-            sym (ap (λ (l : Line). isTime (getD (l .words) 0 none .bytes)) (here .1)) ∙ row-time k passed rows r passes-row
-
-        pub rowing-few : r < 65535
-        rowing-few = row-few k passed rows r passes-row
-
-        pub rowing-next : {a t b at′ : ℕ} {good : Bool} → TimedAt row a good t → Passes text at b → Next text b at′
-            → Rowing text p k passed at′ (r + 1) t
-        rowing-next {b = b} u v w =
+    module _ {x : Outcome} (c : Comes (timeOrder r (early r last row) row ++ restOrder k passed row) (λ m. m ≡ k) x)
+      where
+        pub rowing-refused : {q : Refusal} (made : ℕ → Type 0) → x ≡ Refused q
+            → Comes (linesOrder k passed (length text) rows) made (Refused q)
+        unfolding Comes
+        rowing-refused {q} made e =
+            let refused = comes-refused _ _ c e in
             record {
-              before = b;
-              next = w;
-              left = sym (drop-drop 1 r rows) ∙ ap (drop 1) (g .left) ∙ said-on (g .next) h v w;
-              few = omega (arith, here .0);
-              good = piece-passed (rowsOrder k passed rows) (rowOrder k passed rows) (grows k passed rows) r (g .good) passes-row;
-              later = λ l.
-                  let q : r + 1 - 1 ≡ r = omega arith in
-                  let time = u .reads .value (u .reads .is ∙ timed-row) in
-                  time ∙ ap timeOf (sym (here .1)) ∙ ap (λ (i : ℕ). timeOf (getD rows i noLine)) (sym q);
+              by =
+                  refused-first (rowsOrder k passed rows (length rows)) _ (q .number) (q .place)
+                  (piece-refused (rowsOrder k passed rows) (rowOrder k passed rows) (grows k passed rows) r
+                  (length rows) (q .number) (q .place) (here .0) (g .good)
+                  (rw order (go (refused-either _ _ _ _ (refused .by)))));
+              bare = refused .bare;
             }
+          where
+            go : RefusedWith (timeOrder r (early r last row) row) (q .number) (q .place)
+                ⊎ (Passed (timeOrder r (early r last row) row)
+                × RefusedWith (restOrder k passed row) (q .number) (q .place))
+                → RefusedWith (timeOrder r soon row ++ restOrder k passed row) (q .number) (q .place)
+            go (inl a) =
+                refused-first (timeOrder r soon row) (restOrder k passed row) _ _
+                (time-refused r (early r last row) soon row to back _ _ a)
+            go (inr (a, b)) =
+                refused-then (timeOrder r soon row) (restOrder k passed row) _ _
+                (time-passed r (early r last row) soon row back a) b
+
+        module _ {m : ℕ} (e : x ≡ Done m) where
+          passes-row : Passed (rowOrder k passed rows r)
+          passes-row =
+              let both = comes-done _ _ c e .0 in
+              rw order
+              (passed-both (timeOrder r soon row) (restOrder k passed row)
+              (time-passed r (early r last row) soon row back (passed-left (timeOrder r (early r last row) row) _ both))
+              (passed-right (timeOrder r (early r last row) row) _ both))
+
+          timed-row : isTime (getD (row .words) 0 none .bytes) ≡ true
+          timed-row =
+              sym (ap (λ (l : Line). isTime (getD (l .words) 0 none .bytes)) (here .1))
+              ∙ row-time k passed rows r passes-row
+
+          pub rowing-few : r < 65535
+          rowing-few = row-few k passed rows r passes-row
+
+          pub rowing-next : {a t b at′ : ℕ} {good : Bool} → TimedAt row a good t → Passes text at b → Next text b at′
+              → Rowing text p k passed at′ (r + 1) t
+          rowing-next {b = b} u v w =
+              record {
+                before = b;
+                next = w;
+                left = sym (drop-drop 1 r rows) ∙ ap (drop 1) (g .left) ∙ said-on (g .next) h v w;
+                few = omega (arith, here .0);
+                good =
+                    piece-passed (rowsOrder k passed rows) (rowOrder k passed rows) (grows k passed rows) r (g .good)
+                    passes-row;
+                later = λ l.
+                    let q : r + 1 - 1 ≡ r = omega arith in
+                    let time = u .reads .value (u .reads .is ∙ timed-row) in
+                    time ∙ ap timeOf (sym (here .1)) ∙ ap (λ (i : ℕ). timeOf (getD rows i noLine)) (sym q);
+              }

@@ -38,7 +38,8 @@ listed-part l p a (suc n) h =
     let e : p + (a + 1) ≡ suc (p + a) = omega arith in
     let i : listed (a + 1) n (λ i. getD l (p + i) 0) ≡ take n (drop (p + (a + 1)) l) =
     listed-part l p (a + 1) n (omega arith) in
-    rw (drop-cons l (p + a) 0 here) (ap (λ (x : List ℕ). getD l (p + a) 0 ∷ x) (i ∙ ap (λ (q : ℕ). take n (drop q l)) e))
+    rw (drop-cons l (p + a) 0 here) (ap (λ (x : List ℕ). getD l (p + a) 0 ∷ x)
+    (i ∙ ap (λ (q : ℕ). take n (drop q l)) e))
 
 chunks : (l : List ℕ) (c a m : ℕ)
     → joined (listed a m (λ r. take c (drop (r * c) l))) ≡ take (m * c) (drop (a * c) l)

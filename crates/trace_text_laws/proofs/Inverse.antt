@@ -41,7 +41,8 @@ module _ {text names times states : List ℕ} {n : ℕ} (t : Trace names times s
 
   names-count : nameCount text ≡ namesIn names
   names-count =
-      let a : length (namesMade (headOf text)) ≡ length names = ap (λ (l : Line). length (namesMade l)) head-is ∙ ap length (g .names-read) in
+      let a : length (namesMade (headOf text)) ≡ length names = ap (λ (l : Line). length (namesMade l)) head-is
+      ∙ ap length (g .names-read) in
       omega (arith, a, names-long (headOf text))
 
   rows-count : rowCount text ≡ n
@@ -64,7 +65,8 @@ module _ {text names times states : List ℕ} {n : ℕ} (t : Trace names times s
         record {
           told = rw (a, b) refl;
           names-back =
-              m .names-now ∙ ap (λ (l : Line). front (namesMade l) ns) head-is ∙ ap (λ (l : List ℕ). front l ns) (g .names-read);
+              m .names-now ∙ ap (λ (l : Line). front (namesMade l) ns) head-is ∙ ap (λ (l : List ℕ). front l ns)
+              (g .names-read);
           times-back =
               m .times-now ∙ ap (λ (l : List Line). front (timesMade l) ts) rows-are
               ∙ ap (λ (l : List ℕ). front l ts) (g .times-read);

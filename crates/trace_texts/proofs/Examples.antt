@@ -1,4 +1,5 @@
--- A text that a person wrote, read: a comment, tabs, CR, small letters, no LF at its end, no column `changed`; and a head
+-- A text that a person wrote, read: a comment, tabs, CR, small letters, no LF at its end, no column `changed`;
+-- and a head
 -- whose last pin is called `changed`.
 use mathlib.Core.Path.{_≡_, refl}
 use mathlib.Core.Bool.{false}
@@ -12,7 +13,17 @@ use Rattle.alf.specs.States.{among}
 use Rattle.figures.specs.Numbers.{reading}
 use Rattle.state_letters.specs.Letters.{stateOf}
 use Rattle.trace_texts.specs.Words.{Word, Line, line, isBlank, joins, before, linesFrom, says, saying, linesOf}
-use Rattle.trace_texts.specs.Texts.{isChanged, tells, named, nameWords, wide, codeOf, namesMade, timesMade, statesMade}
+use Rattle.trace_texts.specs.Texts.{
+  isChanged,
+  tells,
+  named,
+  nameWords,
+  wide,
+  codeOf,
+  namesMade,
+  timesMade,
+  statesMade,
+}
 
 unfoldable pub written : List ℕ
 written = bytes "# a note\r\n\r\ntime\tA  B\r\n0 0 x\n  10\t1 Z"
@@ -24,7 +35,8 @@ abbrev rowsIn : List ℕ → List Line
 rowsIn text = drop 1 (linesOf text)
 
 pub written-names : namesMade (headIn written) ≡ slotOf (bytes "A") ++ slotOf (bytes "B")
-unfolding written bytes linesOf linesFrom before isBlank joins says saying namesMade named tells isChanged same joined slotOf
+unfolding written bytes linesOf linesFrom before isBlank joins says saying namesMade named tells isChanged same joined
+    slotOf
 written-names = refl
 
 pub written-times : timesMade (rowsIn written) ≡ 0 ∷ 10 ∷ []

@@ -81,7 +81,10 @@ module _ (k : ℕ) (passed : Bool) (rows : List Line) (r : ℕ) (q : Passed (row
   unfolding rowOrder Passed
   row-few =
       lt-stable r 65535
-      (λ n. q .0 (getD (here .words) 0 none .at) (record { given = le-stable 65535 r (λ f. n (omega arith)); there = refl }))
+      (λ n. q .0 (getD (here .words) 0 none .at) (record {
+        given = le-stable 65535 r (λ f. n (omega arith));
+        there = refl;
+      }))
 
   pub row-time : isTime (getD (here .words) 0 none .bytes) ≡ true
   unfolding rowOrder Passed

@@ -10,6 +10,7 @@ use Rattle.basics.specs.declared.Outcome.{Outcome}
 use Rattle.basics.specs.Words.{listed}
 use Rattle.basics.specs.Text.{bytes, joined}
 use Rattle.basics.proofs.Memory.{after-unique}
+use Rattle.alf.specs.declared.Rules.{Rules}
 use Rattle.alf.specs.Expressions.{Vector}
 use Rattle.alf.specs.Values.{stateAt}
 use Rattle.alf.specs.Windows.{rowAnswer}
@@ -33,33 +34,33 @@ text-unique lists names tree states text room r s a b =
     comes-unique (textOrder lists names tree states text room) _ f (λ j k p q. p ∙ sym q) r s a b
 
 module _ {names n : ℕ} {tree states out x y : List ℕ} {r s : Outcome} where
-  pub list-unique : {times : List ℕ} → ListsTree names n tree times states out x r
-      → ListsTree names n tree times states out y s
+  pub list-unique : {ρ : Rules} {times : List ℕ} → ListsTree ρ names n tree times states out x r
+      → ListsTree ρ names n tree times states out y s
       → (r ≡ s) × (x ≡ y)
-  list-unique {times} a b =
-      let shown = patternListing names times states (expression tree names) in
+  list-unique {ρ} {times} a b =
+      let shown = patternListing ρ names times states (expression tree names) in
       let e = text-unique _ names tree states shown (length out) r s (a .comes) (b .comes) in
       (e, after-unique _ out e (a .memory) (b .memory))
 
-  pub line-unique : {shown : List ℕ} → LinesTree names n tree states shown out x r
-      → LinesTree names n tree states shown out y s
+  pub line-unique : {ρ : Rules} {shown : List ℕ} → LinesTree ρ names n tree states shown out x r
+      → LinesTree ρ names n tree states shown out y s
       → (r ≡ s) × (x ≡ y)
-  line-unique {shown} a b =
-      let line = totalsLine names n states shown (expression tree names) in
+  line-unique {ρ} {shown} a b =
+      let line = totalsLine ρ names n states shown (expression tree names) in
       let e = text-unique _ names tree states line (length out) r s (a .comes) (b .comes) in
       (e, after-unique _ out e (a .memory) (b .memory))
 
 -- the listing of a pattern, its last line by the totals
-pub pattern-totals : (k : ℕ) (times states : List ℕ) (p : Vector)
-    → patternListing k times states p
+pub pattern-totals : (ρ : Rules) (k : ℕ) (times states : List ℕ) (p : Vector)
+    → patternListing ρ k times states p
     ≡ joined
     (bytes "time answer\n"
-    ∷ lines Answers times (listed 0 (length times) (rowAnswer (stateAt k states) p))
-    ∷ lastLine (total (stateAt k states) p (length times) 1) (total (stateAt k states) p (length times) 0)
-    (total (stateAt k states) p (length times) 2)
+    ∷ lines Answers times (listed 0 (length times) (rowAnswer (stateAt ρ k states) p))
+    ∷ lastLine (total (stateAt ρ k states) p (length times) 1) (total (stateAt ρ k states) p (length times) 0)
+    (total (stateAt ρ k states) p (length times) 2)
     ∷ [])
 unfolding patternListing listing
-pattern-totals k times states p =
-    let st = stateAt k states in
+pattern-totals ρ k times states p =
+    let st = stateAt ρ k states in
     let n = length times in
     rw (listed-totals st p n 1, listed-totals st p n 0, listed-totals st p n 2) refl

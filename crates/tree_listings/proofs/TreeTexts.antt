@@ -9,6 +9,7 @@ use mathlib.Core.Path.{_≡_, refl, sym, ap, _∙_}
 use mathlib.Core.List.{List}
 use lib.Dec.{eqb}
 use lib.ListN.{length, getD, take}
+use Rattle.alf.specs.declared.Rules.{Rules}
 use Rattle.alf.specs.declared.Sort.the-variants as sort
 use Rattle.basics.specs.declared.Refusal.{Refusal}
 use Rattle.basics.specs.declared.Outcome.{Outcome}
@@ -80,16 +81,16 @@ module _ {names n : ℕ} {tree states answers : List ℕ} (f : Filling names n t
           room = omega (arith, f .size);
         }
 
-    pub answers-filled : {answers′ : List ℕ}
-        → answers′ ≡ placed answers 0 (listed 0 n (answerOf (stateAt names states) (xs h)))
-        → answers′ ≡ listed 0 n (answersOn names tree states)
-    answers-filled e =
+    pub answers-filled : (ρ : Rules) {answers′ : List ℕ}
+        → answers′ ≡ placed answers 0 (listed 0 n (answerOf (stateAt ρ names states) (xs h)))
+        → answers′ ≡ listed 0 n (answersOn ρ names tree states)
+    answers-filled ρ e =
         e ∙ placed-whole answers _ (listed-length 0 n _ ∙ sym (f .size))
-        ∙ ap (λ (g : ℕ → ℕ). listed 0 n g) (numbers-on h states)
+        ∙ ap (λ (g : ℕ → ℕ). listed 0 n g) (numbers-on h _ states)
 
-module _ (times : List ℕ) {names : ℕ} {tree states answers answers′ : List ℕ}
+module _ (ρ : Rules) (times : List ℕ) {names : ℕ} {tree states answers answers′ : List ℕ}
     (f : Filling names (length times) tree states answers)
-    (e : answers′ ≡ listed 0 (length times) (answersOn names tree states)) where
+    (e : answers′ ≡ listed 0 (length times) (answersOn ρ names tree states)) where
   pub answers-listable : Listable 3 times answers′
   answers-listable =
       rw e
@@ -97,13 +98,13 @@ module _ (times : List ℕ) {names : ℕ} {tree states answers answers′ : List
         lists =
             record {
               rows = (f .answered .some, f .answered .asked .rows .few);
-              same = listed-length 0 (length times) (answersOn names tree states);
+              same = listed-length 0 (length times) (answersOn ρ names tree states);
             };
-        good = listed-most 3 (length times) (answersOn names tree states) (λ i. row-answer-small _ _ i);
+        good = listed-most 3 (length times) (answersOn ρ names tree states) (λ i. row-answer-small _ _ i);
       })
 
   pub answers-listed : {out out′ : List ℕ} {r : Outcome} → Delivers (listing times answers′) out out′ r
-      → Delivers (patternListing names times states (expression tree names)) out out′ r
+      → Delivers (patternListing ρ names times states (expression tree names)) out out′ r
   unfolding patternListing
   answers-listed d = rw e at d
 
@@ -113,8 +114,8 @@ module _ {names n : ℕ} {tree states : List ℕ} (times : List ℕ) {v : Verdic
   abbrev Fits : Type 0
   Fits = (length times ≡ n) × Rows names n (length states)
 
-  abbrev shown : List ℕ
-  shown = patternListing names times states (expression tree names)
+  abbrev shown : Rules → List ℕ
+  shown ρ = patternListing ρ names times states (expression tree names)
 
   as-lists : Judged (rowsOrder names n (length times ≡ n) tree sort.Vector states)
       (Fits × Accepted names sort.Vector tree × Codes states) v
@@ -127,27 +128,27 @@ module _ {names n : ℕ} {tree states : List ℕ} (times : List ℕ) {v : Verdic
       let ((x, l), a, s) = judged-good as-lists e .1 in
       rw x (record { asked = record { accepted = a; rows = rows-asked l s }; some = l .row-count .0 })
 
-  pub list-refused : {out : List ℕ} {r : Refusal} → v ≡ Refused r
-      → ListsTree names n tree times states out out (outcome.Refused r)
+  pub list-refused : {ρ : Rules} {out : List ℕ} {r : Refusal} → v ≡ Refused r
+      → ListsTree ρ names n tree times states out out (outcome.Refused r)
   unfolding Comes after
-  list-refused {out} {r} e =
+  list-refused {ρ} {out} {r} e =
       record {
-        comes = text-refused Fits names tree states shown (length out) r (judged-not as-lists e);
+        comes = text-refused Fits names tree states (shown ρ) (length out) r (judged-not as-lists e);
         memory = refl;
       }
 
-  pub list-written : {out out′ : List ℕ} {r : Outcome} → v ≡ Good
-      → Delivers (patternListing names times states (expression tree names)) out out′ r
-      → ListsTree names n tree times states out out′ r
-  list-written {out} {r = r} e d =
+  pub list-written : {ρ : Rules} {out out′ : List ℕ} {r : Outcome} → v ≡ Good
+      → Delivers (patternListing ρ names times states (expression tree names)) out out′ r
+      → ListsTree ρ names n tree times states out out′ r
+  list-written {ρ} {out} {r = r} e d =
       record {
-        comes = text-written Fits names tree states shown (length out) r (judged-good as-lists e .0) (d .outcome);
+        comes = text-written Fits names tree states (shown ρ) (length out) r (judged-good as-lists e .0) (d .outcome);
         memory = d .memory;
       }
 
 -- The line, by what is counted.
-module _ {names n : ℕ} {tree states : List ℕ} {c : Counting} (h : RowTotals names n tree states c) where
-  counted : {t : Total} → c ≡ counting.Counted t → RowTotals names n tree states (counting.Counted t)
+module _ {ρ : Rules} {names n : ℕ} {tree states : List ℕ} {c : Counting} (h : RowTotals ρ names n tree states c) where
+  counted : {t : Total} → c ≡ counting.Counted t → RowTotals ρ names n tree states (counting.Counted t)
   counted e = rw e at h
 
   pub counted-few : {t : Total} → c ≡ counting.Counted t → n ≤ 65535
@@ -157,19 +158,19 @@ module _ {names n : ℕ} {tree states : List ℕ} {c : Counting} (h : RowTotals 
       le-stable n 65535 (λ k. p .0 0 (record { given = λ l. k (l .row-count .1); there = refl }))
 
   pub line-refused : {shown out : List ℕ} {r : Refusal} → c ≡ counting.Refused r
-      → LinesTree names n tree states shown out out (outcome.Refused r)
+      → LinesTree ρ names n tree states shown out out (outcome.Refused r)
   unfolding Counts Comes after
   line-refused {shown} {out} {r} e =
       record {
         comes =
             text-refused (Rows names n (length states)) names tree states
-            (totalsLine names n states shown (expression tree names)) (length out) r (rw e at (h .comes));
+            (totalsLine ρ names n states shown (expression tree names)) (length out) r (rw e at (h .comes));
         memory = refl;
       }
 
   pub line-written : (shown : List ℕ) {out out′ : List ℕ} {t : Total} {r : Outcome} → c ≡ counting.Counted t
       → Delivers (patternLine shown (t .yes) (t .unknown) (t .no) n) out out′ r
-      → LinesTree names n tree states shown out out′ r
+      → LinesTree ρ names n tree states shown out out′ r
   unfolding Counts totalsLine
   line-written shown {out} {r = r} e d =
       let (p, s) = counted e .comes in
@@ -177,6 +178,6 @@ module _ {names n : ℕ} {tree states : List ℕ} {c : Counting} (h : RowTotals 
       record {
         comes =
             text-written (Rows names n (length states)) names tree states
-            (totalsLine names n states shown (expression tree names)) (length out) r p (w .outcome);
+            (totalsLine ρ names n states shown (expression tree names)) (length out) r p (w .outcome);
         memory = w .memory;
       }

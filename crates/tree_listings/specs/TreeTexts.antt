@@ -9,6 +9,7 @@ use Prim.Native.Nat.{ℕ, _≤_}
 use mathlib.Core.Path.{_≡_}
 use mathlib.Core.List.{List, _∷_}
 use lib.ListN.{length}
+use Rattle.alf.specs.declared.Rules.{Rules}
 use Rattle.alf.specs.declared.Sort.the-variants as sort
 use Rattle.basics.specs.declared.Outcome.{Outcome}
 use Rattle.basics.specs.Words.{listed}
@@ -26,15 +27,15 @@ use Rattle.listing.specs.Listing.{listing}
 use Rattle.table_lines.specs.Table.{patternLine}
 
 -- the listing of a pattern's answers at all rows of a trace of k names
-unfoldable pub patternListing : ℕ → List ℕ → List ℕ → Vector → List ℕ
-patternListing k times states p =
-    listing times (listed 0 (length times) (rowAnswer (stateAt k states) p))
+unfoldable pub patternListing : Rules → ℕ → List ℕ → List ℕ → Vector → List ℕ
+patternListing ρ k times states p =
+    listing times (listed 0 (length times) (rowAnswer (stateAt ρ k states) p))
 
 -- the line of the table with a pattern's totals on n rows: yes, unknown, no; the pattern stands last as `shown`
-unfoldable pub totalsLine : ℕ → ℕ → List ℕ → List ℕ → Vector → List ℕ
-totalsLine k n states shown p =
-    patternLine shown (total (stateAt k states) p n 1) (total (stateAt k states) p n 2)
-    (total (stateAt k states) p n 0) n
+unfoldable pub totalsLine : Rules → ℕ → ℕ → List ℕ → List ℕ → Vector → List ℕ
+totalsLine ρ k n states shown p =
+    patternLine shown (total (stateAt ρ k states) p n 1) (total (stateAt ρ k states) p n 2)
+    (total (stateAt ρ k states) p n 0) n
 
 -- 18 where the lists do not fit, 10 where the tree is no vector expression, 15, 9
 abbrev pub textOrder : Type 0 → ℕ → List ℕ → List ℕ → List ℕ → ℕ → Order
@@ -43,22 +44,22 @@ textOrder lists names tree states text room =
 
 -- The calls, of so many names and n rows. Done: the text is at the front of the buffer, and its length is told;
 -- refused: the buffer is as before.
-pub record ListsTree (names n : ℕ) (tree times states out out′ : List ℕ) (r : Outcome) : Type 0 where
+pub record ListsTree (ρ : Rules) (names n : ℕ) (tree times states out out′ : List ℕ) (r : Outcome) : Type 0 where
   pub comes :
       Comes
       (textOrder ((length times ≡ n) × Rows names n (length states)) names tree states
-      (patternListing names times states (expression tree names)) (length out))
-      (λ m. m ≡ length (patternListing names times states (expression tree names))) r
-  pub memory : out′ ≡ after (front (patternListing names times states (expression tree names)) out) out r
+      (patternListing ρ names times states (expression tree names)) (length out))
+      (λ m. m ≡ length (patternListing ρ names times states (expression tree names))) r
+  pub memory : out′ ≡ after (front (patternListing ρ names times states (expression tree names)) out) out r
 
 -- the pattern is shown as it is handed in
-pub record LinesTree (names n : ℕ) (tree states shown out out′ : List ℕ) (r : Outcome) : Type 0 where
+pub record LinesTree (ρ : Rules) (names n : ℕ) (tree states shown out out′ : List ℕ) (r : Outcome) : Type 0 where
   pub comes :
       Comes
       (textOrder (Rows names n (length states)) names tree states
-      (totalsLine names n states shown (expression tree names)) (length out))
-      (λ m. m ≡ length (totalsLine names n states shown (expression tree names))) r
-  pub memory : out′ ≡ after (front (totalsLine names n states shown (expression tree names)) out) out r
+      (totalsLine ρ names n states shown (expression tree names)) (length out))
+      (λ m. m ≡ length (totalsLine ρ names n states shown (expression tree names))) r
+  pub memory : out′ ≡ after (front (totalsLine ρ names n states shown (expression tree names)) out) out r
 
 -- For the functions inside: an accepted tree and 1 to 65,535 rows; a list of n entries; a list for all rows there can
 -- be.

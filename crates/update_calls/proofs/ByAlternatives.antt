@@ -3,6 +3,7 @@
 use mathlib.Core.Path.{_≡_, ap₂, _∙_}
 use mathlib.Core.List.{List}
 use Prim.Native.Nat.{ℕ, _+_, _-_}
+use Rattle.alf.specs.declared.Rules.{Rules}
 use Rattle.alf.specs.Traces.{corrected, lastRewritten}
 use Rattle.basics.specs.Words.{listed}
 use Rattle.basics.specs.Memory.{placed}
@@ -19,13 +20,13 @@ same-rewritten answers n r =
     ap₂ (λ (k : ℕ) (f : ℕ → ℕ). placed answers r (listed r (lastRewritten k n r + 1 - r) f))
 
 module _ {names : ℕ} {tree : List ℕ} {a : Alternatives} (h : Holds tree names a) where
-  pub tree-corrects : {n r : ℕ} {states answers new states′ answers′ : List ℕ}
-      → Corrects names (xs h) n r states answers new states′ answers′
-      → CorrectsTree names n tree states answers r new states′ answers′
-  tree-corrects {n} {r} {states} {answers} {new} k =
+  pub tree-corrects : {ρ : Rules} {n r : ℕ} {states answers new states′ answers′ : List ℕ}
+      → Corrects ρ names (xs h) n r states answers new states′ answers′
+      → CorrectsTree ρ names n tree states answers r new states′ answers′
+  tree-corrects {ρ} {n} {r} {states} {answers} {new} k =
       record {
         stored = k .stored;
         answered =
             k .rewritten
-            ∙ same-rewritten answers n r (steps-are h) (numbers-on h (corrected names states r new));
+            ∙ same-rewritten answers n r (steps-are h) (numbers-on h ρ (corrected names states r new));
       }

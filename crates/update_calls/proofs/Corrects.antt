@@ -7,6 +7,7 @@ use mathlib.Core.List.{List}
 use Prim.Native.Nat.{ℕ, _<_}
 use lib.ListN.{length}
 use Rattle.basics.specs.declared.Refusal.{Refusal}
+use Rattle.alf.specs.declared.Rules.{Rules}
 use Rattle.alf.specs.declared.Sort.the-variants.{Vector}
 use Rattle.basics.specs.declared.Outcome.the-variants as outcome
 use Rattle.alf.specs.Refusals.{Comes}
@@ -53,15 +54,15 @@ module _ {names n : ℕ} {tree states : List ℕ} (answers : List ℕ) {row : �
         codes = w;
       }
 
-  pub correction-refused : {r : Refusal} → v ≡ Refused r
-      → Correction names n tree states answers row new states answers (outcome.Refused r)
+  pub correction-refused : {ρ : Rules} {r : Refusal} → v ≡ Refused r
+      → Correction ρ names n tree states answers row new states answers (outcome.Refused r)
   unfolding Comes after
   correction-refused e =
       record { comes = judged-not as-correction e; states-memory = refl; answers-memory = refl }
 
-  pub correction-told : {states′ answers′ : List ℕ} → v ≡ Good
-      → CorrectsTree names n tree states answers row new states′ answers′
-      → Correction names n tree states answers row new states′ answers′ (outcome.Done 1)
+  pub correction-told : {ρ : Rules} {states′ answers′ : List ℕ} → v ≡ Good
+      → CorrectsTree ρ names n tree states answers row new states′ answers′
+      → Correction ρ names n tree states answers row new states′ answers′ (outcome.Done 1)
   unfolding Comes after
   correction-told e k =
       record {

@@ -7,6 +7,7 @@ use Prim.Native.Nat.{ℕ, _+_, _-_, _<_}
 use mathlib.Core.Path.{_≡_}
 use mathlib.Core.List.{List}
 use lib.ListN.{length}
+use Rattle.alf.specs.declared.Rules.{Rules}
 use Rattle.alf.specs.declared.Sort.the-variants.{Vector}
 use Rattle.basics.specs.declared.Outcome.{Outcome}
 use Rattle.alf.specs.Alternatives.{stepsOf}
@@ -32,17 +33,18 @@ correctionOrder names n tree states answers row new =
     (codesCorrection states new n row)
 
 -- the answers from row r on, to min(r+K, n-1), are those on the trace; the others stay
-abbrev pub rewritten : ℕ → ℕ → List ℕ → List ℕ → ℕ → List ℕ → List ℕ
-rewritten names n tree answers r states =
+abbrev pub rewritten : Rules → ℕ → ℕ → List ℕ → List ℕ → ℕ → List ℕ → List ℕ
+rewritten ρ names n tree answers r states =
     placed answers r
-    (listed r (lastRewritten (stepsOf (expression tree names)) n r + 1 - r) (answersOn names tree states))
+    (listed r (lastRewritten (stepsOf (expression tree names)) n r + 1 - r) (answersOn ρ names tree states))
 
-pub record Correction (names n : ℕ) (tree states answers : List ℕ) (row : ℕ) (new states′ answers′ : List ℕ)
+pub record Correction (ρ : Rules) (names n : ℕ) (tree states answers : List ℕ) (row : ℕ)
+    (new states′ answers′ : List ℕ)
     (r : Outcome) : Type 0 where
   pub comes : Comes (correctionOrder names n tree states answers row new) (λ k. k ≡ 1) r
   pub states-memory : states′ ≡ after (corrected names states row new) states r
   pub answers-memory : answers′
-      ≡ after (rewritten names n tree answers row (corrected names states row new)) answers r
+      ≡ after (rewritten ρ names n tree answers row (corrected names states row new)) answers r
 
 -- What the function inside asks and gives: an accepted tree and lists that fit.
 pub record TreeCorrection (names n : ℕ) (tree states answers : List ℕ) (row : ℕ) (new : List ℕ) : Type 0 where
@@ -52,8 +54,8 @@ pub record TreeCorrection (names n : ℕ) (tree states answers : List ℕ) (row 
   pub full : length new ≡ names
   pub codes : Codes new
 
-pub record CorrectsTree (names n : ℕ) (tree states answers : List ℕ) (row : ℕ)
+pub record CorrectsTree (ρ : Rules) (names n : ℕ) (tree states answers : List ℕ) (row : ℕ)
     (new states′ answers′ : List ℕ)
     : Type 0 where
   pub stored : states′ ≡ corrected names states row new
-  pub answered : answers′ ≡ rewritten names n tree answers row (corrected names states row new)
+  pub answered : answers′ ≡ rewritten ρ names n tree answers row (corrected names states row new)

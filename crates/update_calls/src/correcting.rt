@@ -4,6 +4,7 @@ ghost use Rattle.judging.specs.Orders.{JudgesCorrection};
 ghost use Rattle.update_calls.specs.Correcting.{Lists, TreeCorrection, CorrectsTree, Correction};
 use acceptance::accepting::accepts;
 use alf::RowNo;
+use alf::Rules;
 use alf::Sort;
 use basics::Outcome;
 use judging::checks::Verdict;
@@ -45,6 +46,7 @@ pub fn judge_correction(
 
 // An accepted tree, and lists that fit.
 fn correct_tree(
+    rules: Rules,
     names: usize,
     n: usize,
     tree: &[u8],
@@ -54,7 +56,8 @@ fn correct_tree(
     new: &[u8],
 )
     requires { ⌜ TreeCorrection names n (now tree) (now states) (now answers) (row .0) (now new) ⌝ }
-    ensures { λ _. ⌜ CorrectsTree names n (now (tree .entry)) (now (states .entry)) (now (answers .entry)) (row .0)
+    ensures { λ _. ⌜ CorrectsTree rules names n (now (tree .entry)) (now (states .entry))
+        (now (answers .entry)) (row .0)
         (now (new .entry)) (now (states .exit)) (now (answers .exit)) ⌝ }
 {
     let a = alternatives_of(tree, names);
@@ -66,6 +69,7 @@ fn correct_tree(
     let edges = a.edges;
     let operands = a.operands;
     correction::corrections::correct(
+        rules,
         tree,
         names,
         &steps[..count],
@@ -82,6 +86,7 @@ fn correct_tree(
 
 // The new states become row `row`, and the answers from there on that can depend on it are written anew; one row.
 pub fn correct(
+    rules: Rules,
     names: usize,
     n: usize,
     tree: &[u8],
@@ -90,7 +95,7 @@ pub fn correct(
     row: RowNo,
     new: &[u8],
 ) -> Outcome
-    ensures { λ r. ⌜ Correction names n (now (tree .entry)) (now (states .entry)) (now (answers .entry)) (row .0)
+    ensures { λ r. ⌜ Correction rules names n (now (tree .entry)) (now (states .entry)) (now (answers .entry)) (row .0)
         (now (new .entry)) (now (states .exit)) (now (answers .exit)) r ⌝ }
 {
     let fits = correction_fits(names, n, states.len(), answers.len(), new.len());
@@ -99,7 +104,7 @@ pub fn correct(
     match v {
         Verdict::Refused(r) => Outcome::Refused(r),
         Verdict::Good => {
-            correct_tree(names, n, tree, states, answers, row, new);
+            correct_tree(rules, names, n, tree, states, answers, row, new);
             Outcome::Done(1)
         }
     }

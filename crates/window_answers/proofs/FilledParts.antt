@@ -23,13 +23,15 @@ use Rattle.answer_table.proofs.Kept.{off}
 use Rattle.window_answers.proofs.Tops.{On, on-boolean, not-vector}
 use Rattle.window_answers.proofs.Vectors.{some-bytes, right-ends, right-sort, left-ends, left-sort}
 use Rattle.window_answers.proofs.Vectors.{operator-byte, edge-answer, operator-answer, operands-off}
+use Rattle.alf.specs.declared.Rules.{Rules}
 
 module _ {t : List ℕ} {end : ℕ} {states : List ℕ} {names first size : ℕ} {before : List ℕ} where
-  pub leaf-filled : {after : List ℕ} {k base : ℕ} {list : List ℕ} → Column t names states end first size list
+  pub leaf-filled : {ρ : Rules} {after : List ℕ} {k base : ℕ} {list : List ℕ}
+      → Column ρ t names states end first size list
       → Part (leafOver k (entry list)) base size size before after
-      → LeafFilled k t end states names first size base before after
-  leaf-filled {k = k} {list = list} c p =
-      let like : Like (λ x. first + x) size (entry list) (stateOf t names states end) =
+      → LeafFilled ρ k t end states names first size base before after
+  leaf-filled {ρ} {k = k} {list = list} c p =
+      let like : Like (λ x. first + x) size (entry list) (stateOf ρ t names states end) =
       record { is = λ x l. c .is x l .is }
       in
       record {
@@ -42,13 +44,14 @@ module _ {t : List ℕ} {end : ℕ} {states : List ℕ} {names first size : ℕ}
         long = p .long;
       }
 
-  pub condition-filled : {after : List ℕ} {v : Bool} → Fillable v t end states names first size before → v ≡ false
-      → LeafFilled 0 t end states names first size ((end - 1) * 256) before after
-      → Filled t end states names first size before after
+  pub condition-filled : {ρ : Rules} {after : List ℕ} {v : Bool} → Fillable v t end states names first size before
+      → v ≡ false
+      → LeafFilled ρ 0 t end states names first size ((end - 1) * 256) before after
+      → Filled ρ t end states names first size before after
   unfolding leafOver
-  condition-filled f e l =
+  condition-filled {ρ} f e l =
       let p = ends-pos (f .ends) in
-      let s = on-boolean t names states end (not-vector _ (f .ends .whole) (f .sort ∙ e)) in
+      let s = on-boolean t names states end ρ (not-vector _ (f .ends .whole) (f .sort ∙ e)) in
       record {
         answers = record { is = λ a b k u. l .answers .is a b k u ∙ rw s refl };
         above = λ i k. l .above i (omega arith);
@@ -56,22 +59,22 @@ module _ {t : List ℕ} {end : ℕ} {states : List ℕ} {names first size : ℕ}
       }
 
   module _ (h : EndsVector t names end) where
-    pub edge-filled : {after : List ℕ} → 64 ≤ lastByte t end
-        → LeafFilled (lastByte t end) t (end - 1) states names first size ((end - 1) * 256) before after
-        → Filled t end states names first size before after
+    pub edge-filled : {ρ : Rules} {after : List ℕ} → 64 ≤ lastByte t end
+        → LeafFilled ρ (lastByte t end) t (end - 1) states names first size ((end - 1) * 256) before after
+        → Filled ρ t end states names first size before after
     edge-filled e l =
         let p = some-bytes h in
         record {
-          answers = record { is = λ a b k u. l .answers .is a b k u ∙ edge-answer h states _ _ e };
+          answers = record { is = λ a b k u. l .answers .is a b k u ∙ edge-answer h _ states _ _ e };
           above = λ i k. l .above i (omega arith);
           long = l .long;
         }
 
-    module _ (small : lastByte t end < 64) {m : ℕ} (g : Start t names (end - 1) m) {mid last : List ℕ}
-        (x : Filled t (end - 1) states names first size before mid)
-        (y : Filled t m states names first size mid last) (most : size ≤ 16) where
+    module _ {ρ : Rules} (small : lastByte t end < 64) {m : ℕ} (g : Start t names (end - 1) m) {mid last : List ℕ}
+        (x : Filled ρ t (end - 1) states names first size before mid)
+        (y : Filled ρ t m states names first size mid last) (most : size ≤ 16) where
       -- both operands' answers stand in the table
-      right-stands : As (λ z. first + z) size (stored last ((end - 1 - 1) * 256)) (On t names states (end - 1))
+      right-stands : As (λ z. first + z) size (stored last ((end - 1 - 1) * 256)) (On ρ t names states (end - 1))
       right-stands =
           let q = g .before in
           let o = ends-pos (left-ends h small g) in
@@ -81,13 +84,13 @@ module _ {t : List ℕ} {end : ℕ} {states : List ℕ} {names first size : ℕ}
                 ∙ x .answers .is a b k u;
           }
 
-      left-stands : As (λ z. first + z) size (stored last ((m - 1) * 256)) (On t names states m)
+      left-stands : As (λ z. first + z) size (stored last ((m - 1) * 256)) (On ρ t names states m)
       left-stands = record { is = y .answers .is }
 
       pub operator-filled : {after : List ℕ} →
           Part (operated (lastByte t end) (stored last ((m - 1) * 256)) (stored last ((end - 1 - 1) * 256)))
           ((end - 1) * 256) size size last after
-          → Filled t end states names first size before after
+          → Filled ρ t end states names first size before after
       operator-filled p =
           let o = some-bytes h in
           let q = g .before in
@@ -96,8 +99,8 @@ module _ {t : List ℕ} {end : ℕ} {states : List ℕ} {names first size : ℕ}
               is = λ a b k u.
                   p .is a b (omega arith) k u
                   ∙ operated-as (λ z. first + z) (moved first) size a b k u left-stands right-stands (lastByte t end)
-                  (off last ((m - 1) * 256)) (off last ((end - 1 - 1) * 256)) (operands-off h small g states)
-                  ∙ operator-answer h small g states (first + a) (first + b);
+                  (off last ((m - 1) * 256)) (off last ((end - 1 - 1) * 256)) (operands-off h small g states ρ)
+                  ∙ operator-answer h small g states (first + a) (first + b) ρ;
             };
             above = λ i k.
                 p .above i (omega arith) ∙ y .above i (omega arith) ∙ x .above i (omega arith);

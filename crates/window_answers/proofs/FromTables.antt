@@ -9,6 +9,7 @@ use mathlib.Core.Bool.{true}
 use mathlib.Core.List.{List}
 use lib.ListN.{length}
 use Rattle.basics.specs.Words.{greatest}
+use Rattle.alf.specs.declared.Rules.{Rules}
 use Rattle.alf.specs.Values.{stateAt}
 use Rattle.trees.specs.Parts.{vectorAt}
 use Rattle.trees.proofs.Starts.{of-vector}
@@ -41,28 +42,29 @@ module _ {t : List ℕ} {names end : ℕ} (p : Pattern t names end) {states : Li
         long = h;
       }
 
-  module _ {first size : ℕ} {before after : List ℕ} (f : Filled t end states names first size before after) where
+  module _ {ρ : Rules} {first size : ℕ} {before after : List ℕ}
+      (f : Filled ρ t end states names first size before after) where
     stored-answer : (a last : ℕ) → a < size → first + size ≡ last
-        → stored after ((end - 1) * 256) a size ≡ answerOn t names states end (first + a) last
+        → stored after ((end - 1) * 256) a size ≡ answerOn ρ t names states end (first + a) last
     stored-answer a last l e =
-        rw (on-vector t names states end (p .ends .whole), e) at (f .answers .is a size l (omega arith))
+        rw (on-vector t names states end ρ (p .ends .whole), e) at (f .answers .is a size l (omega arith))
 
     pub filled-answer : {last r : ℕ} → 0 < size → first + size ≡ last → r ≡ stored after ((end - 1) * 256) 0 size
-        → r ≡ answerOn t names states end first last
+        → r ≡ answerOn ρ t names states end first last
     filled-answer l e h = h ∙ rw add-zero at (stored-answer 0 _ l e)
 
     -- the windows that start before are too long
     earlier-none : (last : ℕ) → first + size ≡ last → size ≡ min last (longest (vectorAt t names end))
-        → greatest first (λ a. answerOn t names states end a last) ≡ 0
+        → greatest first (λ a. answerOn ρ t names states end a last) ≡ 0
     earlier-none last e n =
-        greatest-zero first _ (λ i l. too-long (stateAt names states) (vectorAt t names end) i last (omega arith))
+        greatest-zero first _ (λ i l. too-long (stateAt ρ names states) (vectorAt t names end) i last (omega arith))
 
     pub filled-best : {last r : ℕ} → first + size ≡ last → size ≡ min last (longest (vectorAt t names end))
-        → r ≡ greatest size (λ a. stored after ((end - 1) * 256) a size) → r ≡ bestAt t names states end last
+        → r ≡ greatest size (λ a. stored after ((end - 1) * 256) a size) → r ≡ bestAt ρ t names states end last
     filled-best {last} e n h =
-        let on : ℕ → ℕ = λ a. answerOn t names states end a last in
+        let on : ℕ → ℕ = λ a. answerOn ρ t names states end a last in
         let z = earlier-none last e n in
         let b = rw e at (greatest-both first size on) in
         let s = greatest-same size _ (λ a. on (first + a)) (λ i l. stored-answer i last l e) in
-        let w = best-short (stateAt names states) (vectorAt t names end) last in
+        let w = best-short (stateAt ρ names states) (vectorAt t names end) last in
         omega arith

@@ -5,6 +5,7 @@ use Prim.Native.Nat.{ℕ}
 use mathlib.Core.Path.{_≡_, refl, sym}
 use mathlib.Core.Bool.{true, false}
 use mathlib.Core.List.{List}
+use Rattle.alf.specs.declared.Rules.{Rules}
 use Rattle.alf.specs.Expressions.{boolean, vector}
 use Rattle.alf.specs.Values.{stateAt}
 use Rattle.alf.specs.Windows.{Window, held}
@@ -44,15 +45,16 @@ not-vector (push (boolean c) s) w h = refl
 not-vector (push (vector p) s) w h = never (sym h)
 
 -- what the expression that ends at a place answers, as an operand
-abbrev pub On : List ℕ → ℕ → List ℕ → ℕ → Window
-On t names states end = partOn (stateAt names states) (expressionAt t names end)
+abbrev pub On : Rules → List ℕ → ℕ → List ℕ → ℕ → Window
+On ρ t names states end = partOn (stateAt ρ names states) (expressionAt t names end)
 
 module _ (t : List ℕ) (names : ℕ) (states : List ℕ) (end : ℕ) where
-  pub on-vector : isVector (stackAt t names end) ≡ true → On t names states end ≡ answerOn t names states end
+  pub on-vector : (ρ : Rules) → isVector (stackAt t names end) ≡ true
+      → On ρ t names states end ≡ answerOn ρ t names states end
   unfolding partOn
-  on-vector h = rw (top-vector (stackAt t names end) h) refl
+  on-vector ρ h = rw (top-vector (stackAt t names end) h) refl
 
-  pub on-boolean : isBoolean (stackAt t names end) ≡ true
-      → On t names states end ≡ held (stateOf t names states end)
+  pub on-boolean : (ρ : Rules) → isBoolean (stackAt t names end) ≡ true
+      → On ρ t names states end ≡ held (stateOf ρ t names states end)
   unfolding partOn
-  on-boolean h = rw (top-boolean (stackAt t names end) h) refl
+  on-boolean ρ h = rw (top-boolean (stackAt t names end) h) refl

@@ -13,6 +13,7 @@ use mathlib.Core.Logic.{_⊎_, inl, inr}
 use mathlib.Core.List.{List}
 use lib.Dec.{eqb}
 use borrow.Author.Tests.{lt-ltb, le-ltb, eq-eqb, ne-eqb}
+use Rattle.alf.specs.declared.Rules.{Rules}
 use Rattle.alf.specs.Windows.{Window, answer}
 use Rattle.alf.specs.Decoder.{isBoolean, isVector, under, stackAt}
 use Rattle.basics.proofs.Bools.{below?, equal?}
@@ -113,62 +114,63 @@ module _ {t : List ℕ} {names end : ℕ} (h : EndsVector t names end) where
 
       -- the answer on a window
       module _ (states : List ℕ) where
-        abbrev At : ℕ → Window
-        At e = On t names states e
+        abbrev At : Rules → ℕ → Window
+        At ρ e = On ρ t names states e
 
-        pub operands-off : lastByte t end < 56 → Off (At m) × Off (At (end - 1))
-        operands-off l =
+        pub operands-off : (ρ : Rules) → lastByte t end < 56 → Off (At ρ m) × Off (At ρ (end - 1))
+        operands-off ρ l =
             let p = left-vector (join-is l .left) .whole in (
-              λ x. rw (on-vector t names states m p) (no-event _ _ x x (omega arith)),
-              λ x. rw (on-vector t names states (end - 1) (join-is l .right)) (no-event _ _ x x (omega arith)),
+              λ x. rw (on-vector t names states m ρ p) (no-event _ _ x x (omega arith)),
+              λ x. rw (on-vector t names states (end - 1) ρ (join-is l .right)) (no-event _ _ x x (omega arith)),
             )
 
         -- by each operator
         module _ (a b : ℕ) where
-          joined-answer : lastByte t end < 56 → operated (lastByte t end) (At m) (At (end - 1)) a b ≡ At end a b
+          joined-answer : (ρ : Rules) → lastByte t end < 56
+              → operated (lastByte t end) (At ρ m) (At ρ (end - 1)) a b ≡ At ρ end a b
           unfolding operated answer
-          joined-answer l =
+          joined-answer ρ l =
               rw (
                 lt-ltb _ _ l,
-                on-vector t names states m (left-vector (join-is l .left) .whole),
-                on-vector t names states (end - 1) (join-is l .right),
-                on-vector t names states end (h .whole),
+                on-vector t names states m _ (left-vector (join-is l .left) .whole),
+                on-vector t names states (end - 1) _ (join-is l .right),
+                on-vector t names states end _ (h .whole),
                 join-is l .is,
                 g .left,
               ) refl
 
-          condition-answer : lastByte t end ≡ 56 → min (At m a b) (At (end - 1) a b) ≡ At end a b
+          condition-answer : (ρ : Rules) → lastByte t end ≡ 56 → min (At ρ m a b) (At ρ (end - 1) a b) ≡ At ρ end a b
           unfolding answer
-          condition-answer e =
+          condition-answer ρ e =
               rw (
-                on-vector t names states m (left-vector (condition-is e .left) .whole),
-                on-boolean t names states (end - 1) (condition-is e .right),
-                on-vector t names states end (h .whole),
+                on-vector t names states m _ (left-vector (condition-is e .left) .whole),
+                on-boolean t names states (end - 1) _ (condition-is e .right),
+                on-vector t names states end _ (h .whole),
                 condition-is e .is,
                 g .left,
               ) refl
 
-          before-answer : lastByte t end ≡ 57 → min (At m a b) (At (end - 1) a b) ≡ At end a b
+          before-answer : (ρ : Rules) → lastByte t end ≡ 57 → min (At ρ m a b) (At ρ (end - 1) a b) ≡ At ρ end a b
           unfolding answer
-          before-answer e =
+          before-answer ρ e =
               rw (
-                on-boolean t names states m (left-boolean (before-is e .left) .whole),
-                on-vector t names states (end - 1) (before-is e .right),
-                on-vector t names states end (h .whole),
+                on-boolean t names states m _ (left-boolean (before-is e .left) .whole),
+                on-vector t names states (end - 1) _ (before-is e .right),
+                on-vector t names states end _ (h .whole),
                 before-is e .is,
                 g .left,
               ) (omega arith)
 
-          pub operator-answer : operated (lastByte t end) (At m) (At (end - 1)) a b ≡ At end a b
+          pub operator-answer : (ρ : Rules) → operated (lastByte t end) (At ρ m) (At ρ (end - 1)) a b ≡ At ρ end a b
           unfolding operated
-          operator-answer = go which
+          operator-answer ρ = go which
             where
-              go : Which (lastByte t end) → operated (lastByte t end) (At m) (At (end - 1)) a b ≡ At end a b
-              go (inl l) = joined-answer l
-              go (inr (inl e)) = rw (le-ltb (lastByte t end) 56 (omega arith)) (condition-answer e)
-              go (inr (inr e)) = rw (le-ltb (lastByte t end) 56 (omega arith)) (before-answer e)
+              go : Which (lastByte t end) → operated (lastByte t end) (At ρ m) (At ρ (end - 1)) a b ≡ At ρ end a b
+              go (inl l) = joined-answer ρ l
+              go (inr (inl e)) = rw (le-ltb (lastByte t end) 56 (omega arith)) (condition-answer ρ e)
+              go (inr (inr e)) = rw (le-ltb (lastByte t end) 56 (omega arith)) (before-answer ρ e)
 
-  pub edge-answer : (states : List ℕ) (a b : ℕ) → 64 ≤ lastByte t end
-      → leafOver (lastByte t end) (stateOf t names states (end - 1)) a b ≡ On t names states end a b
+  pub edge-answer : (ρ : Rules) (states : List ℕ) (a b : ℕ) → 64 ≤ lastByte t end
+      → leafOver (lastByte t end) (stateOf ρ t names states (end - 1)) a b ≡ On ρ t names states end a b
   unfolding leafOver answer
-  edge-answer states a b k = rw (le-ltb _ _ k, on-vector t names states end (h .whole), edge-is k .is) refl
+  edge-answer ρ states a b k = rw (le-ltb _ _ k, on-vector t names states end _ (h .whole), edge-is k .is) refl

@@ -9,6 +9,7 @@ use mathlib.Core.Path.{_≡_}
 use mathlib.Core.Bool.{Bool}
 use mathlib.Core.List.{List}
 use lib.ListN.{length}
+use Rattle.alf.specs.declared.Rules.{Rules}
 use Rattle.alf.specs.Expressions.{Boolean, Expression, boolean, vector}
 use Rattle.alf.specs.Values.{stateAt}
 use Rattle.alf.specs.Windows.{Window, held, answer}
@@ -34,9 +35,9 @@ pub record Leaf (tree : List ℕ) (end : ℕ) (states : List ℕ) (names first s
 pub record Stands (W : Window) (first size base : ℕ) (table : List ℕ) : Type 0 where
   pub is : (a b : ℕ) → a < b → b ≤ size → stored table base a b ≡ W (first + a) (first + b)
 
-pub record LeafFilled (k : ℕ) (tree : List ℕ) (end : ℕ) (states : List ℕ) (names first size base : ℕ)
+pub record LeafFilled (ρ : Rules) (k : ℕ) (tree : List ℕ) (end : ℕ) (states : List ℕ) (names first size base : ℕ)
     (before after : List ℕ) : Type 0 where
-  pub answers : Stands (leafOver k (stateOf tree names states end)) first size base after
+  pub answers : Stands (leafOver k (stateOf ρ tree names states end)) first size base after
   pub below : (i : ℕ) → i < base → entry after i ≡ entry before i
   pub above : (i : ℕ) → base + 256 ≤ i → entry after i ≡ entry before i
   pub long : length after ≡ 65536
@@ -51,8 +52,10 @@ pub record Fillable (vector : Bool) (tree : List ℕ) (end : ℕ) (states : List
   pub long : length table ≡ 65536
 
 -- its part holds its answers; the parts of the expressions that end behind it are as they were
-pub record Filled (tree : List ℕ) (end : ℕ) (states : List ℕ) (names first size : ℕ) (before after : List ℕ)
+pub record Filled (ρ : Rules) (tree : List ℕ) (end : ℕ) (states : List ℕ) (names first size : ℕ)
+    (before after : List ℕ)
     : Type 0 where
-  pub answers : Stands (partOn (stateAt names states) (expressionAt tree names end)) first size ((end - 1) * 256) after
+  pub answers : Stands (partOn (stateAt ρ names states) (expressionAt tree names end)) first size
+      ((end - 1) * 256) after
   pub above : (i : ℕ) → end * 256 ≤ i → entry after i ≡ entry before i
   pub long : length after ≡ 65536

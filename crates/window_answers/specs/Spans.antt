@@ -3,6 +3,7 @@
 --   answerOn, bestAt     its answer on a window and at a row
 use Prim.Native.Nat.{ℕ, _≤_}
 use mathlib.Core.List.{List}
+use Rattle.alf.specs.declared.Rules.{Rules}
 use Rattle.alf.specs.Values.{stateAt}
 use Rattle.alf.specs.Windows.{Window, answer, best}
 use Rattle.trees.specs.Parts.{EndsVector, vectorAt}
@@ -14,8 +15,8 @@ pub record Pattern (tree : List ℕ) (names end : ℕ) : Type 0 where
   pub short : longest (vectorAt tree names end) ≤ 16
 
 -- the answer on each window, and at each row, of the vector expression that ends at `end`
-abbrev pub answerOn : List ℕ → ℕ → List ℕ → ℕ → Window
-answerOn tree names states end = answer (stateAt names states) (vectorAt tree names end)
+abbrev pub answerOn : Rules → List ℕ → ℕ → List ℕ → ℕ → Window
+answerOn ρ tree names states end = answer (stateAt ρ names states) (vectorAt tree names end)
 
-abbrev pub bestAt : List ℕ → ℕ → List ℕ → ℕ → ℕ → ℕ
-bestAt tree names states end = best (stateAt names states) (vectorAt tree names end)
+abbrev pub bestAt : Rules → List ℕ → ℕ → List ℕ → ℕ → ℕ → ℕ
+bestAt ρ tree names states end = best (stateAt ρ names states) (vectorAt tree names end)

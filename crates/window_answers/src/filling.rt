@@ -1,6 +1,7 @@
 // The recursion over the tree: each operand ends before its operator. A part's answers are worked out once, for every
 // window of the rows first to first + size, and stand in the table from then on.
 ghost use Rattle.window_answers.specs.Filling.{Leaf, LeafFilled, Fillable, Filled};
+use alf::Rules;
 use answer_table::columns::column;
 use answer_table::parts::leaf_part;
 use answer_table::parts::operator_part;
@@ -8,6 +9,7 @@ use trees::parts::start_of;
 
 // The part at `base`, of an edge (byte `k`) of the boolean expression that ends at `end`, or of a condition.
 fn fill_leaf(
+    rules: Rules,
     k: u8,
     tree: &[u8],
     end: usize,
@@ -19,16 +21,17 @@ fn fill_leaf(
     table: &mut [u8; 65536],
 )
     requires { ⌜ Leaf (now tree) end (now states) names first size base (now table) ⌝ }
-    ensures { λ _. ⌜ LeafFilled k (now (tree .entry)) end (now (states .entry)) names first size base
+    ensures { λ _. ⌜ LeafFilled rules k (now (tree .entry)) end (now (states .entry)) names first size base
         (now (table .entry)) (now (table .exit)) ⌝ }
 {
-    let list = column(tree, end, states, names, first, size);
+    let list = column(rules, tree, end, states, names, first, size);
     leaf_part(k, &list, size, base, table);
 }
 
 // The parts of the expression that ends at `end` and of all its operands. A boolean expression is a condition. The
 // operand that ends last is first: its part stands behind those of the other one.
 pub fn fill(
+    rules: Rules,
     vector: bool,
     tree: &[u8],
     end: usize,
@@ -39,21 +42,53 @@ pub fn fill(
     table: &mut [u8; 65536],
 )
     requires { ⌜ Fillable vector (now tree) end (now states) names first size (now table) ⌝ }
-    ensures { λ _. ⌜ Filled (now (tree .entry)) end (now (states .entry)) names first size (now (table .entry))
+    ensures { λ _. ⌜ Filled rules (now (tree .entry)) end (now (states .entry)) names first size (now (table .entry))
         (now (table .exit)) ⌝ }
 {
     let at = end - 1;
     if !vector {
-        fill_leaf(0, tree, end, states, names, first, size, at * 256, table);
+        fill_leaf(
+            rules,
+            0,
+            tree,
+            end,
+            states,
+            names,
+            first,
+            size,
+            at * 256,
+            table,
+        );
         return;
     }
     let k = tree[at];
     if 64 <= k {
-        fill_leaf(k, tree, at, states, names, first, size, at * 256, table);
+        fill_leaf(
+            rules,
+            k,
+            tree,
+            at,
+            states,
+            names,
+            first,
+            size,
+            at * 256,
+            table,
+        );
         return;
     }
     let left = start_of(tree, at, names);
-    fill(k != 56, tree, at, states, names, first, size, table);
-    fill(k != 57, tree, left, states, names, first, size, table);
+    fill(rules, k != 56, tree, at, states, names, first, size, table);
+    fill(
+        rules,
+        k != 57,
+        tree,
+        left,
+        states,
+        names,
+        first,
+        size,
+        table,
+    );
     operator_part(k, (left - 1) * 256, (at - 1) * 256, size, at * 256, table);
 }

@@ -14,6 +14,7 @@ use crate::filling::fill;
 use crate::lengths::longest;
 use crate::lengths::smaller;
 use alf::Answer;
+use alf::Rules;
 use answer_table::cuts::read;
 use evaluator::ranks::name_of;
 use states::edges::greater;
@@ -27,10 +28,18 @@ fn blank() -> [u8; 65536]
 
 // The answer of the expression that ends at `end`, on the rows from `a` to `b`: 0 no, 1 unknown, 2 yes. A window of
 // more events than its longest answers no.
-pub fn answer(tree: &[u8], end: usize, states: &[u8], names: usize, a: usize, b: usize) -> u8
+pub fn answer(
+    rules: Rules,
+    tree: &[u8],
+    end: usize,
+    states: &[u8],
+    names: usize,
+    a: usize,
+    b: usize,
+) -> u8
     requires { ⌜ Pattern (now tree) names end ⌝ }
     requires { ⌜ Within (now states) names b ⌝ }
-    ensures { λ r. ⌜ r ≡ answerOn (now (tree .entry)) names (now (states .entry)) end a b ⌝ }
+    ensures { λ r. ⌜ r ≡ answerOn rules (now (tree .entry)) names (now (states .entry)) end a b ⌝ }
 {
     if b <= a {
         return 0;
@@ -40,7 +49,7 @@ pub fn answer(tree: &[u8], end: usize, states: &[u8], names: usize, a: usize, b:
         return 0;
     }
     let mut table = blank();
-    fill(true, tree, end, states, names, a, n, &mut table);
+    fill(rules, true, tree, end, states, names, a, n, &mut table);
     read(&table, (end - 1) * 256, 0, n)
 }
 
@@ -60,26 +69,43 @@ fn best_of(table: &[u8; 65536], base: usize, n: usize) -> u8
 
 // The greatest answer of the expression that ends at `end`, over the windows that end at `row`. Windows without an
 // event answer no, and so do those of more events than its longest.
-pub fn best_at(tree: &[u8], end: usize, states: &[u8], names: usize, row: usize) -> u8
+pub fn best_at(rules: Rules, tree: &[u8], end: usize, states: &[u8], names: usize, row: usize) -> u8
     requires { ⌜ Pattern (now tree) names end ⌝ }
     requires { ⌜ Within (now states) names row ⌝ }
-    ensures { λ r. ⌜ r ≡ bestAt (now (tree .entry)) names (now (states .entry)) end row ⌝ }
+    ensures { λ r. ⌜ r ≡ bestAt rules (now (tree .entry)) names (now (states .entry)) end row ⌝ }
 {
     let n = smaller(row, longest(tree, end, names));
     let mut table = blank();
-    fill(true, tree, end, states, names, row - n, n, &mut table);
+    fill(
+        rules,
+        true,
+        tree,
+        end,
+        states,
+        names,
+        row - n,
+        n,
+        &mut table,
+    );
     best_of(&table, (end - 1) * 256, n)
 }
 
 // Row `row`'s answer; row 0 has no event.
-pub fn row_answer(tree: &[u8], end: usize, states: &[u8], names: usize, row: usize) -> Answer
+pub fn row_answer(
+    rules: Rules,
+    tree: &[u8],
+    end: usize,
+    states: &[u8],
+    names: usize,
+    row: usize,
+) -> Answer
     requires { ⌜ Pattern (now tree) names end ⌝ }
     requires { ⌜ Within (now states) names row ⌝ }
-    ensures { λ r. ⌜ numberOf r ≡ rowAnswer (stateAt names (now (states .entry)))
+    ensures { λ r. ⌜ numberOf r ≡ rowAnswer (stateAt rules names (now (states .entry)))
         (vectorAt (now (tree .entry)) names end) row ⌝ }
 {
     if row == 0 {
         return Answer::NoEvent;
     }
-    name_of(best_at(tree, end, states, names, row))
+    name_of(best_at(rules, tree, end, states, names, row))
 }

@@ -9,11 +9,11 @@ use Rattle.answer_table.proofs.columns.column.Statement.{statement}
 use Rattle.answer_table.proofs.columns.column.Tie as tie
 
 abbrev Inv-loop : tie.InvT-loop
-Inv-loop tree end states names first size list₀ i₀ list i =
-    (i ≤ size + 1) × States (λ j. stateOf tree names states end (first + j)) i list
+Inv-loop ρ tree end states names first size list₀ i₀ list i =
+    (i ≤ size + 1) × States (λ j. stateOf ρ tree names states end (first + j)) i list
 
 abbrev μ-loop : tie.MeasureT-loop
-μ-loop tree end states names first size list₀ i₀ list i = size + 1 - i
+μ-loop ρ tree end states names first size list₀ i₀ list i = size + 1 - i
 
 loop-holds : tie.Need-loop-holds Inv-loop μ-loop
 loop-holds c = (omega arith, states-first refl)

@@ -12,12 +12,12 @@ use Rattle.correction.proofs.corrections.rewrite.Statement.{statement}
 use Rattle.correction.proofs.corrections.rewrite.Tie as tie
 
 abbrev Inv-loop : tie.InvT-loop
-Inv-loop tree names states steps tests edges operands n r m answers₀ i₀ answers i =
+Inv-loop ρ tree names states steps tests edges operands n r m answers₀ i₀ answers i =
     Writing answers₀ r
-    (listed r m (answerOf (stateAt names states) (alternativesOf tree names steps tests edges operands))) answers i
+    (listed r m (answerOf (stateAt ρ names states) (alternativesOf tree names steps tests edges operands))) answers i
 
 abbrev μ-loop : tie.MeasureT-loop
-μ-loop tree names states steps tests edges operands n r m answers₀ i₀ answers i = m - i
+μ-loop ρ tree names states steps tests edges operands n r m answers₀ i₀ answers i = m - i
 
 loop-holds : tie.Need-loop-holds Inv-loop μ-loop
 loop-holds c = writing-first

@@ -9,10 +9,12 @@ choose-spec =
     tie.close
     (tie.spec
     (λ c κs. search needs)
-    (λ c. chosen-unknown _ _ _ (c .before .reduced .ensures .0) (c .if1 .taken))
+    (λ c κs. search needs)
+    (λ c. let c2 = c .before .before in
+    chosen-unknown _ _ _ _ (c2 .reduced .ensures .0) (c .before .if1 .taken) (c .resolve .ensures))
     (λ c.
     let reduced = c .before .before .reduced .ensures .0 in
-    chosen-first _ _ _ reduced (c .before .if1 .left) (c .if2 .taken) (c .before .before .before .pre .1))
+    chosen-first _ _ _ _ reduced (c .before .if1 .left) (c .if2 .taken) (c .before .before .before .pre .1))
     (λ c.
     let reduced = c .before .before .reduced .ensures .0 in
-    chosen-second _ _ _ reduced (c .before .if1 .left) (c .if2 .left) (c .before .before .before .pre .2)))
+    chosen-second _ _ _ _ reduced (c .before .if1 .left) (c .if2 .left) (c .before .before .before .pre .2)))

@@ -23,10 +23,10 @@ use Rattle.evaluator.proofs.values.+state+value.{statement}
 use Rattle.evaluator.proofs.values.+state+value.Tie.{close}
 
 abbrev μ-state : Measures 2 state-kinds.ps ℕ
-μ-state κs a = 2 * a .1 .0
+μ-state κs a = 2 * a .1 .1 .0
 
 abbrev μ-value : Measures 2 value-kinds.ps ℕ
-μ-value κs a = 2 * a .1 .0 + 1
+μ-value κs a = 2 * a .1 .1 .0 + 1
 
 abbrev state-at : ℕ → In 2 state-kinds.ps
 state-at t = and 2 state-kinds.ps (is 2 state-kinds.ps μ-state t) state.Pre
@@ -72,14 +72,14 @@ pub +state+value-spec : {M : Type 1} → statement M
     (λ c. let c5 = c .before .before .before .before .before in
     name-room (c5 .pre .1 .0) (c5 .pre .1 .1) (c .before .if1 .taken))
     (λ c. let c5 = c .before .before .before .before .before in
-    name-state (c5 .pre .1 .0) (c5 .pre .1 .1) (c .before .if1 .taken))
+    name-state (c5 .pre .1 .0) (c5 .pre .1 .1) _ (c .before .if1 .taken))
     (λ c. let c5 = c .before .before .before .before .before in
-    literal-state (c5 .pre .1 .0) (c5 .pre .1 .1) (c .before .if1 .left) (c .if2 .taken))
+    literal-state (c5 .pre .1 .0) (c5 .pre .1 .1) _ (c .before .if1 .left) (c .if2 .taken))
     (λ c κs. let c6 = c .before .before .before .before .before .before in let p = some-bytes (c6 .pre .1 .0) in
     (omega (arith, c6 .pre .0), (right-ends (c6 .pre .1 .0) (c .before .if2 .left), c6 .pre .1 .1)))
     (λ c κs. search needs)
     (λ c. let c2 = c .before .before in let c8 = c2 .before .before .before .before .before .before in
-    negation-state (c8 .pre .1 .0) (c8 .pre .1 .1) (c2 .if3 .taken) (c .before .state .ensures) (c .not-of .ensures))
+    negation-state (c8 .pre .1 .0) (c8 .pre .1 .1) _ (c2 .if3 .taken) (c .before .state .ensures) (c .not-of .ensures))
     (λ c κs. let c6 = c .before .before .before .before .before .before in
     of-boolean (right-ends (c6 .pre .1 .0) (c .before .if2 .left)))
     (λ c κs. let c2 = c .before .before in let c3 = c2 .before in
@@ -94,7 +94,7 @@ pub +state+value-spec : {M : Type 1} → statement M
     let k = operator-known (c10 .pre .1 .0) (c5 .if2 .left) (c2 .if4 .taken) in search needs)
     (λ c. let c2 = c .before .before in let c3 = c2 .before in let c4 = c3 .before in let c6 = c4 .before .before in
     let c11 = c6 .before .before .before .before .before in
-    binary-state (c11 .pre .1 .0) (c11 .pre .1 .1) (c6 .if2 .left) (c3 .if4 .taken) (c4 .start-of .ensures)
+    binary-state (c11 .pre .1 .0) (c11 .pre .1 .1) _ (c6 .if2 .left) (c3 .if4 .taken) (c4 .start-of .ensures)
     (c2 .state2 .ensures) (c .before .state3 .ensures) (c .operated .ensures))
     (λ c κs. let c2 = c .before .before in let c3 = c2 .before in
     let c8 = c3 .before .before .before .before .before in
@@ -115,7 +115,7 @@ pub +state+value-spec : {M : Type 1} → statement M
     (λ c κs. search needs)
     (λ c. let c2 = c .before .before in let c3 = c2 .before in let c4 = c3 .before in let c5 = c4 .before in
     let c6 = c5 .before in let c7 = c6 .before in let c13 = c7 .before .before .before .before .before .before in
-    choice-state (c13 .pre .1 .0) (c13 .pre .1 .1) (c5 .if4 .left) (c7 .if3 .left) (c6 .start-of .ensures)
+    choice-state (c13 .pre .1 .0) (c13 .pre .1 .1) _ (c5 .if4 .left) (c7 .if3 .left) (c6 .start-of .ensures)
     (c4 .start-of2 .ensures) (c3 .state4 .ensures) (c2 .value .ensures) (c .before .value2 .ensures)
     (c .choose .ensures)))
     λ t. value-lts.spec (calls-value t)
@@ -126,4 +126,4 @@ pub +state+value-spec : {M : Type 1} → statement M
     (λ c. let c4 = c .before .before .before .before in let p = some-bytes (c4 .pre .1 .0) in omega arith)
     (λ c κs. search needs)
     (λ c. let c2 = c .before .before in let c5 = c2 .before .before .before in
-    value-state (c5 .pre .1 .0) (c5 .pre .1 .1) (c2 .state .ensures) (c .settle .ensures))
+    value-state (c5 .pre .1 .0) (c5 .pre .1 .1) _ (c2 .state .ensures) (c .settle .ensures))

@@ -10,10 +10,10 @@ use Rattle.evaluator.proofs.values.values.Statement.{statement}
 use Rattle.evaluator.proofs.values.values.Tie as tie
 
 abbrev Inv-loop : tie.InvT-loop
-Inv-loop tree end states names n out₀ i₀ out i = Writing out₀ 0 (listed 0 n (valueOf tree names states end)) out i
+Inv-loop ρ tree end states names n out₀ i₀ out i = Writing out₀ 0 (listed 0 n (valueOf ρ tree names states end)) out i
 
 abbrev μ-loop : tie.MeasureT-loop
-μ-loop tree end states names n out₀ i₀ out i = n - i
+μ-loop ρ tree end states names n out₀ i₀ out i = n - i
 
 loop-holds : tie.Need-loop-holds Inv-loop μ-loop
 loop-holds c = writing-first

@@ -5,10 +5,10 @@ use Rattle.event_report.proofs.shown.windows.Statement.{statement}
 use Rattle.event_report.proofs.shown.windows.Tie as tie
 
 abbrev Inv-loop : tie.InvT-loop
-Inv-loop report n tree states names some₀ i₀ some i = i ≤ n
+Inv-loop ρ report n tree states names some₀ i₀ some i = i ≤ n
 
 abbrev μ-loop : tie.MeasureT-loop
-μ-loop report n tree states names some₀ i₀ some i = n - i
+μ-loop ρ report n tree states names some₀ i₀ some i = n - i
 
 pub windows-spec : {M : Type 1} → statement M
 windows-spec =

@@ -12,21 +12,21 @@ use Rattle.matcher.proofs.answers.alternative_at.Statement.{statement}
 use Rattle.matcher.proofs.answers.alternative_at.Tie as tie
 
 abbrev Inv-loop : tie.InvT-loop
-Inv-loop tree names states tests edges operands s n t row a least₀ at₀ j₀ least at j =
-    Stepping (stateAt names states) tests (testsOf tree names edges operands) s n t (row - n) least at j
+Inv-loop ρ tree names states tests edges operands s n t row a least₀ at₀ j₀ least at j =
+    Stepping (stateAt ρ names states) tests (testsOf tree names edges operands) s n t (row - n) least at j
 
 abbrev μ-loop : tie.MeasureT-loop
-μ-loop tree names states tests edges operands s n t row a least₀ at₀ j₀ least at j = n - j
+μ-loop ρ tree names states tests edges operands s n t row a least₀ at₀ j₀ least at j = n - j
 
 returns : tie.Need-returns Inv-loop μ-loop
 returns c =
     let c6 = c .before .before .before .before .before .before in
-    longer-no (c6 .pre) (c .if1 .taken)
+    longer-no (c6 .pre) _ (c .if1 .taken)
 
 loop-holds : tie.Need-loop-holds Inv-loop μ-loop
 loop-holds c =
     let c6 = c .before .before .before .before .before .before in
-    stepping-start (c6 .pre)
+    stepping-start (c6 .pre) _
 
 cast-many : tie.Need-cast-many Inv-loop μ-loop
 cast-many c =
@@ -39,14 +39,14 @@ step-at-requires c κs =
     let c2 = c .before .before in
     let c3 = c2 .before in
     let c9 = c3 .before .before .before .before .before .before in
-    step-asked (c9 .pre) (c2 .loop .inv) (c .before .loop-test .taken) (c3 .if1 .left)
+    step-asked (c9 .pre) _ (c2 .loop .inv) (c .before .loop-test .taken) (c3 .if1 .left)
 
 add-at : tie.Need-add-at Inv-loop μ-loop
 add-at c =
     let c3 = c .before .before .before in
     let c4 = c3 .before in
     let c11 = c4 .before .before .before .before .before .before .before in
-    let l = step-fits (c11 .pre) (c4 .loop .inv) (c3 .loop-test .taken) in
+    let l = step-fits (c11 .pre) _ (c4 .loop .inv) (c3 .loop-test .taken) in
     omega (arith, c11 .good)
 
 loop-again : tie.Need-loop-again Inv-loop μ-loop
@@ -55,7 +55,7 @@ loop-again c =
     let c4 = c3 .before in
     let c11 = c4 .before .before .before .before .before .before .before in
     rw (c .lesser .ensures)
-    (stepping-next (c11 .pre) (c4 .loop .inv) (c3 .loop-test .taken) _ (c .before .step-at .ensures))
+    (stepping-next (c11 .pre) _ (c4 .loop .inv) (c3 .loop-test .taken) _ (c .before .step-at .ensures))
 
 returns-2 : tie.Need-returns-2 Inv-loop μ-loop
 returns-2 c =

@@ -11,11 +11,11 @@ use Rattle.matcher.proofs.answers.step_at.Statement.{statement}
 use Rattle.matcher.proofs.answers.step_at.Tie as tie
 
 abbrev Inv-loop : tie.InvT-loop
-Inv-loop tree names states edges operands t n a least₀ i₀ least i =
-    Asking (stateAt names states) (testsOf tree names edges operands) t n a least i
+Inv-loop ρ tree names states edges operands t n a least₀ i₀ least i =
+    Asking (stateAt ρ names states) (testsOf tree names edges operands) t n a least i
 
 abbrev μ-loop : tie.MeasureT-loop
-μ-loop tree names states edges operands t n a least₀ i₀ least i = n - i
+μ-loop ρ tree names states edges operands t n a least₀ i₀ least i = n - i
 
 loop-holds : tie.Need-loop-holds Inv-loop μ-loop
 loop-holds c = asking-first
@@ -37,7 +37,7 @@ loop-again c =
     let c5 = c .before .before .before .before .before in
     let start = c5 .before .before .before .before .before in
     rw (c .lesser .ensures)
-    (asking-next (start .pre) (c5 .loop .inv) (omega arith) _
+    (asking-next (start .pre) _ (c5 .loop .inv) (omega arith) _
     (c .before .test-at .ensures))
 
 returns : tie.Need-returns Inv-loop μ-loop

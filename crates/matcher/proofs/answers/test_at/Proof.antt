@@ -2,6 +2,8 @@
 use mathlib.Core.Path.{refl}
 use Rattle.alf.specs.Alternatives.{testAt}
 use borrow.Author.Needs.{needs}
+use native.Mathlib.Omega.{arith}
+use Rattle.evaluator.proofs.Traces.{earlier-row}
 use Rattle.matcher.proofs.answers.test_at.Statement.{statement}
 use Rattle.matcher.proofs.answers.test_at.Tie as tie
 
@@ -15,7 +17,7 @@ pub test-at-spec : {M : Type 1} → statement M
 test-at-spec =
     tie.close
     (tie.spec
-    (λ c κs. search needs)  -- state-requires
+    (λ c κs. (c .before .before .pre .ends, earlier-row _ (omega arith) (c .before .before .pre .rows)))
     (λ c. search needs)  -- add-state
     (λ c κs. search needs)  -- state-requires-2
     (λ c κs. search needs)  -- edge-on-requires

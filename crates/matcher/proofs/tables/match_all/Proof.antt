@@ -11,12 +11,12 @@ use Rattle.matcher.proofs.tables.match_all.Statement.{statement}
 use Rattle.matcher.proofs.tables.match_all.Tie as tie
 
 abbrev Inv-loop : tie.InvT-loop
-Inv-loop tree names states steps tests edges operands n answers₀ tried₀ i₀ answers tried i =
-    Filling (stateAt names states) (alternativesOf tree names steps tests edges operands) n
+Inv-loop ρ tree names states steps tests edges operands n answers₀ tried₀ i₀ answers tried i =
+    Filling (stateAt ρ names states) (alternativesOf tree names steps tests edges operands) n
     answers₀ tried₀ answers tried i
 
 abbrev μ-loop : tie.MeasureT-loop
-μ-loop tree names states steps tests edges operands n answers₀ tried₀ i₀ answers tried i = n - i
+μ-loop ρ tree names states steps tests edges operands n answers₀ tried₀ i₀ answers tried i = n - i
 
 loop-holds : tie.Need-loop-holds Inv-loop μ-loop
 loop-holds c = filling-first

@@ -12,11 +12,11 @@ use Rattle.matcher.proofs.tables.totals.Statement.{statement}
 use Rattle.matcher.proofs.tables.totals.Tie as tie
 
 abbrev Inv-loop : tie.InvT-loop
-Inv-loop tree names states steps tests edges operands n yes₀ no₀ unknown₀ i₀ yes' no' unknown i =
-    Counting (stateAt names states) (alternativesOf tree names steps tests edges operands) n yes' no' unknown i
+Inv-loop ρ tree names states steps tests edges operands n yes₀ no₀ unknown₀ i₀ yes' no' unknown i =
+    Counting (stateAt ρ names states) (alternativesOf tree names steps tests edges operands) n yes' no' unknown i
 
 abbrev μ-loop : tie.MeasureT-loop
-μ-loop tree names states steps tests edges operands n yes₀ no₀ unknown₀ i₀ yes' no' unknown i = n - i
+μ-loop ρ tree names states steps tests edges operands n yes₀ no₀ unknown₀ i₀ yes' no' unknown i = n - i
 
 loop-holds : tie.Need-loop-holds Inv-loop μ-loop
 loop-holds c = counting-first

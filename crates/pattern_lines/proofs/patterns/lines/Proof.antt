@@ -6,10 +6,10 @@ use Rattle.pattern_lines.proofs.patterns.lines.Statement.{statement}
 use Rattle.pattern_lines.proofs.patterns.lines.Tie as tie
 
 abbrev Inv-loop : tie.InvT-loop
-Inv-loop names n states text sums₀ at₀ sums at = Unit {0}
+Inv-loop ρ names n states text sums₀ at₀ sums at = Unit {0}
 
 abbrev μ-loop : tie.MeasureT-loop
-μ-loop names n states text sums₀ at₀ sums at = length text - at
+μ-loop ρ names n states text sums₀ at₀ sums at = length text - at
 
 pub lines-spec : {M : Type 1} → statement M
 lines-spec =

@@ -20,7 +20,7 @@ returns : tie.Need-returns
 returns c =
     let test = c .before in
     let s = test .before .before .before .before .before .before .before in
-    sort-refused (s .args .sort) (s .args .times .now) (s .args .states .now) (s .args .out .now)
+    sort-refused _ (s .args .sort) (s .args .times .now) (s .args .states .now) (s .args .out .now)
     (test .before .read-expression .ensures) (test .if1 .taken)
 
 array-share-prefix-tree : tie.Need-array-share-prefix-tree
@@ -46,7 +46,7 @@ returns-2 c =
     let ended = c .before .before in
     let test = ended .before .before .before .before in
     let s = test .before .before .before .before .before .before .before in
-    sort-lists (s .args .sort) (s .args .times .now) (s .args .states .now) (found (test .before) (test .if1 .left))
+    sort-lists _ (s .args .sort) (s .args .times .now) (s .args .states .now) (found (test .before) (test .if1 .left))
     (ended .list-tree .ensures)
 
 pub list-given-spec : {M : Type 1} → statement M

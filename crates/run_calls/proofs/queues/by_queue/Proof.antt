@@ -6,10 +6,10 @@ use Rattle.run_calls.proofs.queues.by_queue.Statement.{statement}
 use Rattle.run_calls.proofs.queues.by_queue.Tie as tie
 
 abbrev Inv-loop : tie.InvT-loop
-Inv-loop names tree states queue₀ at₀ queue at = at ≤ length states
+Inv-loop ρ names tree states queue₀ at₀ queue at = at ≤ length states
 
 abbrev μ-loop : tie.MeasureT-loop
-μ-loop names tree states queue₀ at₀ queue at = length states - at
+μ-loop ρ names tree states queue₀ at₀ queue at = length states - at
 
 pub by-queue-spec : {M : Type 1} → statement M
 by-queue-spec =

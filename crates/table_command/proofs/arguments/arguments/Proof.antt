@@ -6,10 +6,10 @@ use Rattle.table_command.proofs.arguments.arguments.Statement.{statemen
 use Rattle.table_command.proofs.arguments.arguments.Tie as tie
 
 abbrev Inv-loop : tie.InvT-loop
-Inv-loop names n states count sums₀ behind₀ i₀ sums behind i = 3 ≤ i
+Inv-loop ρ first names n states count sums₀ behind₀ i₀ sums behind i = first ≤ i
 
 abbrev μ-loop : tie.MeasureT-loop
-μ-loop names n states count sums₀ behind₀ i₀ sums behind i = count - i
+μ-loop ρ first names n states count sums₀ behind₀ i₀ sums behind i = count - i
 
 pub arguments-spec : {M : Type 1} → statement M
 arguments-spec =

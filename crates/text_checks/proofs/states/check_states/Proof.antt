@@ -61,7 +61,10 @@ check-states-spec =
     (λ c κs. entry (c .before) .pre .within)  -- find-word-requires
     (λ c κs. search needs)  -- refuse-requires
     returns
-    (λ c κs. record { ordered = c .before .find-word .ensures .run .low; within = c .before .find-word .ensures .run .within })  -- code-at-requires
+    (λ c κs. record {
+      ordered = c .before .find-word .ensures .run .low;
+      within = c .before .find-word .ensures .run .within;
+    })  -- code-at-requires
     (λ c κs. search needs)  -- refuse-requires-2
     returns-2
     (λ c. let entered = c .before .before .before .before in

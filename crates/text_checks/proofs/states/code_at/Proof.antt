@@ -19,6 +19,8 @@ code-at-spec =
     (tie.spec
     (λ c. omega (arith, c .before .pre .ordered))  -- sub-if1
     returns
-    (λ c. let start = c .before .before .before in omega (arith, c .before .if1 .left, start .pre .within))  -- slice-read
+    (λ c.
+    let start = c .before .before .before in
+    omega (arith, c .before .if1 .left, start .pre .within))  -- slice-read
     (λ c κs. search needs)  -- code-of-requires
     returns-2)

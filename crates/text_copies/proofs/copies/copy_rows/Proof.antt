@@ -47,10 +47,12 @@ copy-rows-spec =
     ))  -- mul-times
     (λ c.
     let inside = c .before in
-    filling-times (start (inside .before) .pre) (inside .before .loop .inv) (inside .loop-test .taken))  -- slice-write-times
+    filling-times (start (inside .before) .pre) (inside .before .loop .inv)
+    (inside .loop-test .taken))  -- slice-write-times
     (λ c κs.
     let inside = c .before .before in
-    filling-room (start (inside .before) .pre) (inside .before .loop .inv) (inside .loop-test .taken))  -- put-codes-requires
+    filling-room (start (inside .before) .pre) (inside .before .loop .inv)
+    (inside .loop-test .taken))  -- put-codes-requires
     (λ c κs. entered c .before .loop .inv .next .within)  -- behind-line-requires
     (λ c κs. c .behind-line .ensures .within)  -- next-line-requires-2
     (λ c. omega (arith, entered (c .before .before) .loop-test .taken))  -- add-r

@@ -26,7 +26,8 @@ loop-again c =
     let turn = inside .before in (
       omega (arith, inside .loop-test .taken),
       finds-on (turn .loop .inv .1) (c .find-word2 .ensures),
-      codes-next _ _ _ _ _ (inside .loop-test .taken) (turn .loop .inv .1) (coded .code-at .ensures) (turn .loop .inv .2),
+      codes-next _ _ _ _ _ (inside .loop-test .taken) (turn .loop .inv .1) (coded .code-at .ensures)
+          (turn .loop .inv .2),
     )
 
 pub put-codes-spec : {M : Type 1} → statement M

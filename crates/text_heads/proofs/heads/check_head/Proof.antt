@@ -21,7 +21,8 @@ returns-2 c =
     let tested = timed .before in
     let found = tested .before .before in
     head-empty (found .before .before .pre) (found .find-word .ensures) (tested .is-time .ensures)
-    (not-false _ (timed .if1 .left)) (checked .check-names .ensures) (told .enum-told .given .1) _ (c .before .if2 .taken)
+    (not-false _ (timed .if1 .left)) (checked .check-names .ensures) (told .enum-told .given .1) _
+    (c .before .if2 .taken)
     (c .refuse2 .ensures)
 
 returns-3 : tie.Need-returns-3

@@ -55,7 +55,8 @@ check-names-spec =
     returns
     (λ c κs.
     let entered = c .before in
-    word-here (start (entered .before) .pre) (entered .before .loop .inv) (entered .loop-test .taken))  -- is-new-name-requires
+    word-here (start (entered .before) .pre) (entered .before .loop .inv)
+    (entered .loop-test .taken))  -- is-new-name-requires
     (λ c κs. search needs)  -- refuse-requires-2
     returns-2
     (λ c κs.

@@ -23,7 +23,8 @@ returns-3 c =
     let counted = behind .before in
     let other = counted .before in
     rows-refused (other .before .next-line .ensures) (other .if1 .left) (counted .count-names .ensures)
-    (behind .behind-line .ensures) (checked .check-head .ensures) (told .enum-told .given .1) (rows .check-rows .ensures)
+    (behind .behind-line .ensures) (checked .check-head .ensures) (told .enum-told .given .1)
+    (rows .check-rows .ensures)
     (c .before .y .given .1)
 
 returns-4 : tie.Need-returns-4
@@ -35,7 +36,8 @@ returns-4 c =
     let counted = behind .before in
     let other = counted .before in
     text-good (other .before .next-line .ensures) (other .if1 .left) (counted .count-names .ensures)
-    (behind .behind-line .ensures) (checked .check-head .ensures) (told .enum-told .given .1) (rows .check-rows .ensures)
+    (behind .behind-line .ensures) (checked .check-head .ensures) (told .enum-told .given .1)
+    (rows .check-rows .ensures)
     (c .before .n .given .1)
 
 pub check-text-spec : {M : Type 1} → statement M
@@ -44,13 +46,15 @@ check-text-spec =
     (tie.spec
     (λ c κs. omega arith)  -- next-line-requires
     (λ c κs. search needs)  -- refusal-of-requires
-    (λ c. text-empty (c .before .before .next-line .ensures) (c .refusal-of .ensures) (c .before .if1 .taken))  -- returns
+    (λ c. text-empty (c .before .before .next-line .ensures) (c .refusal-of .ensures)
+    (c .before .if1 .taken))  -- returns
     (λ c κs. c .before .next-line .ensures .within)  -- count-names-requires
     (λ c κs. c .before .before .next-line .ensures .within)  -- behind-line-requires
     (λ c κs.
     let counted = c .before in
     let other = counted .before in
-    head-in (other .before .next-line .ensures) (other .if1 .left) (counted .count-names .ensures))  -- check-head-requires
+    head-in (other .before .next-line .ensures) (other .if1 .left)
+    (counted .count-names .ensures))  -- check-head-requires
     (λ c. search needs)  -- enum-known-x
     (λ c. search needs)  -- enum-told
     (λ c κs.

@@ -14,7 +14,8 @@ returns-2 : tie.Need-returns-2
 returns-2 c =
     let found = c .before .before in
     let told = found .before .before in
-    rest-more _ _ _ _ (told .before .before .check-states .ensures) (told .enum-told .given .1) (found .find-word .ensures)
+    rest-more _ _ _ _ (told .before .before .check-states .ensures) (told .enum-told .given .1)
+    (found .find-word .ensures)
     _ (found .before .if1 .left) (c .before .if2 .taken) (c .refuse .ensures)
 
 returns-3 : tie.Need-returns-3
@@ -24,7 +25,8 @@ returns-4 : tie.Need-returns-4
 returns-4 c =
     let found = c .before in
     let told = found .before .before in
-    rest-end _ _ _ _ (told .before .before .check-states .ensures) (told .enum-told .given .1) (found .find-word .ensures)
+    rest-end _ _ _ _ (told .before .before .check-states .ensures) (told .enum-told .given .1)
+    (found .find-word .ensures)
     (c .if2 .left)
 
 pub check-rest-spec : {M : Type 1} → statement M

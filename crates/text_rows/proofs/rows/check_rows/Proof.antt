@@ -69,7 +69,8 @@ check-rows-spec =
     (λ c. search needs)  -- enum-told
     (λ c κs.
     let inside = entered c in
-    row-in (inside .before .loop .inv) (inside .loop-test .taken) (start (inside .before) .pre) .timed)  -- row-time-requires
+    row-in (inside .before .loop .inv) (inside .loop-test .taken)
+    (start (inside .before) .pre) .timed)  -- row-time-requires
     (λ c κs. entered (c .before) .before .loop .inv .next .within)  -- behind-line-requires
     (λ c κs. c .behind-line .ensures .within)  -- next-line-requires-2
     add-r
@@ -78,7 +79,8 @@ check-rows-spec =
     (λ c κs. search needs)  -- refuse-requires
     (λ c.
     let ended = c .before .before in
-    rows-none (ended .before .loop .inv) (ended .loop-test .left) _ (c .before .if1 .taken) (c .refuse .ensures))  -- returns-2
+    rows-none (ended .before .loop .inv) (ended .loop-test .left) _ (c .before .if1 .taken)
+    (c .refuse .ensures))  -- returns-2
     (λ c.
     let ended = c .before in
     rows-done (ended .before .loop .inv) (ended .loop-test .left) (c .if1 .left)))  -- returns-3

@@ -25,7 +25,8 @@ returns-4 c =
     let further = c .before .before in
     let good = further .before in
     let few = good .before in
-    time-early _ _ (few .before .row-time .ensures) (few .if1 .left) (not-false _ (good .if2 .left)) _ (further .if3 .left)
+    time-early _ _ (few .before .row-time .ensures) (few .if1 .left) (not-false _ (good .if2 .left)) _
+    (further .if3 .left)
     (c .before .if4 .taken) (c .refuse3 .ensures)
 
 returns-5 : tie.Need-returns-5

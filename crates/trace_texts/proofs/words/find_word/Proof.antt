@@ -23,7 +23,8 @@ returns : tie.Need-returns Inv-loop μ-loop
 returns c =
     let ended = c .before in
     let turn = ended .before in
-    looking-end (turn .loop .inv .1) (omega (arith, turn .loop .inv .0, ended .loop-test .left)) (c .skip-word2 .ensures)
+    looking-end (turn .loop .inv .1) (omega (arith, turn .loop .inv .0, ended .loop-test .left))
+    (c .skip-word2 .ensures)
 
 pub find-word-spec : {M : Type 1} → statement M
 find-word-spec =

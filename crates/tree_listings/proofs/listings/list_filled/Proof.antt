@@ -8,14 +8,14 @@ write-listing-requires : tie.Need-write-listing-requires
 write-listing-requires c κs =
     let filled = c .before .before .before .before in
     let s = filled .before .before .before .before .before .before .before in
-    answers-listable (s .args .times .now) (s .pre) (filled .fill-answers .ensures)
+    answers-listable _ (s .args .times .now) (s .pre) (filled .fill-answers .ensures)
 
 returns : tie.Need-returns
 returns c =
     let written = c .before .before in
     let filled = written .before .before .before .before .before in
     let s = filled .before .before .before .before .before .before .before in
-    answers-listed (s .args .times .now) (s .pre) (filled .fill-answers .ensures) (written .write-listing .ensures)
+    answers-listed _ (s .args .times .now) (s .pre) (filled .fill-answers .ensures) (written .write-listing .ensures)
 
 pub list-filled-spec : {M : Type 1} → statement M
 list-filled-spec =

@@ -21,7 +21,7 @@ use Rattle.window_answers.proofs.filling.+fill.{statement}
 use Rattle.window_answers.proofs.filling.+fill.Tie.{close}
 
 abbrev μ-fill : Measures 3 fill-kinds.ps ℕ
-μ-fill κs a = a .1 .1 .0
+μ-fill κs a = a .1 .1 .1 .0
 
 abbrev fill-at : ℕ → In 3 fill-kinds.ps
 fill-at t = and 3 fill-kinds.ps (is 3 fill-kinds.ps μ-fill t) fill.Pre

@@ -1,0 +1,14 @@
+// The rules of evaluation, for C.
+ghost use mathlib.Core.Path.{_≡_};
+ghost use Rattle.alf.specs.Values.{oldRules};
+use alf::Rules;
+
+// Document 01's rules: X where the choice of a ternary is unknown.
+#[no_mangle]
+pub extern "C" fn dachsmond_old_rules() -> Rules
+    ensures { λ r. ⌜ r ≡ oldRules ⌝ }
+{
+    Rules {
+        equal_branches: false,
+    }
+}

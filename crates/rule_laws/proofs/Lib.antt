@@ -1,0 +1,4 @@
+-- The laws of this crate.
+pub mod EqualBranches
+pub mod Sharper
+pub mod SharperTries

@@ -1,0 +1,2 @@
+-- Which expressions and patterns the laws of the two rules are about.
+pub mod Ternaries
