@@ -1,4 +1,6 @@
 -- The laws of document 01's definitions.
+-- The computed readings of equal branches stand first: a definition that compares something else is refused by them.
+pub mod BranchReadings
 -- an expression's bytes
 pub mod NameBytes
 pub mod Steps

@@ -1,5 +1,4 @@
 -- The laws of this crate.
 pub mod EqualBranches
-pub mod Readings
 pub mod Sharper
 pub mod SharperTries
