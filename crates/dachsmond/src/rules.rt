@@ -2,13 +2,12 @@
 ghost use mathlib.Core.Path.{_≡_};
 ghost use Rattle.alf.specs.Values.{oldRules};
 use alf::Rules;
+use states::rules::old_rules;
 
 // Document 01's rules: X where the choice of a ternary is unknown.
 #[no_mangle]
 pub extern "C" fn dachsmond_old_rules() -> Rules
     ensures { λ r. ⌜ r ≡ oldRules ⌝ }
 {
-    Rules {
-        equal_branches: false,
-    }
+    old_rules()
 }

@@ -10,6 +10,7 @@ use console::output::say;
 use correct_command::correct;
 use loading::traces::load;
 use show_command::show;
+use states::rules::old_rules;
 use table_command::first_look;
 use table_command::table;
 use text_parts::lines::line_of;
@@ -174,9 +175,7 @@ fn run(word: &[u8], more: usize) {
         return;
     }
     if c < VERSION {
-        let rules = Rules {
-            equal_branches: false,
-        };
+        let rules = old_rules();
         on_trace(
             Asked {
                 rules,
@@ -202,9 +201,8 @@ fn run_equal(word: &[u8], more: usize) {
         return;
     }
     if expects(c, word, more) {
-        let rules = Rules {
-            equal_branches: true,
-        };
+        let mut rules = old_rules();
+        rules.equal_branches = true;
         on_trace(
             Asked {
                 rules,

@@ -4,14 +4,11 @@
 mod reports;
 mod shown;
 
-use alf::Rules;
 use libc::STDIN_FILENO;
+use states::rules::old_rules;
 
 fn main() {
     let mut input = io::large_buffer();
     let n = io::read_full(STDIN_FILENO, &mut input);
-    let rules = Rules {
-        equal_branches: false,
-    };
-    crate::shown::show_lines(rules, &input[..n]);
+    crate::shown::show_lines(old_rules(), &input[..n]);
 }

@@ -18,6 +18,7 @@ use run_routes::totals_in;
 use run_routes::zeros_in;
 use run_words::words::list_in;
 use run_words::words::number_in;
+use states::rules::old_rules;
 use text_parts::lines::behind_line;
 use text_parts::lines::line_at;
 use text_parts::parts::front;
@@ -140,9 +141,8 @@ fn show_line(line: &[u8]) {
     if kind == b'#' {
         return;
     }
-    let rules = Rules {
-        equal_branches: is_new(line),
-    };
+    let mut rules = old_rules();
+    rules.equal_branches = is_new(line);
     let at = start_of(line, 9, b' ');
     let end = line.len();
     show_rest(rules, kind, line, &line[at..end]);

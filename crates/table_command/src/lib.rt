@@ -9,6 +9,7 @@ use jobs::sums::no_sums;
 use pattern_lines::accounts::say_heading;
 use pattern_lines::accounts::say_total;
 use pattern_lines::patterns::lines;
+use states::rules::old_rules;
 use table_lines::lines::Sums;
 
 fn begin(n: usize, line: &mut [u8; 4096]) -> Sums {
@@ -43,9 +44,7 @@ pub fn first_look() {
     let mut line = io::buffer();
     let s = begin(6, &mut line);
     let t = lines(
-        Rules {
-            equal_branches: false,
-        },
+        old_rules(),
         b"A\0\0\0\0\0\0\0\0\0\0\0\0\0\0\0\0\0\0\0\0\0\0\0\0\0\0\0\0\0\0\0\
           B\0\0\0\0\0\0\0\0\0\0\0\0\0\0\0\0\0\0\0\0\0\0\0\0\0\0\0\0\0\0\0\
           C\0\0\0\0\0\0\0\0\0\0\0\0\0\0\0\0\0\0\0\0\0\0\0\0\0\0\0\0\0\0\0",
