@@ -5,3 +5,4 @@ pub mod Cursors
 pub mod RowCursors
 pub mod GoodRecords
 pub mod CursorSteps
+pub mod ManyRows

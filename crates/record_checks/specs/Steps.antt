@@ -3,8 +3,10 @@
 --   RowStands, TimeStands            at a row, at a row whose time is whole
 --   kindOf, Checks                   the number that tells a record's kind, and what the check of a record comes to
 --   NameStands, NewName, Above       a whole name record, a new name, a later time
---   GoesOn, Next                     a good record that is not the last, and the cursor behind it
+--   GoesOn, Next, Onward             a good record that is not the last; the cursor behind it, and behind any number
+--   MarkTold, RowTold                what the test for a row tells where it says yes
 use Prim.Native.Nat.{ℕ, _+_, _-_, _<_, _≤_}
+use mathlib.Core.Bool.{Bool, true}
 use mathlib.Core.Path.{_≡_}
 use mathlib.Core.List.{List}
 use lib.ListN.{length, getD}
@@ -15,7 +17,7 @@ use Rattle.record_checks.specs.declared.Cursor.{Cursor}
 use Rattle.trace_format.specs.declared.Mark.{Mark}
 use Rattle.trace_format.specs.declared.Mark.the-variants.{Name, Row, End, Other}
 use Rattle.trace_format.specs.Parts.{TimeThere}
-use Rattle.trace_format.specs.Records.{Before, place, timeIn, recordOrder, markHere, nameEnd, nameIn}
+use Rattle.trace_format.specs.Records.{Before, place, timeIn, recordOrder, markAt, markHere, nameEnd, nameIn}
 
 -- a cursor stands behind its names and rows, in the file
 pub record Stands (file : List ℕ) (s : Cursor) : Type 0 where
@@ -77,3 +79,16 @@ pub record Next (file : List ℕ) (s t : Cursor) : Type 0 where
   pub stands : Stands file t
   pub before : Before file (s .names) (s .rows) → Before file (t .names) (t .rows)
   pub further : s .place < t .place
+
+-- what a yes tells: the mark of a row whose time has w bytes stands at a place; such a row, a good one, at the cursor
+pub record MarkTold (file : List ℕ) (at w : ℕ) (yes : Bool) : Type 0 where
+  pub marked : yes ≡ true → markAt file at ≡ Row w
+
+pub record RowTold (file : List ℕ) (s : Cursor) (w : ℕ) (yes : Bool) : Type 0 where
+  pub good : yes ≡ true → GoesOn file s w
+
+-- a cursor behind any number of good records
+pub record Onward (file : List ℕ) (s t : Cursor) : Type 0 where
+  pub stands : Stands file t
+  pub before : Before file (s .names) (s .rows) → Before file (t .names) (t .rows)
+  pub further : s .place ≤ t .place

@@ -82,7 +82,7 @@ fn is_above(file: &[u8], s: Cursor, w: usize) -> bool
 }
 
 // A record marked `RW` or `RL`: its time has w bytes, four or eight.
-fn check_row(file: &[u8], s: Cursor, w: usize) -> Outcome
+pub fn check_row(file: &[u8], s: Cursor, w: usize) -> Outcome
     requires { ⌜ RowStands w (now file) s ⌝ }
     ensures { λ r. ⌜ Checks (now (file .entry)) s r ⌝ }
 {

@@ -18,8 +18,8 @@ use Rattle.basics.proofs.Listed.{listed-length, listed-at}
 use Rattle.basics.proofs.Stores.{Writing, writing-next, writing-end}
 use Rattle.basics.proofs.PartByPart.{flat, Going, going-start, going-room, going-on, going-end, put-front}
 use Rattle.alf.specs.Names.{slotOf}
-use Rattle.trace_reader.specs.HeldLists.{SlotFits}
-use Rattle.trace_reader.proofs.Copying.{slot-length}
+use Rattle.record_copies.specs.HeldLists.{SlotFits}
+use Rattle.record_copies.proofs.Copying.{slot-length}
 use Rattle.trace_texts.specs.Words.{Word, Line}
 use Rattle.trace_texts.specs.Texts.{none, nameWords, codeOf, stateWord, namesMade}
 use Rattle.trace_texts.specs.Finding.{from, Finds}

@@ -4,7 +4,7 @@ use mathlib.Core.Path.{_≡_, ap, _∙_}
 use mathlib.Core.List.{List}
 use lib.ListN.{length, length-map}
 use Rattle.alf.specs.Names.{slotOf}
-use Rattle.trace_reader.proofs.Copying.{slot-length}
+use Rattle.record_copies.proofs.Copying.{slot-length}
 use Rattle.trace_texts.specs.Words.{Word, Line}
 use Rattle.trace_texts.specs.Texts.{nameWords, namesMade, statesMade}
 use Rattle.trace_texts.proofs.Parts.{parts-length, all-map}

@@ -16,7 +16,7 @@ use Rattle.basics.proofs.Stable.{le-stable, lt-stable}
 use Rattle.alf.specs.Refusals.{Passed, Comes}
 use Rattle.alf.proofs.Orders.{plainly, by-first, by-then, passed-both, passed-left, passed-right}
 use Rattle.trace_reader.specs.declared.Reading.the-variants.{Read, Refused}
-use Rattle.trace_reader.proofs.Copying.{name-short}
+use Rattle.record_copies.proofs.Copying.{name-short}
 use Rattle.trace_texts.specs.Words.{Line}
 use Rattle.trace_texts.specs.Texts.{nameWords, wide, statesMade}
 use Rattle.trace_texts.specs.Texts.{namesOrder, headOrder, rowsOrder}

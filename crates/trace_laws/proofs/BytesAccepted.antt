@@ -15,7 +15,7 @@ use Rattle.trace_format.specs.declared.Mark.the-variants.{Row}
 use Rattle.trace_format.proofs.Numbers.{bytes-length}
 use Rattle.trace_format.specs.Records.{nameEnd, place, markAt, timeBytes, nameIn, widthIn, timeIn, codesIn}
 use Rattle.trace_reader.specs.Reading.{Accepted}
-use Rattle.trace_reader.specs.HeldLists.{namesOf, timesOf, statesOf}
+use Rattle.record_copies.specs.HeldLists.{namesOf, timesOf, statesOf}
 use Rattle.record_checks.proofs.CursorSteps.{place-zero}
 use Rattle.trace_format.proofs.RowByRow.{next-to, room-for}
 use Rattle.record_checks.proofs.GoodRecords.{NameFacts, RowFacts, EndFacts, name-good, row-good, end-good}

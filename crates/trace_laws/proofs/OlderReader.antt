@@ -18,7 +18,7 @@ use Rattle.trace_format.specs.Format.{rowLetter}
 use Rattle.trace_format.specs.Records.{Due, timeBytes, place, markHere, widthIn, recordOrder, Good, GoodRow, Before}
 use Rattle.trace_format.proofs.MarkBytes.{row-kind, marks-row}
 use Rattle.trace_reader.specs.Reading.{Accepted, FileRefused}
-use Rattle.trace_reader.specs.HeldLists.{timesOf, statesOf}
+use Rattle.record_copies.specs.HeldLists.{timesOf, statesOf}
 use Rattle.trace_laws.specs.Older as Older
 use Rattle.trace_laws.proofs.OlderRecords.{Short, place-older, time-older, codes-older, here-older, order-older}
 use Rattle.trace_laws.proofs.OlderRecords.{mark-known, mark-long}

@@ -16,7 +16,7 @@ use Rattle.trace_reader.specs.declared.Reading.{Reading}
 use Rattle.trace_format.specs.Format.{Fitting, fileIn, Trace}
 use Rattle.trace_format.specs.Records.{widthIn}
 use Rattle.trace_reader.specs.Reading.{Accepted, FileRefused, roomOrder, Got}
-use Rattle.trace_reader.specs.HeldLists.{namesOf, timesOf, statesOf}
+use Rattle.record_copies.specs.HeldLists.{namesOf, timesOf, statesOf}
 use Rattle.trace_reader.proofs.AcceptedTraces.{accepted-trace, accepted-fits, accepted-bytes}
 use Rattle.trace_laws.proofs.Places.{accepted-unique, accepted-refused}
 use Rattle.trace_laws.proofs.BytesAccepted.{trace-accepted, held-names, held-times, held-states}

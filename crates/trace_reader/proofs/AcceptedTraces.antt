@@ -11,11 +11,11 @@ use Rattle.names.specs.Check.{Slots}
 use Rattle.trace_format.specs.Format.{nameRecord, rowRecord, nameRecords, rowRecords, fileIn, Lists, Trace, Fitting}
 use Rattle.trace_format.specs.Records.{place, nameEnd, nameIn, widthIn, timeIn, codesIn, GoodRow}
 use Rattle.trace_reader.specs.Reading.{Accepted}
-use Rattle.trace_reader.specs.HeldLists.{namesOf, timesOf, statesOf}
+use Rattle.record_copies.specs.HeldLists.{namesOf, timesOf, statesOf}
 use Rattle.record_checks.proofs.GoodRecords.{NameFacts, RowFacts, EndFacts, good-name, good-row, good-end}
 use Rattle.record_checks.proofs.CursorSteps.{place-zero}
 use Rattle.record_checks.proofs.NameWalk.{end-zero}
-use Rattle.trace_reader.proofs.Copying.{names-length, times-length, states-length}
+use Rattle.record_copies.proofs.Copying.{names-length, times-length, states-length}
 use Rattle.trace_reader.proofs.SpeltRecords.{name-spelt, row-spelt, end-spelt}
 use Rattle.trace_reader.proofs.NameSlots.{slot-of-names, name-of-names}
 use Rattle.trace_reader.proofs.HeldRows.{time-of-times, codes-of-states, time-fits, times-small, states-small}

@@ -16,9 +16,9 @@ use Rattle.trace_format.proofs.RowByRow.{room-for}
 use Rattle.trace_format.proofs.MarkBytes.{row-kind}
 use Rattle.trace_format.proofs.Numbers.{number-small, fits-small}
 use Rattle.trace_format.specs.Records.{place, widthIn, timeIn, codesIn, GoodRow}
-use Rattle.trace_reader.specs.HeldLists.{timesOf, statesOf}
+use Rattle.record_copies.specs.HeldLists.{timesOf, statesOf}
 use Rattle.record_checks.proofs.GoodRecords.{good-row}
-use Rattle.trace_reader.proofs.Copying.{times-length, states-length, codes-length}
+use Rattle.record_copies.proofs.Copying.{times-length, states-length, codes-length}
 
 -- a law of each element of two lists is one of their join
 join-all :

@@ -1,6 +1,5 @@
 -- Laws of what the records of a file hold, and of what reading comes to.
 pub mod FileChecks
-pub mod Copying
 pub mod SpeltRecords
 pub mod NameSlots
 pub mod HeldRows

@@ -16,8 +16,8 @@ use Rattle.alf.specs.Names.{isLetter, isDecimal, startsName, goesOnName, isName
 use Rattle.alf.proofs.NameBytes.{starts-goes-on}
 use Rattle.names.proofs.Slots.{slot-of}
 use Rattle.trace_format.specs.Records.{nameIn}
-use Rattle.trace_reader.specs.HeldLists.{namesOf}
-use Rattle.trace_reader.proofs.Copying.{slot-length, names-length, name-short}
+use Rattle.record_copies.specs.HeldLists.{namesOf}
+use Rattle.record_copies.proofs.Copying.{slot-length, names-length, name-short}
 
 -- bytes that go on with a name hold no zero
 no-zero : (b : ℕ) → goesOnName b ≡ true → eqb b 0 ≡ false

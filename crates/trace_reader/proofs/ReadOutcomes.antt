@@ -15,7 +15,7 @@ use Rattle.trace_reader.specs.declared.Reading.the-variants.{Read, Refus
 use Rattle.trace_format.specs.Records.{nameEnd, widthIn}
 use Rattle.trace_format.proofs.RowByRow.{codes-bound}
 use Rattle.trace_reader.specs.Reading.{Accepted, Reads}
-use Rattle.trace_reader.specs.HeldLists.{namesOf, timesOf, statesOf, NamesFit, RowsFit}
+use Rattle.record_copies.specs.HeldLists.{namesOf, timesOf, statesOf, NamesFit, RowsFit}
 use Rattle.trace_reader.specs.Checking.{Checked}
 use Rattle.record_checks.proofs.CursorSteps.{place-zero}
 use Rattle.trace_reader.proofs.AcceptedTraces.{

@@ -5,6 +5,7 @@ use basics::Outcome;
 use record_checks::Cursor;
 use record_checks::checks::check_record;
 use record_checks::checks::pass;
+use record_checks::rows::pass_rows;
 
 // The whole file: how many names and rows it has, or the refusal of the first record that is not good.
 pub fn check_file(file: &[u8]) -> Reading
@@ -17,6 +18,7 @@ pub fn check_file(file: &[u8]) -> Reading
         last: 0,
     };
     loop {
+        s = pass_rows(file, s);
         match check_record(file, s) {
             Outcome::Refused(r) => {
                 return Reading::Refused(r);

@@ -1,6 +1,5 @@
 // Trace files: reading one into three lent lists, as document 01's chapter "Trace file" has it.
 mod checks;
-pub mod copies;
 pub mod read;
 
 use basics::Refusal;

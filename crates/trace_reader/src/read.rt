@@ -5,10 +5,10 @@ ghost use Rattle.trace_reader.specs.declared.Reading.the-variants.{Refus
 ghost use Rattle.trace_reader.specs.Reading.{Accepted, Reads};
 use crate::Reading;
 use crate::checks::check_file;
-use crate::copies::copy_names;
-use crate::copies::copy_states;
-use crate::copies::copy_times;
 use basics::refusing::refusal_of;
+use record_copies::copies::copy_names;
+use record_copies::copies::copy_states;
+use record_copies::copies::copy_times;
 
 // Too little room: 9, with the length needed.
 fn short_of(needed: usize) -> Reading

@@ -16,7 +16,7 @@ use Rattle.alf.specs.Refusals.{Passed}
 use Rattle.alf.proofs.Orders.{passed-left, passed-right}
 use Rattle.figures.specs.Numbers.{reading}
 use Rattle.trace_format.specs.Format.{Trace}
-use Rattle.trace_reader.proofs.Copying.{slot-length}
+use Rattle.record_copies.proofs.Copying.{slot-length}
 use Rattle.trace_reader.proofs.NameSlots.{until-name}
 use Rattle.trace_texts.specs.Words.{Word, Line, line}
 use Rattle.trace_texts.specs.Texts.{none, nameWords, wide, timeOf, codeOf, stateWord, NewName}

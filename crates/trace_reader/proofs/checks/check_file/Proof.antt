@@ -20,26 +20,27 @@ loop-holds : tie.Need-loop-holds Inv-loop μ-loop
 loop-holds c =
     (start-stands _, start-before _)
 
-check-record-requires : tie.Need-check-record-requires Inv-loop μ-loop
-check-record-requires c κs =
-    c .loop .inv .0
+-- where the turn stands behind the rows that it passed
+passed : (c : tie.After-pass-rows Inv-loop μ-loop)
+    → Before (c .before .before .before .args .file .now) (c .pass-rows .result .names) (c .pass-rows .result .rows)
+passed c = c .pass-rows .ensures .before (c .before .loop .inv .1)
 
 returns : tie.Need-returns Inv-loop μ-loop
 returns c =
     let after-r = c .before in
     let after-check-record = after-r .before .before in
     let turn = after-check-record .before in
-    file-refused (turn .loop .s) (after-check-record .check-record .ensures)
-    (turn .loop .inv .1) (after-r .r .given .1)
+    file-refused (turn .pass-rows .result) (after-check-record .check-record .ensures)
+    (passed turn) (after-r .r .given .1)
 
 returns-2 : tie.Need-returns-2 Inv-loop μ-loop
 returns-2 c =
     let after-kind = c .before .before in
     let after-check-record = after-kind .before .before in
     let turn = after-check-record .before in
-    file-accepted (turn .loop .s)
+    file-accepted (turn .pass-rows .result)
     (after-check-record .check-record .ensures)
-    (turn .loop .inv .1) (after-kind .kind .given .1) (c .if1 .taken)
+    (passed turn) (after-kind .kind .given .1) (c .if1 .taken)
 
 pass-requires : tie.Need-pass-requires Inv-loop μ-loop
 pass-requires c κs =
@@ -47,18 +48,18 @@ pass-requires c κs =
     let after-check-record = after-kind .before .before in
     let turn = after-check-record .before in
     goes-on _ (after-check-record .check-record .ensures)
-    (turn .loop .inv .0) (after-kind .kind .given .1) (c .if1 .left)
+    (turn .pass-rows .ensures .stands) (after-kind .kind .given .1) (c .if1 .left)
 
 loop-less : tie.Need-loop-less Inv-loop μ-loop
-loop-less c = omega (arith, c .pass .ensures .further, c .pass .ensures .stands .within)
+loop-less c =
+    let turn = c .before .before .before .before .before .before in
+    omega
+    (arith, turn .pass-rows .ensures .further, c .pass .ensures .further, c .pass .ensures .stands .within)
 
 loop-again : tie.Need-loop-again Inv-loop μ-loop
 loop-again c =
-    let turn = c .before .before .before .before .before .before in (
-      c .pass .ensures .stands,
-      c .pass .ensures .before
-          (turn .loop .inv .1),
-    )
+    let turn = c .before .before .before .before .before .before in
+    (c .pass .ensures .stands, c .pass .ensures .before (passed turn))
 
 pub check-file-spec : {M : Type 1} → statement M
 check-file-spec =
@@ -67,7 +68,8 @@ check-file-spec =
     Inv-loop
     μ-loop
     loop-holds
-    check-record-requires
+    (λ c κs. c .loop .inv .0)  -- pass-rows-requires
+    (λ c κs. c .pass-rows .ensures .stands)  -- check-record-requires
     (λ c. search needs)  -- enum-known-r
     returns
     (λ c. search needs)  -- enum-known-kind

@@ -6,11 +6,11 @@ use Prim.Native.Nat.{_-_, _≤_}
 use Rattle.basics.specs.Memory.{Put}
 use Rattle.basics.proofs.PartByPart.{put-none, put-length, put-front}
 use Rattle.trace_format.specs.Records.{nameEnd}
-use Rattle.trace_reader.specs.HeldLists.{namesOf}
+use Rattle.record_copies.specs.HeldLists.{namesOf}
 use Rattle.record_checks.proofs.NameWalk.{end-zero, next-name}
-use Rattle.trace_reader.proofs.Copying.{name-there, name-fits, names-put, names-length}
-use Rattle.trace_reader.proofs.copies.copy_names.Statement.{statement}
-use Rattle.trace_reader.proofs.copies.copy_names.Tie as tie
+use Rattle.record_copies.proofs.Copying.{name-there, name-fits, names-put, names-length}
+use Rattle.record_copies.proofs.copies.copy_names.Statement.{statement}
+use Rattle.record_copies.proofs.copies.copy_names.Tie as tie
 
 abbrev Inv-loop : tie.InvT-loop
 Inv-loop file k out₀ q₀ at₀ i₀ out q at i =

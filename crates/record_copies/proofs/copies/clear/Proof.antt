@@ -4,8 +4,8 @@ use mathlib.Core.Path.{_≡_, sym}
 use Prim.Native.Nat.{ℕ, _-_, _≤_}
 use lib.ListN.{length, replicate, length-replicate, getD-replicate}
 use Rattle.basics.proofs.Stores.{Writing, writing-first, writing-length, writing-next, writing-end}
-use Rattle.trace_reader.proofs.copies.clear.Statement.{statement}
-use Rattle.trace_reader.proofs.copies.clear.Tie as tie
+use Rattle.record_copies.proofs.copies.clear.Statement.{statement}
+use Rattle.record_copies.proofs.copies.clear.Tie as tie
 
 abbrev Inv-loop : tie.InvT-loop
 Inv-loop out₀ at n i₀ out i = Writing out₀ at (replicate n 0) out i

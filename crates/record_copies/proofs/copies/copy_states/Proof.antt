@@ -7,8 +7,8 @@ use lib.ListN.{length}
 use Rattle.basics.specs.Memory.{Put}
 use Rattle.basics.proofs.PartByPart.{put-none, put-length, put-front}
 use Rattle.trace_format.specs.Records.{place}
-use Rattle.trace_reader.specs.HeldLists.{statesOf}
-use Rattle.trace_reader.proofs.Copying.{
+use Rattle.record_copies.specs.HeldLists.{statesOf}
+use Rattle.record_copies.proofs.Copying.{
   row-marked,
   row-there,
   row-next,
@@ -16,8 +16,8 @@ use Rattle.trace_reader.proofs.Copying.{
   states-put,
   states-length,
 }
-use Rattle.trace_reader.proofs.copies.copy_states.Statement.{statement}
-use Rattle.trace_reader.proofs.copies.copy_states.Tie as tie
+use Rattle.record_copies.proofs.copies.copy_states.Statement.{statement}
+use Rattle.record_copies.proofs.copies.copy_states.Tie as tie
 
 abbrev Inv-loop : tie.InvT-loop
 Inv-loop file k at n out₀ q₀ to₀ r₀ out q to r =
@@ -46,20 +46,42 @@ there c =
     let start = turn .before .before .before in
     row-there _ _ _ (start .pre .rows) _ (turn .loop .inv .1) (c .width-at .ensures) (entered .loop-test .taken)
 
-add-from : tie.Need-add-from Inv-loop μ-loop
-add-from c = omega (arith, there c)
+copy-codes-requires : tie.Need-copy-codes-requires Inv-loop μ-loop
+copy-codes-requires c κs =
+    let short = c .before in
+    let measured = short .before in
+    let entered = measured .before in
+    let turn = entered .before in
+    let start = turn .before .before .before in
+    codes-fit _ _ _ (start .pre .rows) _ (turn .loop .inv .1) (rw (short .if1 .taken) at (measured .width-at .ensures))
+    (turn .loop .inv .2) (entered .loop-test .taken) (start .pre .room)
 
-add-from-2 : tie.Need-add-from-2 Inv-loop μ-loop
-add-from-2 c = omega (arith, there c)
+add-q : tie.Need-add-q Inv-loop μ-loop
+add-q c =
+    let short = c .before .before .before .before in
+    omega (arith, short .if1 .taken, there (short .before))
 
-add-end : tie.Need-add-end Inv-loop μ-loop
-add-end c = omega (arith, there c)
+add-q-2 : tie.Need-add-q-2 Inv-loop μ-loop
+add-q-2 c =
+    let short = c .before .before .before .before in
+    omega (arith, short .if1 .taken, there (short .before))
 
-part-put-end : tie.Need-part-put-end Inv-loop μ-loop
-part-put-end c = omega (arith, there c)
+loop-again : tie.Need-loop-again Inv-loop μ-loop
+loop-again c =
+    let copied = c .before .before in
+    let short = copied .before .before in
+    let measured = short .before in
+    let turn = measured .before .before in
+    let start = turn .before .before .before in
+    let width = rw (short .if1 .taken) at (measured .width-at .ensures) in (
+      search needs,
+      omega (arith, row-next _ _ _ (start .pre .rows) _ (turn .loop .inv .1) width),
+      states-put _ _ _ (start .pre .rows) _ (turn .loop .inv .1) width (turn .loop .inv .2)
+          (copied .copy-codes .ensures),
+    )
 
-put-requires : tie.Need-put-requires Inv-loop μ-loop
-put-requires c κs =
+copy-codes-requires-2 : tie.Need-copy-codes-requires-2 Inv-loop μ-loop
+copy-codes-requires-2 c κs =
     let measured = c .before .before in
     let entered = measured .before in
     let turn = entered .before in
@@ -67,16 +89,26 @@ put-requires c κs =
     codes-fit _ _ _ (start .pre .rows) _ (turn .loop .inv .1) (measured .width-at .ensures) (turn .loop .inv .2)
     (entered .loop-test .taken) (start .pre .room)
 
-loop-again : tie.Need-loop-again Inv-loop μ-loop
-loop-again c =
-    let put = c .before .before in
-    let measured = put .before .before .before in
+add-q-3 : tie.Need-add-q-3 Inv-loop μ-loop
+add-q-3 c = omega (arith, there (c .before .before .before .before .before))
+
+add-q-4 : tie.Need-add-q-4 Inv-loop μ-loop
+add-q-4 c = omega (arith, there (c .before .before .before .before .before))
+
+add-q-5 : tie.Need-add-q-5 Inv-loop μ-loop
+add-q-5 c = omega (arith, there (c .before .before .before .before .before))
+
+loop-again-2 : tie.Need-loop-again-2 Inv-loop μ-loop
+loop-again-2 c =
+    let copied = c .before .before in
+    let measured = copied .before .before .before in
     let turn = measured .before .before in
     let start = turn .before .before .before in
     let width = measured .width-at .ensures in (
       search needs,
       row-next _ _ _ (start .pre .rows) _ (turn .loop .inv .1) width,
-      states-put _ _ _ (start .pre .rows) _ (turn .loop .inv .1) width (turn .loop .inv .2) (put .put .ensures),
+      states-put _ _ _ (start .pre .rows) _ (turn .loop .inv .1) width (turn .loop .inv .2)
+          (copied .copy-codes2 .ensures),
     )
 
 same-length : tie.Need-same-length Inv-loop μ-loop
@@ -98,15 +130,18 @@ copy-states-spec =
     μ-loop
     loop-holds
     width-at-requires
-    add-from
-    add-from-2
-    add-end
-    (λ c. search needs)  -- sub-put
-    (λ c. search needs)  -- part-put-start
-    part-put-end
-    put-requires
+    copy-codes-requires
+    add-q
+    add-q-2
     (λ c. search needs)  -- add-r
     (λ c. search needs)  -- loop-less
     loop-again
+    copy-codes-requires-2
+    add-q-3
+    add-q-4
+    add-q-5
+    (λ c. search needs)  -- add-r-2
+    (λ c. search needs)  -- loop-less-2
+    loop-again-2
     same-length
     returns)

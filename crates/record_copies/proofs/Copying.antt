@@ -2,8 +2,9 @@
 --   slot-put                                       a name and zeros behind it are its slot
 --   name-there, name-fits, names-put               a name stands in the file, its slot has room, it is copied
 --   row-marked, width-is                           a row's mark stands in the file, and the width read there
---   row-there, row-next, times-put                 a row stands in the file, the next one, its time is copied
---   codes-fit, states-put                          its codes have room, they are copied
+--   row-there, row-next                            a row stands in the file, the next one
+--   time-fits, times-put                           its time has room, it is copied
+--   codes-put, codes-fit, states-put               codes as they are cut out; they have room, they are copied
 --   slot-length, names-length, times-length, codes-length, states-length
 use mathlib.Core.Path.{_≡_, refl, sym, ap, _∙_}
 use mathlib.Core.List.{List}
@@ -11,21 +12,21 @@ use Prim.Native.Nat.{ℕ, zero, suc, _+_, _-_, _*_, _≤_, _<_}
 use native.Mathlib.Omega.{arith}
 use native.Mathlib.Nat.{add-mul, one-mul, zero-mul}
 use native.Mathlib.Numerals.{add-one}
-use lib.ListN.{length, getD, take, drop, set, replicate, length-append, length-drop, length-take, length-replicate}
+use lib.ListN.{length, getD, take, drop, replicate, length-append, length-drop, length-take, length-replicate}
 use lib.Dec.{ltb}
 use borrow.Author.Tests.{ltb-true, ltb-false}
 use mathlib.Core.Bool.{Bool, true, false}
 use lib.Seq.{length-take-le}
-use Rattle.basics.specs.Memory.{Put, Room}
+use Rattle.basics.specs.Memory.{Put}
 use Rattle.basics.proofs.PartByPart.{put-then, put-length}
 use Rattle.alf.specs.Names.{slotOf, isName}
 use Rattle.names.proofs.Names.{name-long}
 use Rattle.names.proofs.Slots.{slot-of}
 use Rattle.trace_format.specs.declared.Mark.the-variants.{Name}
 use Rattle.trace_format.proofs.RowByRow.{room-for}
-use Rattle.trace_format.specs.Records.{nameEnd, place, markAt, timeBytes, numberAt}
+use Rattle.trace_format.specs.Records.{nameEnd, place, markAt, timeBytes}
 use Rattle.trace_format.specs.Records.{nameIn, widthIn, timeIn, codesIn, Good, GoodRow}
-use Rattle.trace_reader.specs.HeldLists.{namesOf, timesOf, statesOf, SlotFits}
+use Rattle.record_copies.specs.HeldLists.{namesOf, timesOf, statesOf, SlotFits, TimeFits, TimeDone, CodesFit}
 use Rattle.trace_format.specs.Parts.{ByteIs, TimeThere, RowMarked, WidthIs}
 use Rattle.record_checks.proofs.GoodRecords.{good-name, good-row}
 use Rattle.record_checks.proofs.CursorSteps.{place-zero, place-row}
@@ -82,6 +83,12 @@ module _ (file : List ℕ) where
       unfolding namesOf
       names-put p s = rw add-one (put-then p (rw (name-is file i there byte) at s))
 
+-- k codes from a place on, cut out by where they end
+pub codes-put : (file : List ℕ) (from k : ℕ) {out out′ : List ℕ} {to to′ : ℕ}
+    → Put out to (take (from + k - from) (drop from file)) out′ to′
+    → Put out to (take k (drop from file)) out′ to′
+codes-put file from k h = let size : from + k - from ≡ k = omega arith in rw size at h
+
 -- rows
 module _ (file : List ℕ) (k n : ℕ) (rows : (r : ℕ) → r < n → GoodRow file k r) where
   pub row-marked : (r q : ℕ) → r < n → q ≡ place file k r → RowMarked file q
@@ -103,12 +110,19 @@ module _ (file : List ℕ) (k n : ℕ) (rows : (r : ℕ) → r < n → GoodRow f
     pub row-next : q + 2 + w + k ≡ place file k (r + 1)
     row-next = omega (arith, place-row file k r, there, width-is)
 
-    pub times-put : {t : ℕ} {out₀ out : List ℕ} → t ≡ numberAt w file (q + 2)
-        → Put out₀ 0 (timesOf file k r) out r
-        → Put out₀ 0 (timesOf file k (r + 1)) (set out r t) (r + 1)
+    pub time-fits : {out₀ out : List ℕ} → Put out₀ 0 (timesOf file k r) out r → r < n → n * 1 ≤ length out₀
+        → TimeFits file k q w out r
+    time-fits p h room =
+        record { time = time-there h; whole = row-there h; room = omega (arith, put-length p) }
+
+    pub times-put : {out₀ out out′ : List ℕ} {next : ℕ} → Put out₀ 0 (timesOf file k r) out r
+        → TimeDone file k q w out r out′ next
+        → (next ≡ place file k (r + 1)) × Put out₀ 0 (timesOf file k (r + 1)) out′ (r + 1)
     unfolding timesOf timeIn
-    times-put read p =
-        rw add-one (put-then p (record { bytes = rw (read, there, width-is); next = omega arith }))
+    times-put p d = (
+      d .there ∙ row-next,
+      rw add-one (put-then p (record { bytes = d .time ∙ rw (there, width-is); next = omega arith })),
+    )
 
   pub times-length : (r : ℕ) → length (timesOf file k r) ≡ r
   unfolding timesOf
@@ -129,24 +143,17 @@ module _ (file : List ℕ) (k n : ℕ) (rows : (r : ℕ) → r < n → GoodRow f
 
   module _ (r : ℕ) {q w to : ℕ} {out₀ out : List ℕ} (there : q ≡ place file k r)
       (width : WidthIs (timeBytes (markAt file q)) w) (p : Put out₀ 0 (statesOf file k r) out to) where
-    pub codes-fit :
-        r < n → n * k ≤ length out₀ → Room out to (take (q + 2 + w + k - (q + 2 + w)) (drop (q + 2 + w) file))
+    pub codes-fit : r < n → n * k ≤ length out₀ → CodesFit file k q w out to
     codes-fit h room =
-        omega (
-          arith,
-          length-take (q + 2 + w + k - (q + 2 + w)) (drop (q + 2 + w) file),
-          states-length r (omega arith),
-          room-for r n k h,
-          p .next,
-          put-length p,
-        )
+        record {
+          whole = row-there r there width h;
+          room = omega (arith, states-length r (omega arith), room-for r n k h, p .next, put-length p);
+        }
 
-    pub states-put : {out′ : List ℕ} {to′ : ℕ}
-        → Put out to (take (q + 2 + w + k - (q + 2 + w)) (drop (q + 2 + w) file)) out′ to′
+    pub states-put : {out′ : List ℕ} {to′ : ℕ} → Put out to (take k (drop (q + 2 + w) file)) out′ to′
         → Put out₀ 0 (statesOf file k (r + 1)) out′ to′
     unfolding statesOf codesIn
     states-put h =
-        let size : q + 2 + w + k - (q + 2 + w) ≡ k = omega arith in
         let from : q + 2 + w ≡ place file k r + 2 + widthIn file k r =
         omega (arith, there, width-is r there width)
-        in rw add-one (put-then p (rw (size, from) at h))
+        in rw add-one (put-then p (rw from at h))

@@ -1,8 +1,8 @@
 -- `put_slot` meets its contract.
 use borrow.Author.Needs.{needs}
-use Rattle.trace_reader.proofs.Copying.{slot-put}
-use Rattle.trace_reader.proofs.copies.put_slot.Statement.{statement}
-use Rattle.trace_reader.proofs.copies.put_slot.Tie as tie
+use Rattle.record_copies.proofs.Copying.{slot-put}
+use Rattle.record_copies.proofs.copies.put_slot.Statement.{statement}
+use Rattle.record_copies.proofs.copies.put_slot.Tie as tie
 
 returns : tie.Need-returns
 returns c =

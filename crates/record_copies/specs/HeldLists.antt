@@ -2,14 +2,16 @@
 --   namesOf, timesOf, statesOf      what the first names and rows hold
 --   NamesFit, RowsFit, SlotFits     good names, good rows, a name, and room for them
 --   NamesDone                       the names are in place
+--   TimeFits, CodesFit, TimeDone    a row, and room for its time or its codes; its time is in place
 use Prim.Native.Nat.{ℕ, zero, suc, _+_, _*_, _<_, _≤_}
 use mathlib.Core.Path.{_≡_}
 use mathlib.Core.List.{List, [], _∷_, _++_}
-use lib.ListN.{length}
+use lib.ListN.{length, set}
 use Rattle.basics.specs.Memory.{front}
 use Rattle.alf.specs.Names.{slotOf}
 use Rattle.trace_format.specs.declared.Mark.the-variants.{Name}
-use Rattle.trace_format.specs.Records.{nameEnd, place, nameIn, timeIn, codesIn, Good, GoodRow}
+use Rattle.trace_format.specs.Records.{nameEnd, place, nameIn, numberAt, timeIn, codesIn, Good, GoodRow}
+use Rattle.trace_format.specs.Parts.{TimeThere}
 
 -- of the first k names; of the first r rows behind k names
 unfoldable pub namesOf : List ℕ → ℕ → List ℕ
@@ -44,3 +46,18 @@ pub record NamesDone (file : List ℕ) (k : ℕ) (out out′ : List ℕ) (next :
 pub record SlotFits (name out : List ℕ) (at : ℕ) : Type 0 where
   pub few : length name ≤ 32
   pub room : at + 32 ≤ length out
+
+-- a row of k codes stands at q with a time of w bytes; there is room for its time as entry r, for its codes from a place
+pub record TimeFits (file : List ℕ) (k q w : ℕ) (out : List ℕ) (r : ℕ) : Type 0 where
+  pub time : TimeThere w file (q + 2)
+  pub whole : q + 2 + w + k ≤ length file
+  pub room : r < length out
+
+pub record CodesFit (file : List ℕ) (k q w : ℕ) (out : List ℕ) (to : ℕ) : Type 0 where
+  pub whole : q + 2 + w + k ≤ length file
+  pub room : to + k ≤ length out
+
+-- its time is entry r, and the next row is known
+pub record TimeDone (file : List ℕ) (k q w : ℕ) (out : List ℕ) (r : ℕ) (out′ : List ℕ) (next : ℕ) : Type 0 where
+  pub time : out′ ≡ set out r (numberAt w file (q + 2))
+  pub there : next ≡ q + 2 + w + k
