@@ -1,5 +1,5 @@
-// The first pass over a file, many rows at once: the good rows from a cursor on are passed without a word of each. What
-// stands behind them is for `check_record`.
+// The first pass over a file, many rows at once. The cursor goes past good rows. What stands behind them is checked by
+// `check_record`, which tells the refusal.
 ghost use Prim.Native.Nat.{_+_, _≤_};
 ghost use lib.ListN.{length};
 ghost use Rattle.record_checks.specs.Steps.{Stands, MarkTold, RowTold, Onward};

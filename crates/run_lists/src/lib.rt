@@ -5,7 +5,6 @@ use alf::RowNo;
 use alf::Rules;
 use basics::Outcome;
 use matching_calls::matching::match_all;
-use row_calls::written::values;
 use run_printing::printing::character;
 use run_printing::printing::number;
 use run_printing::printing::outcome;
@@ -19,31 +18,6 @@ use run_words::lists::narrow;
 use run_words::words::list_in;
 use run_words::words::number_in;
 use update_calls::correcting::correct;
-
-// All values of a case; or what they come to, and the list afterwards.
-fn show_values(kind: u8, v: Outcome, out: &[u8; 64], a: usize) {
-    if kind == b'b' {
-        return list(b" values", out, a, true);
-    }
-    outcome(v);
-    list(b"\n out", out, a, false);
-}
-
-// The values of all rows. Word 6 is the list that is lent.
-pub fn lend_out(rules: Rules, kind: u8, line: &[u8], tree: &[u8]) {
-    let mut out = copy_of(list_in(line, 6));
-    let a = least(list_in(line, 6).len());
-    let v = values(
-        rules,
-        number_in(line, 1),
-        number_in(line, 2),
-        tree,
-        list_in(line, 3),
-        &mut out[0..a],
-    );
-    show_values(kind, v, &out, a);
-    character(b'\n');
-}
 
 fn match_in(
     rules: Rules,

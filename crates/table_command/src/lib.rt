@@ -1,8 +1,5 @@
 // The command `table`: the heading, the lines of the patterns that the command's words and files name, and the totals.
 // Without a command the table of a small built-in trace, as a first look.
-mod arguments;
-
-use crate::arguments::arguments;
 use alf::Rules;
 use console::output::say;
 use jobs::sums::no_sums;
@@ -10,6 +7,7 @@ use pattern_lines::accounts::say_heading;
 use pattern_lines::accounts::say_total;
 use pattern_lines::patterns::lines;
 use states::rules::old_rules;
+use table_arguments::arguments::arguments;
 use table_lines::lines::Sums;
 
 fn begin(n: usize, line: &mut [u8; 4096]) -> Sums {

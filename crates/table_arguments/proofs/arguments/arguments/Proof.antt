@@ -2,8 +2,8 @@
 use Prim.Native.Nat.{_-_, _≤_}
 use borrow.Author.Needs.{needs}
 use native.Mathlib.Omega.{arith}
-use Rattle.table_command.proofs.arguments.arguments.Statement.{statement}
-use Rattle.table_command.proofs.arguments.arguments.Tie as tie
+use Rattle.table_arguments.proofs.arguments.arguments.Statement.{statement}
+use Rattle.table_arguments.proofs.arguments.arguments.Tie as tie
 
 abbrev Inv-loop : tie.InvT-loop
 Inv-loop ρ first names n states count sums₀ behind₀ i₀ sums behind i = first ≤ i
