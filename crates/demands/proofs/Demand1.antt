@@ -7,6 +7,8 @@ use Rattle.trace_reader.specs.Reading.{Reads}
 use Rattle.trace_laws.proofs.RoundTrips as file-laws
 use Rattle.activity.proofs.Theorems.{activity-unique}
 use Rattle.activity.proofs.Parts.{part-unique}
+use Rattle.text_reading.specs.Reading.{MakesTrace}
+use Rattle.trace_text_laws.proofs.MadeUnique.{made-unique}
 use Rattle.changes.proofs.Unique.{changes-unique}
 use Rattle.rewriting_calls.proofs.Theorems.{rewrites-unique}
 use Rattle.contradictions.proofs.Reporting.{contradicts-unique}
@@ -24,7 +26,7 @@ use Rattle.demands.specs.Demand1.{Demand1}
 use Rattle.alf.specs.declared.Rules.{Rules}
 
 pub demand-1 : {ρ : Rules} → Demand1 ρ
-unfolding after Reads Takes listed.Takes
+unfolding after Reads MakesTrace Takes listed.Takes
 demand-1 =
     record {
       check-names = λ names a b x y. names-unique names a b x y;
@@ -55,6 +57,12 @@ demand-1 =
           record {
             one = λ a b m o x y. part-unique names times states n from to out x y;
             stays = λ r m x. x .memory;
+          };
+      make-trace = λ text names times states.
+          record {
+            one = λ a b m n x y.
+                let e = made-unique text names times states a b x y in (e .0, λ i. (e .1 i, e .2 i, e .3 i));
+            stays = λ r m x. λ i. (x .1 .names-kept i, x .1 .times-kept i, x .1 .states-kept i);
           };
       changes-at = λ names n states row a b x y. changes-unique names n states row a b x y;
       rewrite = λ names tree steps tests edges operands.

@@ -9,5 +9,6 @@ pub mod Demand2
 pub mod Values
 pub mod Demand3
 pub mod NumberLists
+pub mod MakingNumbers
 pub mod Numbers
 pub mod Cases

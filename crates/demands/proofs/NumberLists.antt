@@ -1,5 +1,6 @@
 -- Lists of numbers, as orders have them: of two orders, row by row, of a file's record.
 --   one-passes                     what each number of a list passes, one among them passes
+--   all-both                       what each number of two lists passes, each of both passes
 --   numbers-both                   of two orders, one after the other
 --   rows-numbers, rows-in-table    of rows that are asked row by row
 --   record-numbers, of-a-file, of-its-room    of a record by its mark, and of the room for a trace
@@ -17,7 +18,8 @@ use Rattle.trace_format.specs.declared.Mark.{Mark}
 use Rattle.trace_format.specs.declared.Mark.the-variants as mark
 use Rattle.trace_format.specs.Records.{contents, markedOrder}
 use Rattle.trace_writer.specs.Writing as files
-use Rattle.demands.specs.Numbers.{recordNumbers, roomNumbers, fileNumbers, rowByRow, inTable}
+use Rattle.demands.specs.CallNumbers.{recordNumbers, roomNumbers, fileNumbers, rowByRow}
+use Rattle.demands.specs.Numbers.{inTable}
 
 pub one-passes : (p : ℕ → Bool) (ns : List ℕ) (n : ℕ) → all p ns ≡ true → among n ns ≡ true → p n ≡ true
 unfolding all among
@@ -28,6 +30,11 @@ one-passes p (k ∷ ns) n a m =
     go : (q : Bool) → eqb n k ≡ q → (among n ns ≡ true → p n ≡ true) → (q || among n ns) ≡ true → p n ≡ true
     go true e f h = rw (eqb-true n k e) (and-left (p k) (all p ns) a)
     go false e f h = f h
+
+pub all-both : (p : ℕ → Bool) (ns ms : List ℕ) → all p ns ≡ true → all p ms ≡ true → all p (ns ++ ms) ≡ true
+unfolding all
+all-both p [] ms a b = b
+all-both p (n ∷ ns) ms a b = rw (and-left (p n) _ a) (all-both p ns ms (and-right (p n) _ a) b)
 
 pub numbers-both : (o o′ : Order) → numbersOf (o ++ o′) ≡ numbersOf o ++ numbersOf o′
 unfolding numbersOf

@@ -38,10 +38,14 @@ use Rattle.listed_calls.specs.Listed as listed
 use Rattle.matching_calls.specs.Matching.{expression, Finds, Counts}
 use Rattle.tree_listings.specs.TreeTexts.{patternListing, totalsLine}
 use Rattle.activity.specs.Activity.{partOrder}
-use Rattle.demands.specs.Numbers.{traceNumbers, recordNumbers, roomNumbers, fileNumbers, rowByRow, inTable}
-use Rattle.demands.specs.Numbers.{partNumbers, Numbers, Refuses, RefusedNumbers}
+use Rattle.text_reading.specs.Reading.{readOrder, MakesTrace}
+use Rattle.trace_texts.specs.Texts.{saidOrder}
+use Rattle.demands.specs.CallNumbers.{traceNumbers, recordNumbers, roomNumbers, fileNumbers, rowByRow}
+use Rattle.demands.specs.CallNumbers.{partNumbers, makingNumbers}
+use Rattle.demands.specs.Numbers.{inTable, Numbers, Refuses, RefusedNumbers}
 use Rattle.demands.proofs.NumberLists.{one-passes, numbers-both, rows-numbers, rows-in-table}
 use Rattle.demands.proofs.NumberLists.{record-numbers, of-a-file, of-its-room}
+use Rattle.demands.proofs.MakingNumbers.{said-numbers, making-known}
 
 -- what is asked of a trace in lists, then 9
 trace-numbers : (names times states : List ℕ) (n : ℕ) (row : Row)
@@ -63,7 +67,7 @@ part-numbers names times states n from to room =
 -- The orders of the public calls.
 pub numbers : Numbers
 unfolding numbersOf tokens.order texts.treeOrder writing.order rewriting.treeOrder rewriting.roomOrder
-    flagging.flagOrder
+    flagging.flagOrder saidOrder
 numbers =
     record {
       check-names = λ names. refl;
@@ -71,6 +75,8 @@ numbers =
       write-expression = λ names tree sort room. refl;
       read-record = λ file k r. record-numbers file k r (markHere file k r);
       read-room = λ names times states k n. refl;
+      make-nothing = λ size. refl;
+      make-trace = λ size head rows. said-numbers size head rows;
       write-trace = λ names times states n room. trace-numbers names times states n _;
       activity = λ names times states n room. trace-numbers names times states n _;
       activity-part = λ names times states n from to room. part-numbers names times states n from to _;
@@ -136,8 +142,15 @@ file-refused {file} {names} {times} {states} n p (inr h) =
     one-passes (λ k. among k fileNumbers) roomNumbers n of-its-room
     (ap (among n) (sym (numbers .read-room names times states (h .k) (h .n))) ∙ refused-among order n p (h .refused))
 
+making-refused : (text names times states : List ℕ) (n p : ℕ) → RefusedWith (readOrder text names times states) n p
+    → among n makingNumbers ≡ true
+making-refused text names times states n p h =
+    let order = readOrder text names times states in
+    one-passes (λ k. among k makingNumbers) (numbersOf order) n (making-known text names times states)
+    (refused-among order n p h)
+
 pub refused-numbers : {ρ : Rules} → RefusedNumbers ρ
-unfolding all inTable Comes Reads changes.RowChanged Tells Finds Counts pushing.Takes listed.Takes
+unfolding all inTable Comes Reads MakesTrace changes.RowChanged Tells Finds Counts pushing.Takes listed.Takes
 refused-numbers {ρ} =
     record {
       check-names = λ names. by-order _ (numbers .check-names names) refl (λ r x. x);
@@ -147,6 +160,8 @@ refused-numbers {ρ} =
           by-order _ (numbers .write-expression names tree sort _) refl (λ r x. x .outcome);
       read-trace = λ file names times states names′ times′ states′.
           refuses fileNumbers refl (λ r x. file-refused (r .number) (r .place) (x .0));
+      make-trace = λ text names times states names′ times′ states′.
+          refuses makingNumbers refl (λ r x. making-refused text names times states (r .number) (r .place) (x .0 .by));
       write-trace = λ names times states n out out′.
           by-order _ (numbers .write-trace names times states n _) (rows-in-table n) (λ r x. x .outcome);
       activity = λ names times states n out out′.

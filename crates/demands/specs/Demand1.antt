@@ -19,6 +19,7 @@ use Rattle.trace_reader.specs.declared.Reading.the-variants as reading
 use Rattle.trace_reader.specs.Reading.{Reads}
 use Rattle.trace_writer.specs.Writing as files
 use Rattle.activity.specs.Activity.{ListsActivity, ListsPart}
+use Rattle.text_reading.specs.Reading.{MakesTrace}
 use Rattle.changes.specs.Call.{RowChanged}
 use Rattle.rewriting_calls.specs.Calls.{Rewrites}
 use Rattle.contradictions.specs.Calls.{Contradicts}
@@ -44,7 +45,7 @@ pub record Demand1 (ρ : Rules) : Type 0 where
       → ShownAs text (r .refusal .number) (r .refusal .place) (r .refusal .extent)
   pub write-expression : (names tree : List ℕ) (sort : Sort) (out : List ℕ)
       → Promised Refused (λ r m. writing.Writes names tree sort out m r) out
-  -- trace files, and the changes of a row
+  -- trace files, a trace as a text, and the changes of a row
   pub read-trace : (file names times states : List ℕ)
       → Promised {M = Three} reading.Refused (λ r m. Reads file names times states (m .0) (m .1) (m .2) r)
       (names, times, states)
@@ -56,6 +57,9 @@ pub record Demand1 (ρ : Rules) : Type 0 where
       → Promised Refused (λ r m. ListsActivity names times states n out m r) out
   pub activity-part : (names times states : List ℕ) (n from to : ℕ) (out : List ℕ)
       → Promised Refused (λ r m. ListsPart names times states n from to out m r) out
+  pub make-trace : (text names times states : List ℕ)
+      → Promised {M = Three} reading.Refused (λ r m. MakesTrace text names times states (m .0) (m .1) (m .2) r)
+      (names, times, states)
   pub changes-at : (names n : ℕ) (states : List ℕ) (row : ℕ) → One (RowChanged names n states row)
   -- rewriting
   pub rewrite : (names : ℕ) (tree steps tests edges operands : List ℕ)

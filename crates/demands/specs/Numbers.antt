@@ -1,15 +1,13 @@
--- Document 01, "Numbers for refused work", the sentences behind the table: the numbers of each public call, in their
--- order, and that whatever its contract refuses has one of them. The rows that belong to the numbers stand in the
--- orders named here, which the contracts are made of.
---   namesNumbers, .., lineNumbers   the numbers of a call's order
---   rowByRow, recordNumbers         13 and 15 row by row; the numbers of a record of a file, by its mark
+-- Document 01, "Numbers for refused work", the sentences behind the table: each public call has its numbers
+-- (CallNumbers) in their order, and whatever its contract refuses has one of them. The rows that belong to the numbers
+-- stand in the orders named here, which the contracts are made of.
 --   inTable                         a number of the table: 1 to 19
 --   Numbers                         the orders of the public calls have these numbers
 --   Refuses, RefusedNumbers         a contract refuses with these alone, all from 1 to 19; so do the public calls
-use Prim.Native.Nat.{ℕ, zero, suc, _-_, _≤_}
+use Prim.Native.Nat.{ℕ, _-_, _≤_}
 use mathlib.Core.Path.{_≡_}
 use mathlib.Core.Bool.{Bool, true, _&&_}
-use mathlib.Core.List.{List, [], _∷_, _++_}
+use mathlib.Core.List.{List, [], _∷_}
 use lib.Dec.{leb}
 use lib.ListN.{length}
 use Rattle.basics.specs.declared.Refusal.{Refusal}
@@ -24,8 +22,6 @@ use Rattle.names.specs.Check.{namesOrder, ChecksNames}
 use Rattle.reader.specs.Reads.{refusedBy}
 use Rattle.reader.specs.Reading.{readOrder, ReadsText}
 use Rattle.writer.specs.Writing as writing
-use Rattle.trace_format.specs.declared.Mark.{Mark}
-use Rattle.trace_format.specs.declared.Mark.the-variants as mark
 use Rattle.trace_format.specs.Records.{recordOrder, markHere}
 use Rattle.trace_reader.specs.declared.Reading.the-variants as reading
 use Rattle.trace_reader.specs.Reading as traces
@@ -49,72 +45,30 @@ use Rattle.listed_acceptance.specs.Fitting.{fitsOrder, ListedFits}
 use Rattle.tree_listings.specs.TreeTexts.{textOrder, ListsTree, LinesTree}
 use Rattle.activity.specs.Activity.{activityOrder, ListsActivity, partOrder, ListsPart}
 use Rattle.figures.specs.Delivering.{lineOrder, Delivers}
-
--- "Text: 18 and 12 for the name list, then 1 to 8. Writing: 18, 12, 10, 1, 9."
-abbrev pub namesNumbers : List ℕ
-namesNumbers = 18 ∷ 12 ∷ []
-
-abbrev pub textNumbers : List ℕ
-textNumbers = 18 ∷ 12 ∷ 1 ∷ 2 ∷ 3 ∷ 4 ∷ 5 ∷ 6 ∷ 7 ∷ 8 ∷ []
-
-abbrev pub writingNumbers : List ℕ
-writingNumbers = 18 ∷ 12 ∷ 10 ∷ 1 ∷ 9 ∷ []
-
--- "Trace read: record by record; mark (cut short it is 14), then 14, then contents in file order; 9 last, for the first
--- short one of names, times, states."
-unfoldable pub recordNumbers : Mark → List ℕ
-recordNumbers mark.Name = 14 ∷ 11 ∷ 14 ∷ 12 ∷ []
-recordNumbers (mark.Row w) = 14 ∷ 11 ∷ 14 ∷ 13 ∷ 15 ∷ []
-recordNumbers mark.End = 14 ∷ 11 ∷ 14 ∷ 16 ∷ 17 ∷ []
-recordNumbers mark.Other = 14 ∷ 11 ∷ 14 ∷ []
-
-abbrev pub roomNumbers : List ℕ
-roomNumbers = 9 ∷ 9 ∷ 9 ∷ []
-
-abbrev pub fileNumbers : List ℕ
-fileNumbers = 11 ∷ 12 ∷ 13 ∷ 14 ∷ 15 ∷ 16 ∷ 17 ∷ 9 ∷ []
-
--- "Trace writing: 18, 12, then 13 and 15 row by row, 9."
-unfoldable pub rowByRow : ℕ → List ℕ
-rowByRow zero = []
-rowByRow (suc n) = 13 ∷ 15 ∷ rowByRow n
-
-abbrev pub traceNumbers : ℕ → List ℕ
-traceNumbers n = 18 ∷ 12 ∷ (rowByRow n ++ (9 ∷ []))
-
--- a part of the activity listing: 19 before its rows
-abbrev pub partNumbers : ℕ → List ℕ
-partNumbers n = 18 ∷ 12 ∷ 19 ∷ (rowByRow n ++ (9 ∷ []))
-
--- "Totals, matching, rewriting, queue, correction, changes of a row: 18, 10, 15 (trace, then new row), 19; for
--- rewriting 9 last, first short output."
-abbrev pub rowsNumbers : List ℕ
-rowsNumbers = 18 ∷ 10 ∷ 15 ∷ []
-
-abbrev pub rowNumbers : List ℕ
-rowNumbers = 18 ∷ 10 ∷ 15 ∷ 19 ∷ []
-
-abbrev pub correctionNumbers : List ℕ
-correctionNumbers = 18 ∷ 10 ∷ 15 ∷ 15 ∷ 19 ∷ []
-
-abbrev pub changesNumbers : List ℕ
-changesNumbers = 18 ∷ 15 ∷ 19 ∷ []
-
-abbrev pub rewritingNumbers : List ℕ
-rewritingNumbers = 18 ∷ 10 ∷ 9 ∷ 9 ∷ 9 ∷ 9 ∷ []
-
-abbrev pub flagNumbers : List ℕ
-flagNumbers = 18 ∷ 10 ∷ 9 ∷ []
-
--- the listing and a pattern's line of the table, by a tree; whether lists are accepted; any other line of the table
-abbrev pub textNumbersOfTree : List ℕ
-textNumbersOfTree = 18 ∷ 10 ∷ 15 ∷ 9 ∷ []
-
-abbrev pub fitsNumbers : List ℕ
-fitsNumbers = 18 ∷ 10 ∷ []
-
-abbrev pub lineNumbers : List ℕ
-lineNumbers = 9 ∷ []
+use Rattle.trace_texts.specs.Words.{Line}
+use Rattle.trace_texts.specs.Texts.{nameWords, saidOrder}
+use Rattle.text_reading.specs.Reading.{MakesTrace}
+use Rattle.demands.specs.CallNumbers.{
+  namesNumbers,
+  textNumbers,
+  writingNumbers,
+  recordNumbers,
+  roomNumbers,
+  fileNumbers,
+  traceNumbers,
+  partNumbers,
+  rowsNumbers,
+  rowNumbers,
+  correctionNumbers,
+  changesNumbers,
+  rewritingNumbers,
+  flagNumbers,
+  textNumbersOfTree,
+  fitsNumbers,
+  lineNumbers,
+  saidNumbers,
+  makingNumbers,
+}
 
 -- The orders of the calls have these numbers. `row-state` is also the order of `row-value`; `match-row` that of
 -- `row-answer` and, at the later of its two rows, of `window-answer`.
@@ -127,6 +81,10 @@ pub record Numbers : Type 0 where
       → numbersOf (recordOrder file k r) ≡ recordNumbers (markHere file k r)
   pub read-room : (names times states : List ℕ) (k n : ℕ)
       → numbersOf (traces.roomOrder names times states k n) ≡ roomNumbers
+  -- a text without a head, and with one; then the room, as for a file
+  pub make-nothing : (size : ℕ) → numbersOf (saidOrder size []) ≡ 14 ∷ []
+  pub make-trace : (size : ℕ) (head : Line) (rows : List Line)
+      → numbersOf (saidOrder size (head ∷ rows)) ≡ saidNumbers (length (nameWords head)) (length rows)
   pub write-trace : (names times states : List ℕ) (n room : ℕ)
       → numbersOf (files.writeOrder names times states n room) ≡ traceNumbers n
   pub activity : (names times states : List ℕ) (n room : ℕ)
@@ -194,6 +152,8 @@ pub record RefusedNumbers (ρ : Rules) : Type 0 where
       → Refuses Refused (writing.Writes names tree sort out out′) writingNumbers
   pub read-trace : (file names times states names′ times′ states′ : List ℕ)
       → Refuses reading.Refused (traces.Reads file names times states names′ times′ states′) fileNumbers
+  pub make-trace : (text names times states names′ times′ states′ : List ℕ)
+      → Refuses reading.Refused (MakesTrace text names times states names′ times′ states′) makingNumbers
   pub write-trace : (names times states : List ℕ) (n : ℕ) (out out′ : List ℕ)
       → Refuses Refused (files.Writes names times states n out out′) (traceNumbers n)
   pub activity : (names times states : List ℕ) (n : ℕ) (out out′ : List ℕ)

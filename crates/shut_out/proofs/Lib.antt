@@ -35,8 +35,10 @@
 --     `other-sums` (EveryJob)
 -- a listing of other answers, a line of other totals, than those of the tree
 --     `other-listing`, `other-line` (EveryTreeText); `no-other-listing`, `no-other-totals-line` (NothingElse)
--- a text refused that is a trace; a refused text of which something was written
---     `made-and-refused`, `wrote-and-refused`, `make-trace-attached` (MadeTraces)
+-- a text refused that is a trace, what `show` prints of T among it; a refused text of which something was written;
+-- another trace than the text's
+--     `make-trace`, `made-on-T`, `made-and-refused`, `wrote-and-refused`, `no-other-trace`, `make-trace-attached`
+--     (MadeTraces)
 -- an activity listing refused on T, or with another text
 --     `activity`, `activity-on-T`, `no-other-activity`, `activity-attached` (Activity)
 -- a part of it refused on T or in a block of the program, or with another text
