@@ -5,39 +5,9 @@ use basics::Outcome;
 use basics::Refusal;
 use complaints::refused;
 use complaints::refused_for;
-use console::output::failed;
-use console::saving::save_front;
 use letter_corrections::correcting::correct_letters;
 use letter_corrections::correcting::row_number;
-use trace_writer::write::write_trace;
-
-// A file that was made is saved, or it is said why there is none.
-fn save_made(path: &[u8], out: &[u8], o: Outcome) {
-    match o {
-        Outcome::Done(n) => save_front(path, out, n),
-        Outcome::Refused(r) => refused(b"trace", r),
-    }
-}
-
-fn write_file(names: &[u8], times: &[u64], states: &[u8], path: &[u8], out: &mut [u8]) {
-    let o = write_trace(names, times, states, times.len(), out);
-    save_made(path, out, o);
-}
-
-fn write_lent(names: &[u8], times: &[u64], states: &[u8], path: &[u8], out: &mut [u8; 2753596]) {
-    write_file(names, times, states, path, out);
-}
-
-fn write_to(names: &[u8], times: &[u64], states: &[u8]) {
-    let mut path = io::buffer();
-    let n = os::arg(5, &mut path);
-    if os::errno() != 0 {
-        failed(b"the name of the trace to write");
-        return;
-    }
-    let mut out = [0u8; 2753596];
-    write_lent(names, times, states, &path[..n], &mut out);
-}
+use trace_saving::write_to;
 
 // The row that an argument names; one that is no row of any trace, where it names none.
 fn asked_row() -> RowNo {
@@ -53,7 +23,7 @@ fn asked_row() -> RowNo {
 // What came of it: the corrected trace is written, or it is said why not.
 fn finish(names: &[u8], times: &[u64], states: &[u8], o: Outcome) {
     match o {
-        Outcome::Done(_) => write_to(names, times, states),
+        Outcome::Done(_) => write_to(5, names, times, states),
         Outcome::Refused(r) => complain_of(r),
     }
 }

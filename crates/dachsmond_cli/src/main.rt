@@ -1,20 +1,27 @@
-// Dachsmond, the program: counts patterns of pin events in a trace. Here stand the commands with the words that they
-// expect. What a command prints of an answer is made by one call of the library; here are arguments, files and
+// Dachsmond, the program: counts patterns of pin events in a trace. Here are the commands; `words` has the words that
+// they expect. What a command prints of an answer is made by one call of the library; here are arguments, files and
 // complaints.
 mod texts;
+mod words;
 
+use crate::words::expects;
+use crate::words::help;
+use crate::words::is_equal;
+use crate::words::named;
 use alf::Rules;
 use complaints::unfit;
 use complaints::unknown;
 use console::output::say;
 use correct_command::correct;
+use loading::traces::Loaded;
 use loading::traces::load;
+use make_command::load_text;
 use show_command::show;
 use states::rules::old_rules;
 use table_command::first_look;
 use table_command::table;
-use text_parts::lines::line_of;
 use text_parts::parts::front;
+use trace_saving::write_to;
 
 // The commands by their number in `named`; `rewrite` is 3.
 const TABLE: usize = 0;
@@ -27,68 +34,18 @@ const SHOW: usize = 4;
 
 const CORRECT: usize = 5;
 
-const VERSION: usize = 6;
+const MAKE: usize = 6;
 
-const NONE: usize = 10;
+const VERSION: usize = 7;
 
-// How a command is asked: the rules of evaluation, the argument that names the trace, and the first one behind it.
+const NONE: usize = 11;
+
+// How a command is asked: the rules of evaluation, the argument that names the trace, or the text for `make`, and the
+// first one behind it.
 struct Asked {
     rules: Rules,
     trace: usize,
     first: usize,
-}
-
-// A command's number; the words behind `--version` all ask for help.
-fn named(word: &[u8]) -> usize {
-    line_of(
-        b"table\nlist\nvalues\nrewrite\nshow\ncorrect\n--version\n--help\n-h\nhelp\n",
-        word,
-    )
-}
-
-// Whether so many words stand behind a command as it expects; where not, it is complained of.
-fn expects(c: usize, word: &[u8], more: usize) -> bool {
-    let least = [2usize, 2, 2, 2, 1, 4];
-    let most = [usize::MAX, 2, 2, 2, 1, 4];
-    if CORRECT < c {
-        return true;
-    }
-    if least[c] <= more {
-        if more <= most[c] {
-            return true;
-        }
-    }
-    unfit(
-        word,
-        b"TRACE PATTERN.. or TRACE -f FILE\nTRACE PATTERN\nTRACE EXPRESSION\nTRACE PATTERN\nTRACE\n\
-          TRACE ROW STATES OUT\n",
-        c,
-    );
-    false
-}
-
-fn help() {
-    say(
-        b"dachsmond counts how often patterns of pin events occur in a simulation trace.
-
-  dachsmond                                the table of a small built-in trace, as a first look
-  dachsmond table TRACE PATTERN..          times seen, share of all events, unknown, no
-  dachsmond table TRACE -f FILE            the same for the patterns of a file, one a line
-  dachsmond list TRACE PATTERN             a pattern's answer at each row
-  dachsmond values TRACE EXPRESSION        a boolean expression's value at each row
-  dachsmond rewrite TRACE PATTERN          a pattern's alternatives, contradictory ones marked
-  dachsmond show TRACE                     the trace as a table, with the pins that changed
-  dachsmond correct TRACE ROW STATES OUT   the trace with one row replaced, written to OUT
-  dachsmond --help, dachsmond --version
-
-`--equal-branches` before table, list or values: `c ? a : b` with c unknown has the value of its branches where both
-have the same. A table made so ends in the line `rules`, tab, `equal-branches`. Without it such a ternary is X.
-
-rewrite writes `->` between steps, `&` between the tests of a step, and `( )` for an empty step.
-`-` for a file is standard input or output. Data goes to standard output, complaints go to standard error.
-Exit status: 0 where all was done, 1 where something was complained of.
-",
-    );
 }
 
 // A command on a trace; `list`, `values` and `rewrite` answer a text.
@@ -97,6 +54,7 @@ fn start(a: Asked, c: usize, names: &[u8], times: &[u64], states: &mut [u8]) {
         TABLE => table(a.rules, a.first, names, times.len(), states),
         SHOW => show(names, times, states),
         CORRECT => correct(names, times, states),
+        MAKE => write_to(a.first, names, times, states),
         _ => crate::texts::answer(a.rules, a.first, c, names, times, states),
     }
 }
@@ -155,12 +113,26 @@ fn on_lent(
     }
 }
 
+// The trace that argument i names: a text for `make`, and else a trace file.
+fn take_trace(
+    c: usize,
+    i: usize,
+    names: &mut [u8; 1024],
+    times: &mut [u64; 65535],
+    states: &mut [u8; 2097120],
+) -> Loaded {
+    if c == MAKE {
+        return load_text(i, names, times, states);
+    }
+    load(i, names, times, states)
+}
+
 // The trace is loaded once, whatever is asked of it.
 fn on_trace(a: Asked, c: usize) {
     let mut names = [0u8; 1024];
     let mut times = [0u64; 65535];
     let mut states = [0u8; 2097120];
-    let l = load(a.trace, &mut names, &mut times, &mut states);
+    let l = take_trace(c, a.trace, &mut names, &mut times, &mut states);
     on_lent(a, c, &names, &times, &mut states, l.names, l.rows);
 }
 
@@ -212,11 +184,6 @@ fn run_equal(word: &[u8], more: usize) {
             c,
         );
     }
-}
-
-// Whether a word is the option.
-fn is_equal(word: &[u8]) -> bool {
-    line_of(b"--equal-branches\n", word) == 0
 }
 
 // The command behind the option, which is argument 2; where it is missing, a word of no length is none.
