@@ -1,7 +1,6 @@
 // Dachsmond, the program: counts patterns of pin events in a trace. Here are the commands; `words` has the words that
 // they expect. What a command prints of an answer is made by one call of the library; here are arguments, files and
 // complaints.
-mod texts;
 mod words;
 
 use crate::words::expects;
@@ -20,15 +19,13 @@ use show_command::show;
 use states::rules::old_rules;
 use table_command::first_look;
 use table_command::table;
+use text_commands::VALUES;
+use text_commands::answer;
 use text_parts::parts::front;
 use trace_saving::write_to;
 
-// The commands by their number in `named`; `rewrite` is 3.
+// The commands by their number in `named`. `list` is 1 and `values` is 2, as `text_commands` has them; `rewrite` is 3.
 const TABLE: usize = 0;
-
-const LIST: usize = 1;
-
-const VALUES: usize = 2;
 
 const SHOW: usize = 4;
 
@@ -55,7 +52,7 @@ fn start(a: Asked, c: usize, names: &[u8], times: &[u64], states: &mut [u8]) {
         SHOW => show(names, times, states),
         CORRECT => correct(names, times, states),
         MAKE => write_to(a.first, names, times, states),
-        _ => crate::texts::answer(a.rules, a.first, c, names, times, states),
+        _ => answer(a.rules, a.first, c, names, times, states),
     }
 }
 

@@ -1,7 +1,5 @@
-// What is asked of one text: `list`, `values`, `rewrite`. Each text that is printed is made by a call
-// of `row_listings` or `alternative_listings`.
-use crate::LIST;
-use crate::VALUES;
+// The commands `list`, `values` and `rewrite`, which ask one text. Each text that is printed is made by a call of
+// `row_listings` or `alternative_listings`.
 use alf::Rules;
 use alternative_listings::texts::alternatives_text;
 use basics::Outcome;
@@ -15,6 +13,11 @@ use console::output::say_front;
 use loading::files::take_argument;
 use row_listings::listings::list_text;
 use row_listings::listings::values_text;
+
+// What is asked of the text: its answers, its values, or else its alternatives.
+pub const LIST: usize = 1;
+
+pub const VALUES: usize = 2;
 
 fn complain_of(what: &[u8], text: &[u8], r: Refusal) {
     if r.number < 9 {
