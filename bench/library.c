@@ -24,10 +24,10 @@ void read_it(const uint8_t *file, size_t length)
 
 Counts match_it(void)
 {
-    dachsmond_expression e = dachsmond_read_expression(names, 32 * trace.names, (const uint8_t *)PATTERN,
+    dachsmond_rules rules = dachsmond_old_rules();
+    dachsmond_expression e = dachsmond_read_expression(rules, names, 32 * trace.names, (const uint8_t *)PATTERN,
                                                        strlen(PATTERN), true);
     stop_if("read_expression", e.number, e.place);
-    dachsmond_rules rules = dachsmond_old_rules();
     dachsmond_counted t =
         dachsmond_totals(rules, trace.names, trace.rows, e.tree, e.len, states, trace.rows * trace.names);
     stop_if("totals", t.number, t.place);

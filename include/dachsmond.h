@@ -11,8 +11,8 @@
    until 1.0 times were 32 bits wide, so a program that lends lists of times has to be changed and compiled again.
 
    A call takes less than 256 KB of stack. The proofs say nothing of that: tests/stack measures each call on the inputs
-   that recurse deepest (145,904 bytes at most, for a listing, which holds an answer for each row) and reckons from the
-   object code how much any input can take (242,608 bytes at most). Nothing is allocated and nothing is kept. */
+   that recurse deepest (146,288 bytes at most, for a listing, which holds an answer for each row) and reckons from the
+   object code how much any input can take (223,232 bytes at most). Nothing is allocated and nothing is kept. */
 #ifndef DACHSMOND_H
 #define DACHSMOND_H
 #include <stdbool.h>
@@ -20,7 +20,7 @@
 #include <stdint.h>
 
 /* The version of this header. dachsmond_version() tells that of the library: 65536 * major + 256 * minor. */
-#define DACHSMOND_VERSION_MAJOR 2
+#define DACHSMOND_VERSION_MAJOR 3
 #define DACHSMOND_VERSION_MINOR 0
 #define DACHSMOND_VERSION (65536 * DACHSMOND_VERSION_MAJOR + 256 * DACHSMOND_VERSION_MINOR)
 
@@ -28,11 +28,20 @@
 extern "C" {
 #endif
 
-/* The rules of evaluation, which every call that evaluates takes; hold them fixed through a trace and its corrections.
+/* The rules, which every call that reads, rewrites or evaluates takes; hold them fixed through a trace and its
+   corrections, and hand a tree to the calls under the rules by which it was read.
    equal_branches: `c ? a : b` with c unknown has the value of its branches where both have the same; else, and always
-   where it is false, it is X. */
+   where it is false, it is X.
+   steady_pins: a vector expression is read with its steady pins (document 02, [2]). In each longest run of `->` whose
+   operands are edges or edges joined by `&`, if each of these steps has an edge that changes, a plain name with an edge
+   somewhere in the run gets `?-` at the steps with no edge on it alone. Limit 8, its alternatives, refusal 10 and every
+   answer are those of the expression so filled. The tree is that of the text, which dachsmond_write_expression writes as
+   it was read. Where it is false, the expression is read as it is written. Until 2.0 there was no such field, and
+   dachsmond_read_expression, dachsmond_rewrite and dachsmond_contradictions took no rules: a program has to be changed
+   and compiled again. */
 typedef struct {
     bool equal_branches;
+    bool steady_pins;
 } dachsmond_rules;
 
 /* What came of a call: done, with a count of what it made, or refused. */
@@ -111,11 +120,13 @@ typedef struct {
 /* How many names a list of names holds: 18, 12. */
 dachsmond_told dachsmond_check_names(const uint8_t *names, size_t names_len);
 
-/* The expression that a text is, as a tree over a list of names, for the sort asked for: 18, 12, 1 to 8. */
-dachsmond_expression dachsmond_read_expression(const uint8_t *names, size_t names_len, const uint8_t *text,
-                                               size_t text_len, bool vector);
+/* The expression that a text is, as a tree over a list of names, for the sort asked for: 18, 12, 1 to 8. With steady pins
+   8 counts the tests that they add. */
+dachsmond_expression dachsmond_read_expression(dachsmond_rules rules, const uint8_t *names, size_t names_len,
+                                               const uint8_t *text, size_t text_len, bool vector);
 
-/* The text of a tree, with only needed brackets, at the front of `out`; its length: 18, 12, 10, 1, 9. */
+/* The text of a tree, with only needed brackets, at the front of `out`; its length: 18, 12, 10, 1, 9. It takes no rules:
+   what was read is written, without steady pins, and 10 is by document 01's rules. */
 dachsmond_told dachsmond_write_expression(const uint8_t *names, size_t names_len, const uint8_t *tree, size_t tree_len,
                                           bool vector, uint8_t *out, size_t out_len);
 
@@ -174,14 +185,15 @@ dachsmond_counted dachsmond_totals(dachsmond_rules rules, size_t names, size_t n
                                    const uint8_t *states, size_t states_len);
 
 /* The alternatives of a vector tree into four lists: steps of each alternative, tests of each step, and for each test
-   its edge's number and where its operand ends in the tree; how many alternatives: 18, 10, 9. */
-dachsmond_told dachsmond_rewrite(size_t names, const uint8_t *tree, size_t tree_len, uint8_t *steps, size_t steps_len,
-                                 uint8_t *tests, size_t tests_len, uint8_t *edges, size_t edges_len,
-                                 uint16_t *operands, size_t operands_len);
+   its edge's number and where its operand ends in the tree; how many alternatives: 18, 10, 9. With steady pins their
+   tests `?-` are among these, each with a name in the tree as its operand. */
+dachsmond_told dachsmond_rewrite(dachsmond_rules rules, size_t names, const uint8_t *tree, size_t tree_len,
+                                 uint8_t *steps, size_t steps_len, uint8_t *tests, size_t tests_len, uint8_t *edges,
+                                 size_t edges_len, uint16_t *operands, size_t operands_len);
 
 /* A flag for each alternative of a vector tree, 1 where it is contradictory, else 0; how many: 18, 10, 9. */
-dachsmond_told dachsmond_contradictions(size_t names, const uint8_t *tree, size_t tree_len, uint8_t *flags,
-                                        size_t flags_len);
+dachsmond_told dachsmond_contradictions(dachsmond_rules rules, size_t names, const uint8_t *tree, size_t tree_len,
+                                        uint8_t *flags, size_t flags_len);
 
 /* The new states become the row, and the answers from it on that can depend on it are written anew: 18, 10, 15, 19. */
 dachsmond_told dachsmond_correct(dachsmond_rules rules, size_t names, size_t n, const uint8_t *tree, size_t tree_len,
@@ -196,7 +208,8 @@ dachsmond_pushed dachsmond_push(dachsmond_rules rules, size_t names, const uint8
                                 dachsmond_queue queue, const uint8_t *row, size_t row_len);
 
 /* Alternatives handed in: lists as `dachsmond_rewrite` writes them, of exactly as many entries as they say, over the tree
-   in which their operands end. Lists that are not accepted are refused with 10. */
+   in which their operands end. Lists that are not accepted are refused with 10. What is asked is what is handed in: these
+   calls add no steady pins. */
 
 /* How many alternatives such lists hold, where they are accepted: 18, 10. */
 dachsmond_told dachsmond_listed_fits(size_t names, const uint8_t *tree, size_t tree_len, const uint8_t *steps,

@@ -9,12 +9,16 @@
 //!
 //! It is built beside libdachsmond.a (`rt staticlib dachsmond`, x86-64), as tests/rust-example does.
 
-/// The rules of evaluation, which every call that evaluates takes; hold them fixed through a trace and its corrections.
+/// The rules, which every call that reads, rewrites or evaluates takes; hold them fixed through a trace and its
+/// corrections, and hand a tree to the calls under the rules by which it was read.
 /// equal_branches: `c ? a : b` with c unknown has the value of its branches where both have the same; else it is X.
+/// steady_pins: a vector expression is read with its steady pins (document 02, [2]); limit 8, its alternatives, refusal
+/// 10 and every answer are those of the expression so filled. The tree is that of the text; else it is read as written.
 #[repr(C)]
 #[derive(Clone, Copy, Debug)]
 pub struct Rules {
     pub equal_branches: bool,
+    pub steady_pins: bool,
 }
 
 /// What came of a call: done, with a count of what it made, or refused.
@@ -142,16 +146,19 @@ macro_rules! calls {
 }
 
 calls! {
-    /// The version of the library, 65536 * major + 256 * minor: 2.0 is 131072.
+    /// The version of the library, 65536 * major + 256 * minor: 3.0 is 196608.
     version = dachsmond_version() -> u32;
 
     /// How many names a list of names holds: 18, 12.
     check_names = dachsmond_check_names(names: &[u8]) -> Told;
 
-    /// The expression that a text is, as a tree over a list of names, for the sort asked for: 18, 12, 1 to 8.
-    read_expression = dachsmond_read_expression(names: &[u8], text: &[u8], vector: bool) -> Expression;
+    /// The expression that a text is, as a tree over a list of names, for the sort asked for: 18, 12, 1 to 8. With steady
+    /// pins 8 counts the tests that they add.
+    read_expression = dachsmond_read_expression(rules: Rules, names: &[u8], text: &[u8],
+        vector: bool) -> Expression;
 
-    /// The text of a tree, with only needed brackets, at the front of `out`; its length: 18, 12, 10, 1, 9.
+    /// The text of a tree, with only needed brackets, at the front of `out`; its length: 18, 12, 10, 1, 9. It takes no
+    /// rules: what was read is written, without steady pins, and 10 is by document 01's rules.
     write_expression = dachsmond_write_expression(names: &[u8], tree: &[u8], vector: bool, out: &mut [u8]) -> Told;
 
     /// Document 01's rules, those of every table made before version 2.0.
@@ -204,12 +211,13 @@ calls! {
     totals = dachsmond_totals(rules: Rules, names: usize, n: usize, tree: &[u8], states: &[u8]) -> Counted;
 
     /// The alternatives of a vector tree into four lists: steps of each alternative, tests of each step, and for
-    /// each test its edge's number and where its operand ends in the tree; how many alternatives: 18, 10, 9.
-    rewrite = dachsmond_rewrite(names: usize, tree: &[u8], steps: &mut [u8], tests: &mut [u8], edges: &mut [u8],
-        operands: &mut [u16]) -> Told;
+    /// each test its edge's number and where its operand ends in the tree; how many alternatives: 18, 10, 9. With
+    /// steady pins their tests `?-` are among these, each with a name in the tree as its operand.
+    rewrite = dachsmond_rewrite(rules: Rules, names: usize, tree: &[u8], steps: &mut [u8], tests: &mut [u8],
+        edges: &mut [u8], operands: &mut [u16]) -> Told;
 
     /// A flag for each alternative of a vector tree, 1 where it is contradictory, else 0; how many: 18, 10, 9.
-    contradictions = dachsmond_contradictions(names: usize, tree: &[u8], flags: &mut [u8]) -> Told;
+    contradictions = dachsmond_contradictions(rules: Rules, names: usize, tree: &[u8], flags: &mut [u8]) -> Told;
 
     /// The new states become the row, and the answers from it on that can depend on it are written anew: 18, 10,
     /// 15, 19.
@@ -224,7 +232,8 @@ calls! {
     push = dachsmond_push(rules: Rules, names: usize, tree: &[u8], queue: Queue, row: &[u8]) -> Pushed;
 
     /// How many alternatives are handed in, lists as `rewrite` writes them and of exactly as many entries as they say,
-    /// over the tree in which their operands end, where they are accepted: 18, 10.
+    /// over the tree in which their operands end, where they are accepted: 18, 10. What is asked is what is handed in:
+    /// the calls over such lists add no steady pins.
     listed_fits = dachsmond_listed_fits(names: usize, tree: &[u8], steps: &[u8], tests: &[u8], edges: &[u8],
         operands: &[u16]) -> Told;
 

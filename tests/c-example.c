@@ -11,11 +11,13 @@ static const uint8_t FILE_OF_TWO[] = {0x4E, 0x4D, 0x01, 0x41, 0x52, 0x57, 0, 0, 
 static const uint8_t NAMES[3 * 32] = {[0] = 'A', [32] = 'B', [64] = 'C'};
 static const uint8_t STATES[6 * 3] = {0, 1, 1, 1, 1, 1, 1, 0, 2, 2, 0, 1, 1, 6, 1, 1, 0, 3};
 
+#define OLD dachsmond_old_rules()
+
 static void read_and_write(const char *text, bool vector)
 {
     uint8_t out[100];
     dachsmond_expression e =
-        dachsmond_read_expression(NAMES, sizeof NAMES, (const uint8_t *)text, strlen(text), vector);
+        dachsmond_read_expression(OLD, NAMES, sizeof NAMES, (const uint8_t *)text, strlen(text), vector);
     if (e.number) {
         printf("%s: refused with %u at %zu\n", text, e.number, e.place);
         return;
@@ -40,18 +42,37 @@ static void show_answers(const char *what, const uint8_t *answers)
     printf("\n");
 }
 
-#define OLD dachsmond_old_rules()
-
 /* `A ? 1 : 1` on table T, where A is unknown in row 3: X by document 01's rules, 1 by the rule of equal branches */
 static void show_rules(void)
 {
     static const uint8_t TEXT[] = "A ? 1 : 1";
-    dachsmond_expression e = dachsmond_read_expression(NAMES, sizeof NAMES, TEXT, 9, false);
+    dachsmond_expression e = dachsmond_read_expression(OLD, NAMES, sizeof NAMES, TEXT, 9, false);
     dachsmond_rules equal = OLD;
     equal.equal_branches = true;
     dachsmond_told a = dachsmond_row_value(OLD, 3, 6, e.tree, e.len, STATES, sizeof STATES, 3);
     dachsmond_told b = dachsmond_row_value(equal, 3, 6, e.tree, e.len, STATES, sizeof STATES, 3);
     printf("A ? 1 : 1 with A unknown: %zu, by equal branches %zu\n", a.count, b.count);
+}
+
+/* Case 2 of table T with its steady pins. It is read, asked and rewritten under the same rules, and written as it was
+   read: `01 A & ?- B -> 10 B & ?- A` has four tests and the answers 3 0 1 0 0 0. */
+static void show_steady(void)
+{
+    static const uint8_t TEXT[] = "01 A -> 10 B";
+    uint8_t out[100], answers[6], steps[64], tests[1024], edges[4096], flags[64];
+    uint16_t operands[4096];
+    uint32_t tried[6];
+    dachsmond_rules steady = OLD;
+    steady.steady_pins = true;
+    dachsmond_expression e = dachsmond_read_expression(steady, NAMES, sizeof NAMES, TEXT, 12, true);
+    dachsmond_told w = dachsmond_write_expression(NAMES, sizeof NAMES, e.tree, e.len, true, out, sizeof out);
+    dachsmond_match_all(steady, 3, 6, e.tree, e.len, STATES, sizeof STATES, answers, 6, tried, 6);
+    printf("%.*s with steady pins", (int)w.count, (const char *)out);
+    show_answers("", answers);
+    w = dachsmond_rewrite(steady, 3, e.tree, e.len, steps, 64, tests, 1024, edges, 4096, operands, 4096);
+    printf("%zu alternative of %u steps with %u and %u tests", w.count, steps[0], tests[0], tests[1]);
+    w = dachsmond_contradictions(steady, 3, e.tree, e.len, flags, 64);
+    printf(", contradictory %u of %zu\n", flags[0], w.count);
 }
 
 /* case 1 of table T by matching, its totals and the queue, and case 12, the same with row 3 corrected to 001 */
@@ -60,7 +81,7 @@ static void show_matching(void)
     static const uint8_t TEXT[] = "01 A", NEW[] = {0, 0, 1};
     uint8_t states[sizeof STATES], answers[6], pushed[6];
     uint32_t tried[6];
-    dachsmond_expression e = dachsmond_read_expression(NAMES, sizeof NAMES, TEXT, 4, true);
+    dachsmond_expression e = dachsmond_read_expression(OLD, NAMES, sizeof NAMES, TEXT, 4, true);
     dachsmond_match_all(OLD, 3, 6, e.tree, e.len, STATES, sizeof STATES, answers, 6, tried, 6);
     show_answers("01 A", answers);
     dachsmond_counted c = dachsmond_totals(OLD, 3, 6, e.tree, e.len, STATES, sizeof STATES);
@@ -85,8 +106,8 @@ static void show_listed(void)
     uint8_t steps[64], tests[1024], edges[4096], answers[6], pushed[6];
     uint16_t operands[4096];
     uint32_t tried[6];
-    dachsmond_expression e = dachsmond_read_expression(NAMES, sizeof NAMES, TEXT, 11, true);
-    dachsmond_told k = dachsmond_rewrite(3, e.tree, e.len, steps, 64, tests, 1024, edges, 4096, operands, 4096);
+    dachsmond_expression e = dachsmond_read_expression(OLD, NAMES, sizeof NAMES, TEXT, 11, true);
+    dachsmond_told k = dachsmond_rewrite(OLD, 3, e.tree, e.len, steps, 64, tests, 1024, edges, 4096, operands, 4096);
     printf("01 A | 10 B: %zu alternatives, accepted %d\n", k.count, !dachsmond_listed_fits(3, LISTS).number);
     dachsmond_listed_match_all(OLD, 3, 6, LISTS, STATES, sizeof STATES, answers, 6, tried, 6);
     show_answers("by lists", answers);
@@ -114,7 +135,7 @@ static void show_texts(void)
     static const uint8_t BAD[] = "01 A ->";
     static const uint64_t TIMES[] = {0, 10, 20, 35, 40, 55};
     uint8_t out[200];
-    dachsmond_expression e = dachsmond_read_expression(NAMES, sizeof NAMES, BAD, 4, true);
+    dachsmond_expression e = dachsmond_read_expression(OLD, NAMES, sizeof NAMES, BAD, 4, true);
     dachsmond_told w = dachsmond_list(OLD, 3, 6, e.tree, e.len, TIMES, 6, STATES, sizeof STATES, out, sizeof out);
     printf("%.*s", (int)w.count, (const char *)out);
     w = dachsmond_table_heading(out, sizeof out);
@@ -152,4 +173,5 @@ int main(void)
     show_listed();
     show_texts();
     show_rules();
+    show_steady();
 }

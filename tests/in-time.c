@@ -40,8 +40,8 @@ static void timed(clock_t from, const char *call, size_t a, size_t b)
     if (took > most) most = took, strcpy(slowest, written(call, a, b));
 }
 
-/* by the rule of equal branches, which evaluates both branches and compares them */
-static const dachsmond_rules rules = {true};
+/* by the rule of equal branches, which evaluates both branches and compares them; random patterns also with steady pins */
+static dachsmond_rules rules;
 #define ON 1, n, tree, len, states, n
 /* no, unknown, yes */
 static int rank(uint8_t answer) { return answer == 1 ? 2 : answer == 2 ? 1 : 0; }
@@ -191,11 +191,14 @@ static void put_random(int deep)
 
 int main(void)
 {
+    rules = dachsmond_old_rules();
+    rules.equal_branches = true;
     for (size_t i = 0; i < SHAPES; i++)
         for (int ways = 0; ways < (shapes[i][1].many ? 9 : 3); ways++)
             len = 0, put_level(shapes[i], ways % 3, ways / 3), on_traces(true);
     srand(1);
     for (int i = 0; i < RANDOM; i++) {
+        rules.steady_pins = i % 2;
         len = 0, n = FEW, put_random(2 + i % 5);
         if (len <= 256 && !dachsmond_match_row(rules, ON, 1).number) on_traces(false);
     }

@@ -44,7 +44,7 @@ pub extern "C" fn main() -> i32 {
     show(&line, told.count);
     let mut sums = [0; 3];
     for pattern in PATTERNS {
-        let e = read_expression(&slots, pattern.as_bytes(), true);
+        let e = read_expression(old_rules(), &slots, pattern.as_bytes(), true);
         let tree = &e.tree[..e.len];
         let c = totals(old_rules(), t.names, t.rows, tree, &states);
         assert_eq!(counted(t.names, tree, &states), [c.no, c.yes, c.unknown, 1]);

@@ -1,7 +1,8 @@
 # Reckons how much stack each function of the library can take, from its object code.
 #   awk -v limit=BYTES -v frame=BYTES -v other=BYTES -v deepest=NAME -v tabled='NAME..' -v with_table=BYTES \
 #       -f stack.awk TABLE MEASURED CODE
-# TABLE    lines `COUNT NAME|NAME..`: of the calls of these functions at most COUNT are open at once
+# TABLE    lines `COUNT NAME|NAME..`: of the calls of these functions at most COUNT are open at once; so they are taken
+#          for a circle, whether they call one another in one or not
 # MEASURED lines `NAME BYTES`: the functions asked for, and what was measured
 # CODE     what `objdump -dr --no-show-raw-insn` prints
 # A frame is the return address, the registers saved, the room taken, and the most that is pushed for one call.
@@ -83,6 +84,12 @@ function circle(g,  i, j, m, part_, sum, most) {
 END {
     over()
     for (i = 1; i <= rows; i++) { m = split(members[i], p, "|"); for (j = 1; j <= m; j++) listed[p[j]] = 1 }
+    for (l = 1; l <= rows; l++) {
+        m = split(members[l], p, "|")
+        for (i = 1; i <= m; i++)
+            for (j = 1; j <= m; j++)
+                if (i != j && p[i] in size && p[j] in size) reach[p[i], p[j]] = 1
+    }
     for (l = 1; l <= functions; l++)
         for (i = 1; i <= functions; i++)
             if ((function_[i], function_[l]) in reach)

@@ -41,7 +41,10 @@ static dachsmond_rules rules;
 static void old_rules(void) { rules = dachsmond_old_rules(); }
 static void version(void) { told.count = dachsmond_version(); }
 static void check_names(void) { told = dachsmond_check_names(names, 32 * k); }
-static void read_expression(void) { expression = dachsmond_read_expression(names, 32 * k, text, text_len, vector); }
+static void read_expression(void)
+{
+    expression = dachsmond_read_expression(rules, names, 32 * k, text, text_len, vector);
+}
 static void write_expression(void)
 {
     told = dachsmond_write_expression(names, 32 * k, tree, tree_len, vector, out, sizeof out);
@@ -65,10 +68,10 @@ static void match_all(void) { told = dachsmond_match_all(rules, k, n, tree, tree
 static void totals(void) { counted = dachsmond_totals(rules, k, n, tree, tree_len, TRACE); }
 static void rewrite(void)
 {
-    told = dachsmond_rewrite(k, tree, tree_len, steps, sizeof steps, tests, sizeof tests, edges, sizeof edges, operands,
-                             4096);
+    told = dachsmond_rewrite(rules, k, tree, tree_len, steps, sizeof steps, tests, sizeof tests, edges, sizeof edges,
+                             operands, 4096);
 }
-static void contradictions(void) { told = dachsmond_contradictions(k, tree, tree_len, flags, sizeof flags); }
+static void contradictions(void) { told = dachsmond_contradictions(rules, k, tree, tree_len, flags, sizeof flags); }
 static void correct(void) { told = dachsmond_correct(rules, k, n, tree, tree_len, TRACE, answers, n, 0, row, k); }
 static void empty_queue(void) { queue = dachsmond_empty_queue(); }
 static void push(void) { pushed = dachsmond_push(rules, k, tree, tree_len, queue, row, k); }
@@ -174,9 +177,12 @@ static void *all(void *unused)
     row[0] = 1;
     call(empty_queue);
     call(old_rules);
-    booleans();
-    vectors();
-    by_hand();
+    for (int steady = 0; steady < 2; steady++) { /* without steady pins, and with them */
+        rules.steady_pins = steady;
+        booleans();
+        vectors();
+        by_hand();
+    }
     long_trace();
     return unused;
 }

@@ -106,7 +106,9 @@ void do_changes(void)
 
 int main(int count, char **words)
 {
-    (void)words;
-    equal_branches = count > 1;
+    for (int i = 1; i < count; i++) {
+        if (*words[i] == 'e') equal_branches = 1;
+        if (*words[i] == 's') steady_pins = 1;
+    }
     return answer_cases();
 }

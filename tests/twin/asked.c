@@ -78,7 +78,7 @@ Refusal check_pattern(Pattern *p, long names, int sort)
         if (p->all == NULL) r = (Refusal){10, 0};
     } else {
         r = check_tree(p->tree.at, p->tree.length, (int)names, sort, &p->node);
-        if (!r.number && sort == VECTOR) p->all = alternatives_of(p->node);
+        if (!r.number && sort == VECTOR) p->all = alternatives_of(p->meant = meant(p->node));
     }
     p->longest = p->all ? longest_of(p->all) : 0;
     return r;
@@ -90,5 +90,5 @@ int number_of(int answer) { return answer == YES ? 1 : answer == UNKNOWN ? 2 : 0
 int number_at(const Pattern *p, const Trace *t, long row)
 {
     if (row == 0) return 3;
-    return number_of(p->listed ? best_at(p->all, t, row) : row_answer(p->node, t, row, MAX_STEPS));
+    return number_of(p->listed ? best_at(p->all, t, row) : row_answer(p->meant, t, row, MAX_STEPS));
 }

@@ -182,6 +182,6 @@ Refusal read_text(const byte *names, long names_length, const byte *text, long l
     *tree = tree_of(tokens, count);
     if (sort_fault(*tree, &place)) return (Refusal){7, place};
     if ((*tree)->sort != sort) return (Refusal){7, length};
-    if (sort == VECTOR && alternatives_of(*tree) == NULL) return (Refusal){8, 0};
+    if (sort == VECTOR && alternatives_of(meant(*tree)) == NULL) return (Refusal){8, 0};
     return (Refusal){0, 0};
 }

@@ -96,7 +96,7 @@ void do_rewrite(void)
     Bytes tree = take_bytes(), steps = lend(take_number()), tests = lend(take_number()), edges = lend(take_number());
     Bytes operands = lend(2 * take_number());
     dachsmond_told r =
-        dachsmond_rewrite(names, tree.at, tree.length, steps.at, steps.length, tests.at, tests.length, edges.at,
+        dachsmond_rewrite(rules, names, tree.at, tree.length, steps.at, steps.length, tests.at, tests.length, edges.at,
                           edges.length, (uint16_t *)operands.at, operands.length / 2);
     if (!refused(r.number, r.place, r.count)) printf("alternatives %zu", r.count);
     uint64_t sum = sum_of(sum_of(0, steps.at, steps.length), tests.at, tests.length);
@@ -107,7 +107,7 @@ void do_contradictions(void)
 {
     size_t names = take_number();
     Bytes tree = take_bytes(), flags = lend(take_number());
-    dachsmond_told r = dachsmond_contradictions(names, tree.at, tree.length, flags.at, flags.length);
+    dachsmond_told r = dachsmond_contradictions(rules, names, tree.at, tree.length, flags.at, flags.length);
     if (!refused(r.number, r.place, r.count)) printf("flags %zu", r.count);
     end_line(sum_of(0, flags.at, flags.length));
 }

@@ -1,6 +1,8 @@
 /* The library's side: answers each case on standard input by the library for C. */
 #include "library.h"
 
+dachsmond_rules rules;
+
 void begin_case(void) {}
 
 bool refused(unsigned number, size_t place, uint64_t others)
@@ -23,7 +25,7 @@ void do_read(void)
     Bytes names = take_bytes();
     bool vector = take_number();
     Bytes text = take_bytes();
-    dachsmond_expression r = dachsmond_read_expression(names.at, names.length, text.at, text.length, vector);
+    dachsmond_expression r = dachsmond_read_expression(rules, names.at, names.length, text.at, text.length, vector);
     if (!refused(r.number, r.place, r.len)) {
         printf("tree");
         say_bytes(r.tree, r.len);
@@ -73,12 +75,12 @@ void do_changes(void)
     end_line(0);
 }
 
-dachsmond_rules rules;
-
 int main(int count, char **words)
 {
-    (void)words;
     rules = dachsmond_old_rules();
-    if (count > 1) rules.equal_branches = true;
+    for (int i = 1; i < count; i++) {
+        if (*words[i] == 'e') rules.equal_branches = true;
+        if (*words[i] == 's') rules.steady_pins = true;
+    }
     return answer_cases();
 }

@@ -5,7 +5,7 @@
 #include "calls.h"
 #include "lines.h"
 
-/* The rules of every call that evaluates: the new ones where the program has an argument. */
+/* The rules of every call that takes them: the program's arguments, `equal` and `steady`, set them. */
 extern dachsmond_rules rules;
 
 /* Whether a call was refused, which is said; the other fields of what it tells are 0 then. */

@@ -56,7 +56,7 @@ void do_row_answer(void)
     Asked a = take_asked(0);
     long row = take_number();
     if (!refused(check_row(&a, row, VECTOR)))
-        printf("row %d", row == 0 ? 3 : number_of(row_answer(a.pattern.node, &a.trace, row, row)));
+        printf("row %d", row == 0 ? 3 : number_of(row_answer(a.pattern.meant, &a.trace, row, row)));
     end_line(0);
 }
 
@@ -65,7 +65,7 @@ void do_window(void)
     Asked a = take_asked(0);
     long from = take_number(), to = take_number();
     if (!refused(check_row(&a, from > to ? from : to, VECTOR)))
-        printf("window %d", number_of(answer_on(a.pattern.node, &a.trace, from, to)));
+        printf("window %d", number_of(answer_on(a.pattern.meant, &a.trace, from, to)));
     end_line(0);
 }
 

@@ -4,7 +4,7 @@
 #include <stdlib.h>
 #include <string.h>
 
-static Node pool[8192];
+static Node pool[4 * MAX_FILLED];
 static int used;
 
 Node *new_node(Kind kind, int place, int code, Node *a, Node *b, Node *c)
@@ -181,9 +181,11 @@ int given_by_text(Node *n)
     static const byte blank[32 * 32];
     int deepest = 0;
     if (n->given == 0) {
-        n->given = size_of(n) <= MAX_NODES && (n->sort == BOOLEAN || alternatives_of(n)) ? 1 : -1;
+        int mark = used;
+        n->given = size_of(n) <= MAX_NODES && (n->sort == BOOLEAN || alternatives_of(meant(n))) ? 1 : -1;
         if (n->given == 1 && size_of(n) > MAX_OPEN) text_of(n, blank, text, &deepest);
         if (deepest > MAX_OPEN) n->given = -1;
+        used = mark;
     }
     return n->given == 1;
 }
@@ -204,7 +206,11 @@ Refusal write_text(const byte *names, long names_length, const byte *bytes, long
     int deepest;
     Refusal r = check_names(names, names_length);
     if (r.number) return r;
-    if ((r = check_tree(bytes, length, (int)(names_length / 32), sort, &tree)).number) return r;
+    int rule = steady_pins;
+    steady_pins = 0; /* what was read is written, and the limits are asked without added tests */
+    r = check_tree(bytes, length, (int)(names_length / 32), sort, &tree);
+    steady_pins = rule;
+    if (r.number) return r;
     *size = text_of(tree, names, text, &deepest);
     if (*size > MAX_TEXT) return (Refusal){1, MAX_TEXT};
     if (*size > room) return (Refusal){9, *size};

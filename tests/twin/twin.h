@@ -12,6 +12,7 @@ typedef struct { int number; long place; } Refusal;
 int refused(Refusal r);           /* says it, where it is one */
 
 enum { MAX_TEXT = 4096, MAX_OPEN = 32, MAX_NODES = 256, MAX_ALTS = 64, MAX_STEPS = 16, MAX_TESTS = 64 };
+enum { MAX_FILLED = 4096 }; /* nodes of a tree and of its filled one */
 enum { BOOLEAN, VECTOR };
 enum { NO, UNKNOWN, YES };
 
@@ -65,6 +66,11 @@ long text_of(const Node *node, const byte *names, char *out, int *deepest);
 Refusal write_text(const byte *names, long names_length, const byte *tree, long length, int sort, long room,
                    char *out, long *size);
 
+/* steady.c: the expression filled; as the rule has it that the program's argument sets */
+extern int steady_pins;
+Node *filled(Node *node);
+Node *meant(Node *node);
+
 /* alternatives.c: NULL where over limit 8 */
 Alternatives *alternatives_of(const Node *node);
 int contradictory(const Alternative *alternative);
@@ -90,7 +96,7 @@ Refusal check_rows(long names, long n, long states_length);
 Refusal first_code(const byte *states, long length);
 
 /* asked.c: the pattern of a call over rows: a tree, or alternatives handed in as lists over one */
-typedef struct { int listed, longest; Bytes tree, lists[4]; Node *node; const Alternatives *all; } Pattern;
+typedef struct { int listed, longest; Bytes tree, lists[4]; Node *node, *meant; const Alternatives *all; } Pattern;
 Pattern take_pattern(int listed);
 Refusal check_pattern(Pattern *pattern, long names, int sort);
 int number_of(int answer);

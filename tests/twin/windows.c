@@ -138,7 +138,7 @@ static int window(const Node *n, const Trace *t, long a, long b)
 
 /* What was found for a node on the window of a length that ends at a row. */
 enum { KEPT = 64 };
-static struct { uint64_t when; int answer; } kept[MAX_NODES][KEPT][KEPT];
+static struct { uint64_t when; int answer; } kept[MAX_FILLED][KEPT][KEPT];
 static uint64_t now = 1;
 
 void forget_windows(void) { now += 1 << 20; }

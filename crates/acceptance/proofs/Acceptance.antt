@@ -1,6 +1,7 @@
 -- A tree is accepted exactly if the tests of its kind, its nodes, its brackets and its size say so.
--- Main names: is-over; shallow-yes, shallow-no; too-many, no-tree, not-vector, not-boolean, boolean-accepts,
--- vector-accepts, over-accepts; decides-unique; decoded, accepted-bytes, accepted-boolean, accepted-vector.
+-- Main names: is-over, vector-tree; shallow-yes, shallow-no; too-many, no-tree, not-vector, not-boolean;
+-- boolean-accepts, vector-accepts, over-accepts; decides-unique; decoded, accepted-bytes, accepted-boolean,
+-- accepted-vector, accepted-tree; accepted-any-rules.
 use Prim.Native.Nat.{ℕ, _<_, _≤_, min}
 use native.Mathlib.Omega.{arith}
 use mathlib.Core.Path.{_≡_, refl, ap, sym, _∙_}
@@ -11,6 +12,7 @@ use Rattle.alf.specs.Expressions.{Vector, Expression, boolean, vector}
 use Rattle.alf.specs.Bytes.{bytesOf}
 use Rattle.alf.specs.Decoder.{topVector, isBoolean, isVector, Decodes}
 use Rattle.alf.specs.Alternatives.{alternatives, overLimit}
+use Rattle.alf.specs.declared.Rules.{Rules}
 use Rattle.alf.specs.declared.Sort.{Sort}
 use Rattle.alf.specs.declared.Sort.the-variants as sort
 use Rattle.basics.proofs.Bools.{never}
@@ -20,6 +22,7 @@ use Rattle.trees.specs.declared.sorts.Kind.the-variants as kind
 use Rattle.trees.specs.Parts.{isWhole, top, Ends, EndsBoolean, EndsVector}
 use Rattle.trees.specs.Parts.{expressionAt, vectorAt}
 use Rattle.trees.specs.Sorts.{treeKind, Holds}
+use Rattle.steady_pins.specs.Finding.{Tree}
 use Rattle.trees.proofs.Trees.{kind-decodes}
 use Rattle.acceptance.specs.declared.sizes.Size.{Size}
 use Rattle.acceptance.specs.declared.sizes.Measured.{Measured}
@@ -71,12 +74,12 @@ unfolding Decodes top
 decoded n tree e h = ap top h
 
 -- the stack says of an accepted tree what is asked of its bytes
-pub accepted-decodes : {n : ℕ} {sort : Sort} {tree : List ℕ} (a : Accepted n sort tree)
+pub accepted-decodes : {ρ : Rules} {n : ℕ} {sort : Sort} {tree : List ℕ} (a : Accepted ρ n sort tree)
     → Decodes n tree (a .expression)
 accepted-decodes {n} {tree = tree} a = encoded-decodes n tree (a .expression) (a .encodes)
 
 -- the expression that an accepted tree is has its bytes
-pub accepted-bytes : {n : ℕ} {sort : Sort} {tree : List ℕ} → Accepted n sort tree
+pub accepted-bytes : {ρ : Rules} {n : ℕ} {sort : Sort} {tree : List ℕ} → Accepted ρ n sort tree
     → bytesOf (expressionAt tree n (length tree)) ≡ tree
 accepted-bytes {n} {tree = tree} a =
     ap bytesOf (decoded n tree (a .expression) (accepted-decodes a)) ∙ a .encodes .bytes
@@ -104,36 +107,39 @@ module _ (t : List ℕ) (names : ℕ) where
   unfolding Holds Decodes isVector
   vector-ends k = record { within = omega arith; whole = ap isVector (is-vector k .1) }
 
-  module _ (s : Sort) where
-    shallow : Accepted names s t → Shallow t names
+  pub vector-tree : treeKind t names ≡ kind.Vector → length t ≤ 256 → Tree t names (length t)
+  vector-tree k l = record { ends = vector-ends k; few = l }
+
+  module _ (ρ : Rules) (s : Sort) where
+    shallow : Accepted ρ names s t → Shallow t names
     shallow a = rw (decoded names t (a .expression) (accepted-decodes a)) (a .brackets)
 
-    pub too-many : 256 < length t → Decides false (Accepted names s t)
+    pub too-many : 256 < length t → Decides false (Accepted ρ names s t)
     unfolding Decides
     too-many l = λ a. let n = a .tokens in omega arith
 
-    pub no-tree : treeKind t names ≡ kind.Neither → Decides false (Accepted names s t)
+    pub no-tree : treeKind t names ≡ kind.Neither → Decides false (Accepted ρ names s t)
     unfolding Decides Holds
     no-tree k = λ a. (rw k at (kind-decodes t names)) (a .expression) (accepted-decodes a)
 
     -- the sort of the expression, where the tree is of a kind
-    sort-is : (e : Expression) → Decodes names t e → Accepted names s t → sortOf e ≡ s
+    sort-is : (e : Expression) → Decodes names t e → Accepted ρ names s t → sortOf e ≡ s
     sort-is e h a = ap sortOf (decode-unique names t e (a .expression) h (accepted-decodes a)) ∙ a .sorted
 
-    pub not-vector : treeKind t names ≡ kind.Boolean → s ≡ sort.Vector → Decides false (Accepted names s t)
+    pub not-vector : treeKind t names ≡ kind.Boolean → s ≡ sort.Vector → Decides false (Accepted ρ names s t)
     unfolding Decides Holds sortOf isVectorSort
     not-vector k e = λ a. never (ap isVectorSort (sort-is _ (is-boolean k .1) a ∙ e))
 
-    pub not-boolean : treeKind t names ≡ kind.Vector → s ≡ sort.Boolean → Decides false (Accepted names s t)
+    pub not-boolean : treeKind t names ≡ kind.Vector → s ≡ sort.Boolean → Decides false (Accepted ρ names s t)
     unfolding Decides Holds sortOf isVectorSort
     not-boolean k e = λ a. never (sym (ap isVectorSort (sort-is _ (is-vector k .1) a ∙ e)))
 
     pub boolean-accepts : (r : Bool) → treeKind t names ≡ kind.Boolean → s ≡ sort.Boolean → length t ≤ 256
-        → Decides r (Shallow t names) → Decides r (Accepted names s t)
+        → Decides r (Shallow t names) → Decides r (Accepted ρ names s t)
     unfolding Holds sortOf overSize
     boolean-accepts r k e l =
         let (c, h) = is-boolean k in
-        same-decided (Shallow t names) (Accepted names s t) r
+        same-decided (Shallow t names) (Accepted ρ names s t) r
         (λ d. record {
           expression = boolean c;
           encodes = decodes-encoded names t (boolean c) h;
@@ -146,12 +152,12 @@ module _ (t : List ℕ) (names : ℕ) where
 
     module _ (k : treeKind t names ≡ kind.Vector) where
       pub vector-accepts : (r : Bool) → s ≡ sort.Vector → length t ≤ 256
-          → Decides true (Limited t names)
-          → Decides r (Shallow t names) → Decides r (Accepted names s t)
+          → Decides true (Limited ρ t names)
+          → Decides r (Shallow t names) → Decides r (Accepted ρ names s t)
       unfolding Holds sortOf overSize Decides
       vector-accepts r e l f =
           let (p, h) = is-vector k in
-          same-decided (Shallow t names) (Accepted names s t) r
+          same-decided (Shallow t names) (Accepted ρ names s t) r
           (λ d. record {
             expression = vector p;
             encodes = decodes-encoded names t (vector p) h;
@@ -162,13 +168,13 @@ module _ (t : List ℕ) (names : ℕ) where
           })
           shallow
 
-      pub over-accepts : Decides false (Limited t names)
-          → Decides false (Accepted names s t)
+      pub over-accepts : Decides false (Limited ρ t names)
+          → Decides false (Accepted ρ names s t)
       unfolding Holds overSize Decides
       over-accepts f = λ a.
           let (p, h) = is-vector k in
           let e = decode-unique names t (vector p) (a .expression) h (accepted-decodes a) in
-          f (rw (vector-at-end p h) (ap overSize e ∙ a .sized))
+          f (rw (vector-at-end p h) (ap (overSize ρ) e ∙ a .sized))
 
 -- a test says one thing only
 pub decides-unique : (P : Type 0) (q r : Bool) → Decides q P → Decides r P → q ≡ r
@@ -179,7 +185,8 @@ decides-unique P false true h k = absurd (h k)
 decides-unique P false false h k = refl
 
 -- what an accepted tree ends with
-pub accepted-boolean : (t : List ℕ) (names : ℕ) → Accepted names sort.Boolean t → EndsBoolean t names (length t)
+pub accepted-boolean : {ρ : Rules} (t : List ℕ) (names : ℕ) → Accepted ρ names sort.Boolean t
+    → EndsBoolean t names (length t)
 unfolding Decodes isBoolean isVector sortOf isVectorSort
 accepted-boolean t names a = go (a .expression) (accepted-decodes a) (a .sorted)
   where
@@ -187,10 +194,32 @@ accepted-boolean t names a = go (a .expression) (accepted-decodes a) (a .sorted)
     go (boolean c) h k = record { within = omega arith; whole = rw h refl }
     go (vector p) h k = never (sym (ap isVectorSort k))
 
-pub accepted-vector : (t : List ℕ) (names : ℕ) → Accepted names sort.Vector t → EndsVector t names (length t)
+pub accepted-vector : {ρ : Rules} (t : List ℕ) (names : ℕ) → Accepted ρ names sort.Vector t
+    → EndsVector t names (length t)
 unfolding Decodes isBoolean isVector sortOf isVectorSort
 accepted-vector t names a = go (a .expression) (accepted-decodes a) (a .sorted)
   where
     go : (e : Expression) → Decodes names t e → sortOf e ≡ sort.Vector → EndsVector t names (length t)
     go (boolean c) h k = never (ap isVectorSort k)
     go (vector p) h k = record { within = omega arith; whole = rw h refl }
+
+pub accepted-tree : {ρ : Rules} (t : List ℕ) (names : ℕ) → Accepted ρ names sort.Vector t → Tree t names (length t)
+accepted-tree t names a = record { ends = accepted-vector t names a; few = a .tokens }
+
+-- of a boolean expression the rules say nothing
+boolean-sized : (ρ : Rules) (e : Expression) → sortOf e ≡ sort.Boolean → overSize ρ e ≡ false
+unfolding sortOf overSize isVectorSort
+boolean-sized ρ (boolean c) k = refl
+boolean-sized ρ (vector p) k = never (sym (ap isVectorSort k))
+
+pub accepted-any-rules : {ρ : Rules} {n : ℕ} {tree : List ℕ} (ρ′ : Rules) → Accepted ρ n sort.Boolean tree
+    → Accepted ρ′ n sort.Boolean tree
+accepted-any-rules ρ′ a =
+    record {
+      expression = a .expression;
+      encodes = a .encodes;
+      sorted = a .sorted;
+      tokens = a .tokens;
+      brackets = a .brackets;
+      sized = boolean-sized ρ′ (a .expression) (a .sorted);
+    }

@@ -1,14 +1,14 @@
 -- The steps and tests of an alternative, counted no further than 65, from those of the alternatives it is made of.
--- Main names: held; left-combined, right-combined, left-first, right-first, together.
+-- Main names: held, with-pins; left-combined, right-combined, left-first, right-first, together.
 use Prim.Native.Nat.{ℕ, _+_, min, max}
 use native.Mathlib.Omega.{arith}
-use mathlib.Core.Path.{_≡_}
+use mathlib.Core.Path.{_≡_, refl}
 use lib.ListN.{length-append}
 use Rattle.alf.proofs.Steps.{overlaid-length, conditioned-length}
 use Rattle.alf.proofs.Growth.{tests-append, tests-overlaid, tests-conditioned}
 use Rattle.alternatives.specs.declared.picking.How.the-variants.{Left, Right, LeftFirst, RightFirst, Together}
 use Rattle.alternatives.specs.Picks.{put}
-use Rattle.acceptance.specs.Sizes.{Held, Combined}
+use Rattle.acceptance.specs.Sizes.{Held, Combined, WithPins}
 
 pub held : {s n k : ℕ} → k ≡ min 65 (n + s) → Held s n s k
 held e =
@@ -20,6 +20,9 @@ held e =
           let t = tests-conditioned c x in
           record { steps-is = omega arith; tests-is = omega arith };
     }
+
+pub with-pins : {s n k r : ℕ} → r ≡ min 65 (n + k) → WithPins s n k s r
+with-pins e = record { steps-is = refl; tests-is = e }
 
 module _ {a b c d : ℕ} where
   pub left-combined : Combined Left a b c d a b

@@ -1,42 +1,61 @@
 -- Alternative t of the vector expression that ends at a place, from its operands' alternatives.
--- Main names: edge-shape; before-chosen, before-shape; condition-chosen, condition-shape; join-picking, left-chosen,
--- right-chosen, join-shape.
+-- Main names: edge-one, while-at, join-at, pinned-shape, placed-there; before-chosen, condition-chosen, join-picking,
+-- left-chosen, right-chosen; shaped-small.
 use Prim.Native.Nat.{ℕ, zero, suc, _-_, _*_, _<_, _≤_}
 use native.Mathlib.Omega.{arith}
 use native.Mathlib.Nat.{le-mul-of-pos-right, mul-comm}
 use mathlib.Core.Path.{_≡_, refl}
 use mathlib.Core.List.{List, []}
-use lib.ListN.{getD}
+use lib.ListN.{length, getD}
 use Rattle.basics.specs.Words.{sumOf}
-use Rattle.alf.specs.Expressions.{Boolean, Edge, Vector, edge, join, while, Side}
+use Rattle.alf.specs.Expressions.{Boolean, literal, Edge, Vector, edge, join, while, Side}
 use Rattle.alf.specs.Expressions.{Join, followed-by, either-order, with-or-then, any-order, with, or-else}
 use Rattle.alf.specs.Decoder.{joinAt}
-use Rattle.alf.specs.Alternatives.{Alternative, conditioned, alternatives, numberOfAlternatives, tests}
+use Rattle.alf.specs.Alternatives.{conditioned, alternatives, numberOfAlternatives, tests}
 use Rattle.alternatives.specs.declared.picking.How.{How}
 use Rattle.trees.specs.Parts.{vectorAt}
 use Rattle.alternatives.specs.Picks.{countOf, put, Picked, Picking}
-use Rattle.acceptance.specs.Sizes.{alternativeAt, Chosen, Shaped, Held, Combined, Small}
+use Rattle.acceptance.specs.Sizes.{Chosen, Shaped, ShapedAt, WithPins, Small}
+use Rattle.steady_pins.specs.Pinned.{pinned, pinCount, byPlaces}
+use Rattle.steady_pins.proofs.PinnedAlternatives.{placed-number, pinned-length, pinned-tests}
 use Rattle.basics.proofs.Entries.{getD-map}
-use Rattle.trees.proofs.Vectors.{Conditioned, Joined, edge-is, before-is, before-ends}
-use Rattle.acceptance.proofs.CappedCounts.{number-edge, number-while, number-join, number-some}
+use Rattle.trees.proofs.Vectors.{Conditioned, Joined, before-is, before-ends}
+use Rattle.acceptance.proofs.CappedCounts.{number-while, number-join, number-some}
 use Rattle.acceptance.proofs.Numbers.{Number}
 
 -- an expression's alternative
-edge-one : (e : Edge) (c : Boolean) (a : ℕ) → a < 1 → Shaped (getD (alternatives (edge e c)) a []) 1 1
+pub edge-there : (e : Edge) (c : Boolean) (a : ℕ) → a < 1 → a < length (alternatives (edge e c))
+unfolding alternatives
+edge-there e c a l = l
+
+pub edge-one : (e : Edge) (c : Boolean) (a : ℕ) → a < 1 → Shaped (getD (alternatives (edge e c)) a []) 1 1
 unfolding alternatives tests sumOf
 edge-one e c zero l = record { steps-is = refl; tests-is = refl }
 edge-one e c (suc a) l = absurd (omega arith)
 
-while-at : (s : Side) (p : Vector) (c : Boolean) (a : ℕ) → a < numberOfAlternatives p
+pub while-at : (s : Side) (p : Vector) (c : Boolean) (a : ℕ) → a < length (alternatives p)
     → getD (alternatives (while s p c)) a [] ≡ conditioned c (getD (alternatives p) a [])
-unfolding alternatives numberOfAlternatives
+unfolding alternatives
 while-at s p c a l = getD-map (conditioned c) (alternatives p) a [] [] l
 
-join-at : (j : Join) (p q : Vector) {a i k : ℕ} {how : How}
-    → Picked j (numberOfAlternatives p) (numberOfAlternatives q) a how i k
+pub join-at : (j : Join) (p q : Vector) {n m a i k : ℕ} {how : How} → Picked j n m a how i k
+    → length (alternatives p) ≡ n → length (alternatives q) ≡ m
     → getD (alternatives (join j p q)) a [] ≡ put how (getD (alternatives p) i []) (getD (alternatives q) k [])
-unfolding alternatives numberOfAlternatives
-join-at j p q h = h .is (alternatives p) (alternatives q) refl refl
+unfolding alternatives
+join-at j p q h e d = h .is (alternatives p) (alternatives q) e d
+
+-- a part with its pins
+pub pinned-shape : (operand : ℕ → Boolean) (pins : List ℕ) (end : ℕ) (p : Vector) (a : ℕ) {s n s′ n′ : ℕ}
+    → a < length (alternatives p)
+    → Shaped (getD (alternatives p) a []) s n → WithPins s n (pinCount pins end 32) s′ n′
+    → Shaped (getD (alternatives (pinned operand pins 32 end p)) a []) s′ n′
+pinned-shape operand pins end p a l h w =
+    let e = pinned-length operand pins 32 end p a in
+    let d = pinned-tests operand pins 32 end p a l in
+    record {
+      steps-is = omega (arith, w .steps-is, h .steps-is);
+      tests-is = omega (arith, w .tests-is, h .tests-is);
+    }
 
 -- operands keep the limit
 few-operands : (j : Join) (n m : ℕ) → 0 < n → 0 < m → countOf j n m ≤ 64 → (n ≤ 64) × (m ≤ 64)
@@ -51,12 +70,14 @@ few-operands j n m p q l = go j l (le-mul-of-pos-right n q) (rw (mul-comm m n) a
     go with l x y = (omega arith, omega arith)
     go or-else l x y = (omega arith, omega arith)
 
-module _ (t : List ℕ) (names end a : ℕ) (h : Chosen t names end a) where
-  pub edge-shape : 64 ≤ getD t (end - 1) 0 → Shaped (alternativeAt t names end a) 1 1
-  edge-shape k =
-      let e = edge-is t names end (h .ends) k in
-      rw e (edge-one _ _ a (rw (e, number-edge) at (h .there)))
+-- so many alternatives has a part, with its pins and whatever its operands are
+pub placed-there : (operand : ℕ → Boolean) (pins : List ℕ) (t : List ℕ) (names end a : ℕ) → Chosen t names end a
+    → a < length (alternatives (byPlaces operand pins end (vectorAt t names end)))
+unfolding numberOfAlternatives
+placed-there operand pins t names end a h =
+    rw (placed-number operand pins end (vectorAt t names end)) (h .there)
 
+module _ (t : List ℕ) (names end a : ℕ) (h : Chosen t names end a) where
   -- c & P, and P & c
   pub before-chosen : getD t (end - 1) 0 ≡ 57 → Chosen t names (end - 1) a
   before-chosen k =
@@ -67,24 +88,13 @@ module _ (t : List ℕ) (names end a : ℕ) (h : Chosen t names end a) where
         few = rw (e, number-while) at (h .few);
       }
 
-  pub before-shape : {s n s′ n′ : ℕ} → getD t (end - 1) 0 ≡ 57
-      → Shaped (alternativeAt t names (end - 1) a) s n
-      → Held s n s′ n′ → Shaped (alternativeAt t names end a) s′ n′
-  before-shape k x y =
-      rw (before-is t names end (h .ends) k, while-at _ _ _ a (before-chosen k .there)) (y .given _ _ x)
-
-  module _ {m : ℕ} (c : Conditioned t names end m) where
-    pub condition-chosen : Chosen t names m a
-    condition-chosen =
-        record {
-          ends = c .left;
-          there = rw (c .is, number-while) at (h .there);
-          few = rw (c .is, number-while) at (h .few);
-        }
-
-    pub condition-shape : {s n s′ n′ : ℕ} → Shaped (alternativeAt t names m a) s n → Held s n s′ n′
-        → Shaped (alternativeAt t names end a) s′ n′
-    condition-shape x y = rw (c .is, while-at _ _ _ a (condition-chosen .there)) (y .given _ _ x)
+  pub condition-chosen : {m : ℕ} → Conditioned t names end m → Chosen t names m a
+  condition-chosen c =
+      record {
+        ends = c .left;
+        there = rw (c .is, number-while) at (h .there);
+        few = rw (c .is, number-while) at (h .few);
+      }
 
   -- P j Q
   module _ {m x y : ℕ} (j : Joined t names end m) (e : Number t names m x) (d : Number t names (end - 1) y) where
@@ -92,10 +102,10 @@ module _ (t : List ℕ) (names end a : ℕ) (h : Chosen t names end a) where
         × (numberOfAlternatives (vectorAt t names (end - 1)) ≤ 64)
     few = few-operands _ _ _ (number-some _) (number-some _) (rw (j .is, number-join) at (h .few))
 
-    left-is : x ≡ numberOfAlternatives (vectorAt t names m)
+    pub left-is : x ≡ numberOfAlternatives (vectorAt t names m)
     left-is = let f = few in omega arith
 
-    right-is : y ≡ numberOfAlternatives (vectorAt t names (end - 1))
+    pub right-is : y ≡ numberOfAlternatives (vectorAt t names (end - 1))
     right-is = let f = few in omega arith
 
     pub join-picking : Picking (getD t (end - 1) 0) x y a
@@ -122,10 +132,9 @@ module _ (t : List ℕ) (names end a : ℕ) (h : Chosen t names end a) where
       pub right-chosen : Chosen t names (end - 1) k
       right-chosen = record { ends = j .right; there = rw (← right-is) (p .upper); few = few .1 }
 
-      pub join-shape : {s n s′ n′ s″ n″ : ℕ} → Shaped (alternativeAt t names m i) s n
-          → Shaped (alternativeAt t names (end - 1) k) s′ n′ → Combined how s n s′ n′ s″ n″
-          → Shaped (alternativeAt t names end a) s″ n″
-      join-shape f g c = rw (j .is, join-at _ _ _ (rw (left-is, right-is) at p)) (c .given _ _ f g)
-
-pub shaped-small : {x : Alternative} {s n : ℕ} → Shaped x s n → Small s n
-shaped-small h = let a = h .steps-is in let b = h .tests-is in record { first = omega arith; second = omega arith }
+pub shaped-small : {pins t : List ℕ} {names end a s n : ℕ} → ShapedAt pins t names end a s n → Small s n
+shaped-small h =
+    let x = h .given (λ n. literal 0) in
+    let a = x .steps-is in
+    let b = x .tests-is in
+    record { first = omega arith; second = omega arith }

@@ -3,5 +3,8 @@ pub mod CappedCounts
 pub mod Numbers
 pub mod CappedSizes
 pub mod Chosen
+pub mod Shapes
 pub mod Measures
+pub mod MeasuredPins
 pub mod Acceptance
+pub mod AnyRules

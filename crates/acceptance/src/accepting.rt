@@ -1,12 +1,14 @@
 // Whether a tree is accepted for a sort and a number of names.
 use crate::sizes;
 use crate::sizes::Measured;
+use alf::Rules;
 use alf::Sort;
 use trees::brackets;
 use trees::sorts;
 use trees::sorts::Kind;
 ghost use lib.ListN.{length};
-ghost use Rattle.trees.specs.Parts.{Ends, EndsVector};
+ghost use Rattle.trees.specs.Parts.{Ends};
+ghost use Rattle.steady_pins.specs.Finding.{Tree};
 ghost use Rattle.acceptance.specs.Accepted.{Accepted, Shallow, Limited};
 ghost use Rattle.basics.specs.Deciding.{Decides};
 
@@ -21,21 +23,21 @@ fn is_shallow(tree: &[u8], names: usize) -> bool
     true
 }
 
-// Whether the whole tree's vector expression is within limit 8.
-fn is_small(tree: &[u8], names: usize) -> bool
-    requires { ⌜ EndsVector (now tree) names (length (now tree)) ⌝ }
-    ensures { λ r. ⌜ Decides r (Limited (now (tree .entry)) names) ⌝ }
+// Whether the whole tree's vector expression, as the rules read it, is within limit 8.
+fn is_small(rules: Rules, tree: &[u8], names: usize) -> bool
+    requires { ⌜ Tree (now tree) names (length (now tree)) ⌝ }
+    ensures { λ r. ⌜ Decides r (Limited rules (now (tree .entry)) names) ⌝ }
 {
-    let size = crate::sizes::measure(tree, tree.len(), names);
+    let size = crate::sizes::measure(rules, tree, tree.len(), names);
     match size {
         Measured::Over => false,
         Measured::Within(_) => true,
     }
 }
 
-// Whether a tree is accepted.
-pub fn accepts(tree: &[u8], names: usize, sort: Sort) -> bool
-    ensures { λ r. ⌜ Decides r (Accepted names sort (now (tree .entry))) ⌝ }
+// Whether a tree is accepted under the rules.
+pub fn accepts(rules: Rules, tree: &[u8], names: usize, sort: Sort) -> bool
+    ensures { λ r. ⌜ Decides r (Accepted rules names sort (now (tree .entry))) ⌝ }
 {
     if 256 < tree.len() {
         return false;
@@ -50,7 +52,7 @@ pub fn accepts(tree: &[u8], names: usize, sort: Sort) -> bool
         Kind::Vector => match sort {
             Sort::Boolean => false,
             Sort::Vector => {
-                if is_small(tree, names) {
+                if is_small(rules, tree, names) {
                     return is_shallow(tree, names);
                 }
                 false

@@ -1,14 +1,20 @@
 // The size of a vector expression in alternatives, steps and tests: limit 8, counted and not built.
+use alf::Rules;
 use alternatives::picking;
 use alternatives::picking::How;
+use steady_pins::counting::pin_count;
+use steady_pins::finding::find;
 use trees::parts;
 ghost use mathlib.Core.Path.{_≡_};
-ghost use Prim.Native.Nat.{_-_, _<_, min, max};
+ghost use Prim.Native.Nat.{_-_, _<_, _≤_, min, max};
 ghost use Rattle.alf.specs.Decoder.{joinAt};
 ghost use Rattle.alf.specs.Alternatives.{numberOfAlternatives};
 ghost use Rattle.trees.specs.Parts.{EndsVector, vectorAt};
 ghost use Rattle.alternatives.specs.Picks.{countOf};
-ghost use Rattle.acceptance.specs.Sizes.{Counts, alternativeAt, Chosen, Shaped, Held, Combined, Small, measured};
+ghost use Rattle.alf.specs.Steady.{meant};
+ghost use Rattle.steady_pins.specs.Finding.{Tree};
+ghost use Rattle.acceptance.specs.Sizes.{Counts, Shaping, ShapedAt, Held, Combined, WithPins, Small, measured};
+ghost use Rattle.acceptance.specs.Sizes.{PinnedTree, MeasuredAt};
 
 // How many alternatives, the steps of the longest, the tests of the one with most.
 pub struct Size {
@@ -118,36 +124,48 @@ fn combine(how: How, x: Shape, y: Shape) -> Shape
     }
 }
 
-// The steps and the tests of alternative t of the vector expression that ends at `end`.
-pub fn shape_of(tree: &[u8], end: usize, names: usize, t: usize) -> Shape
-    requires { ⌜ Chosen (now tree) names end t ⌝ }
-    ensures { λ r. ⌜ Shaped (alternativeAt (now (tree .entry)) names end t) (r .steps) (r .tests) ⌝ }
+// An alternative with n pins: their tests are in its last step.
+fn pin(x: Shape, n: usize) -> Shape
+    requires { ⌜ Small (x .steps) (x .tests) × (n ≤ 32) ⌝ }
+    ensures { λ r. ⌜ WithPins (x .steps) (x .tests) n (r .steps) (r .tests) ⌝ }
+{
+    Shape {
+        steps: x.steps,
+        tests: cap(x.tests + n),
+    }
+}
+
+// The steps and the tests of alternative t of the vector expression that ends at `end`, with its pins.
+pub fn shape_of(tree: &[u8], pins: &[u8; 8192], end: usize, names: usize, t: usize) -> Shape
+    requires { ⌜ Shaping (now pins) (now tree) names end t ⌝ }
+    ensures { λ r. ⌜ ShapedAt (now (pins .entry)) (now (tree .entry)) names end t (r .steps) (r .tests) ⌝ }
 {
     let at = end - 1;
     let b = tree[at];
     if 64 <= b {
-        return Shape { steps: 1, tests: 1 };
+        let tests = 1 + pin_count(pins, end);
+        return Shape { steps: 1, tests };
     }
     if b == 57 {
-        return hold(shape_of(tree, at, names, t));
+        return hold(shape_of(tree, pins, at, names, t));
     }
     let left = parts::start_of(tree, at, names);
     if b == 56 {
-        return hold(shape_of(tree, left, names, t));
+        return hold(shape_of(tree, pins, left, names, t));
     }
     let n = count_of(tree, left, names);
     let m = count_of(tree, at, names);
     let p = alternatives::picking::find(b, n, m, t);
-    let x = shape_of(tree, left, names, p.left);
-    let y = shape_of(tree, at, names, p.right);
+    let x = shape_of(tree, pins, left, names, p.left);
+    let y = shape_of(tree, pins, at, names, p.right);
     let how = p.how;
-    combine(how, x, y)
+    pin(combine(how, x, y), pin_count(pins, end))
 }
 
-// The size of the vector expression that ends at `end`, or that it is over limit 8.
-pub fn measure(tree: &[u8], end: usize, names: usize) -> Measured
-    requires { ⌜ EndsVector (now tree) names end ⌝ }
-    ensures { λ r. ⌜ r ≡ measured (vectorAt (now (tree .entry)) names end) ⌝ }
+// The size of the vector expression that ends at `end`, with its pins, or that it is over limit 8.
+fn measure_pinned(tree: &[u8], pins: &[u8; 8192], end: usize, names: usize) -> Measured
+    requires { ⌜ PinnedTree (now pins) (now tree) names end ⌝ }
+    ensures { λ r. ⌜ MeasuredAt (now (pins .entry)) (now (tree .entry)) names end r ⌝ }
 {
     let n = count_of(tree, end, names);
     if 64 < n {
@@ -157,7 +175,7 @@ pub fn measure(tree: &[u8], end: usize, names: usize) -> Measured
     let mut tests: usize = 0;
     let mut t: usize = 0;
     while t < n {
-        let x = shape_of(tree, end, names, t);
+        let x = shape_of(tree, pins, end, names, t);
         steps = larger(steps, x.steps);
         tests = larger(tests, x.tests);
         t += 1;
@@ -173,4 +191,13 @@ pub fn measure(tree: &[u8], end: usize, names: usize) -> Measured
         steps,
         tests,
     })
+}
+
+// The size of the vector expression that ends at `end`, as the rules read it, or that it is over limit 8.
+pub fn measure(rules: Rules, tree: &[u8], end: usize, names: usize) -> Measured
+    requires { ⌜ Tree (now tree) names end ⌝ }
+    ensures { λ r. ⌜ r ≡ measured (meant rules (vectorAt (now (tree .entry)) names end)) ⌝ }
+{
+    let pins = find(rules, tree, end, names);
+    measure_pinned(tree, &pins, end, names)
 }

@@ -8,6 +8,7 @@ pub mod Lifting
 pub mod Joins
 pub mod Overlays
 pub mod WindowsAreAlternatives
+pub mod WindowBounds
 pub mod RowsAreAlternatives
 pub mod Conditions
 pub mod Values

@@ -19,6 +19,7 @@ pub mod Names
 pub mod Windows
 pub mod Answers
 pub mod Alternatives
+pub mod Steady
 pub mod Traces
 pub mod Refusals
 pub mod TableT

@@ -31,10 +31,10 @@ operate at-most x y = atMost x y
 
 -- document 01's rules, and those of document 02, [9]
 abbrev pub oldRules : Rules
-oldRules = record { «equal_branches» = false }
+oldRules = record { «equal_branches» = false; «steady_pins» = false }
 
 abbrev pub newRules : Rules
-newRules = record { «equal_branches» = true }
+newRules = record { «equal_branches» = true; «steady_pins» = false }
 
 -- `c ? a : b` where c reduces to X: X; by document 02, [9], "if both branches have the same value, that value is the
 -- result"

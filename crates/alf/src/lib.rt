@@ -24,4 +24,6 @@ pub struct Stamp(pub u64);
 pub struct Rules {
     // The value of `c ? a : b` where c is unknown: the branches' value if it is the same, or X always.
     pub equal_branches: bool,
+    // Whether the pins of a run of `->` are steady between their events (document 02, [2]).
+    pub steady_pins: bool,
 }

@@ -12,10 +12,12 @@ use Rattle.alf.specs.Names.{namesIn}
 use Rattle.basics.specs.declared.Refusal.{Refusal}
 use Rattle.basics.specs.declared.Outcome.{Outcome}
 use Rattle.basics.specs.declared.Outcome.the-variants.{Done, Refused}
+use Rattle.alf.specs.declared.Rules.{Rules}
 use Rattle.alf.specs.declared.Sort.the-variants as sort
 use Rattle.alf.specs.Expressions.{Vector, Expression, boolean, vector}
 use Rattle.alf.specs.Decoder.{Stack, Decodes, topVector}
 use Rattle.alf.specs.Alternatives.{alternatives}
+use Rattle.alf.specs.Steady.{meant}
 use Rattle.alf.specs.Refusals.{RefusedWith, Passed, Comes}
 use Rattle.alf.proofs.Outcomes.{refused-passed}
 use Rattle.names.specs.Check.{namesOrder}
@@ -35,48 +37,48 @@ use Rattle.alternative_lines.specs.Listing.{listing}
 use Rattle.alternative_listings.specs.Calls.{ownAt, listingAt, order, tally, WritesAlternatives, DeliversLines}
 use Rattle.alternative_listings.specs.AlternativesText.{RewritesText, refused, rewritten}
 
-pub refused-text : {names text out : List ℕ} {r : Read} → ReadsText names text sort.Vector r → r .refused ≡ true
-    → RewritesText names text out out (record { written = Refused (r .refusal); untold = 0 })
+pub refused-text : {ρ : Rules} {names text out : List ℕ} {r : Read} → ReadsText ρ names text sort.Vector r
+    → r .refused ≡ true → RewritesText ρ names text out out (record { written = Refused (r .refusal); untold = 0 })
 refused-text h e = refused (read-refused h e)
 
 -- the names and the tree of a text are good, so 9 is left
-module _ (names tree : List ℕ) (room : ℕ) (good : Passed (namesOrder names))
-    (a : Accepted (namesIn names) sort.Vector tree) where
+module _ (ρ : Rules) (names tree : List ℕ) (room : ℕ) (good : Passed (namesOrder names))
+    (a : Accepted ρ (namesIn names) sort.Vector tree) where
   abbrev done : ℕ → Type 0
-  done k = k ≡ length (listingAt names tree)
+  done k = k ≡ length (listingAt ρ names tree)
 
-  only-nine : (n p : ℕ) → RefusedWith (order names tree room) n p
-      → RefusedWith (lineOrder (listingAt names tree) room) n p
+  only-nine : (n p : ℕ) → RefusedWith (order ρ names tree room) n p
+      → RefusedWith (lineOrder (listingAt ρ names tree) room) n p
   unfolding RefusedWith Passed order
   only-nine n p (inl x) = absurd (good .0 _ (x .1))
   only-nine n p (inr (m, inl x)) = absurd (good .1 .0 _ (x .1))
   only-nine n p (inr (m, inr (l, inl x))) = absurd (x .1 .given a)
   only-nine n p (inr (m, inr (l, inr (k, x)))) = x
 
-  nine-left : (o : Outcome) → Comes (order names tree room) done o
-      → Comes (lineOrder (listingAt names tree) room) done o
+  nine-left : (o : Outcome) → Comes (order ρ names tree room) done o
+      → Comes (lineOrder (listingAt ρ names tree) room) done o
   unfolding Comes Passed order
   nine-left (Done k) x = (x .0 .1 .1 .1, x .1)
   nine-left (Refused q) x = record { by = only-nine _ _ (x .by); bare = x .bare }
 
-module _ {names text : List ℕ} {q : Read} (f : Found names text sort.Vector q) where
+module _ {ρ : Rules} {names text : List ℕ} {q : Read} (f : Found ρ names text sort.Vector q) where
   abbrev tree : List ℕ
   tree = take (q .len) (q .tree)
 
-  own : ownAt names tree ≡ alternatives (found-vector f .p)
+  own : ownAt ρ names tree ≡ alternatives (meant ρ (found-vector f .p))
   unfolding Decodes topVector
-  own = ap (λ (s : Stack). alternatives (topVector s)) (vector-decodes f)
+  own = ap (λ (s : Stack). alternatives (meant ρ (topVector s))) (vector-decodes f)
 
-  pub rewritten-text : {out out′ : List ℕ} {r : Lines} → WritesAlternatives names tree out out′ r
-      → RewritesText names text out out′ r
+  pub rewritten-text : {out out′ : List ℕ} {r : Lines} → WritesAlternatives ρ names tree out out′ r
+      → RewritesText ρ names text out out′ r
   unfolding listingAt
   rewritten-text {out} {out′} {r} w =
       let good = passed-left (namesOrder names) _ (f .passed) in
-      let d : DeliversLines (listingAt names tree) (untold names (ownAt names tree)) out out′ r =
+      let d : DeliversLines (listingAt ρ names tree) (untold names (ownAt ρ names tree)) out out′ r =
       record {
         delivers =
             record {
-              outcome = nine-left names tree (length out) good (found-accepted f) (r .written) (w .outcome);
+              outcome = nine-left ρ names tree (length out) good (found-accepted f) (r .written) (w .outcome);
               memory = w .memory;
             };
         untold-are = w .untold-are;
@@ -98,14 +100,14 @@ patternOf : Expression → Vector → Vector
 patternOf (boolean c) d = d
 patternOf (vector p) d = p
 
-pub text-unique : {names text out a b : List ℕ} {r s : Lines} → RewritesText names text out a r
-    → RewritesText names text out b s → Same r s a b
+pub text-unique : {ρ : Rules} {names text out a b : List ℕ} {r s : Lines} → RewritesText ρ names text out a r
+    → RewritesText ρ names text out b s → Same r s a b
 unfolding patternOf
-text-unique {names} {text} (refused x) (refused y) =
-    let e = refused-in-unique text (readOrder names text sort.Vector) (read-sole names text sort.Vector) x y in
+text-unique {ρ} {names} {text} (refused x) (refused y) =
+    let e = refused-in-unique text (readOrder ρ names text sort.Vector) (read-sole ρ names text sort.Vector) x y in
     (ap (λ (r : Refusal). record { written = Refused r; untold = 0 }) e, refl)
 text-unique (refused x) (rewritten h g d) = absurd (refused-passed _ _ _ h (x .by))
 text-unique (rewritten h g d) (refused x) = absurd (refused-passed _ _ _ h (x .by))
-text-unique {names} {out = out} (rewritten {p = p} h g d) (rewritten {p = q} k f c) =
+text-unique {ρ} {names} {out = out} (rewritten {p = p} h g d) (rewritten {p = q} k f c) =
     let e : p ≡ q = ap (λ (x : Expression). patternOf x p) (gives-unique g f) in
-    same-lines (listing names (alternatives q)) (untold names (alternatives q)) out (rw e at d) c
+    same-lines (listing names (alternatives (meant ρ q))) (untold names (alternatives (meant ρ q))) out (rw e at d) c

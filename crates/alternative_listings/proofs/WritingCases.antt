@@ -15,6 +15,7 @@ use Rattle.basics.specs.Refusing.{refusal}
 use Rattle.basics.specs.declared.Outcome.{Outcome}
 use Rattle.basics.specs.declared.Outcome.the-variants.{Done, Refused}
 use Rattle.basics.specs.declared.Refusal.{Refusal}
+use Rattle.alf.specs.declared.Rules.{Rules}
 use Rattle.alf.specs.declared.Sort.the-variants.{Vector}
 use Rattle.basics.specs.Words.{sumOf}
 use Rattle.alf.specs.Alternatives.{Test, Alternative, contradictory}
@@ -103,9 +104,9 @@ own-notes names {xs} f d =
     rw (f .flags-are, lines-flagged names 1 xs (drop (length (flagList (namesIn names) xs)) _)) at d
 
 -- the lists of an accepted tree
-module _ (names : List ℕ) {tree : List ℕ} {a : Alternatives} (h : Holds tree (namesIn names) a) where
+module _ {ρ : Rules} (names : List ℕ) {tree : List ℕ} {a : Alternatives} (h : Holds ρ tree (namesIn names) a) where
   abbrev ys : List Alternative
-  ys = alternativesAt tree (namesIn names)
+  ys = alternativesAt ρ tree (namesIn names)
 
   steps-front : take (a .count) (a .steps) ≡ stepList ys
   steps-front =
@@ -134,7 +135,7 @@ module _ (names : List ℕ) {tree : List ℕ} {a : Alternatives} (h : Holds tree
   many : length all ≡ length (take (a .«test_count») (a .edges))
   many = tests-length tree (namesIn names) _ _ (h .shape .known .enough)
 
-  counted : untold names (ownAt names tree) ≡ sumOf (untoldTest names) all
+  counted : untold names (ownAt ρ names tree) ≡ sumOf (untoldTest names) all
   unfolding alternativesOf
   counted =
       ap (untold names) (sym (h .stands))
@@ -146,33 +147,34 @@ module _ (names : List ℕ) {tree : List ℕ} {a : Alternatives} (h : Holds tree
       (take (a .«step_count») (a .tests)) (take (a .«test_count») (a .edges))
       (take (a .«test_count») (a .operands))))
       (sumOf (untoldTest names) all) out out′ r
-      → DeliversLines (listingAt names tree) (untold names (ownAt names tree)) out out′ r
+      → DeliversLines (listingAt ρ names tree) (untold names (ownAt ρ names tree)) out out′ r
   unfolding listingAt
   own-lists d = rw (h .stands, ← counted) at d
 
-pub lists-fit : {names tree : List ℕ} {a : Alternatives} → Whole names tree → Holds tree (namesIn names) a
+pub lists-fit : {ρ : Rules} {names tree : List ℕ} {a : Alternatives} → Whole ρ names tree
+    → Holds ρ tree (namesIn names) a
     → Listed names tree (take (a .count) (a .steps)) (take (a .«step_count») (a .tests))
     (take (a .«test_count») (a .edges)) (take (a .«test_count») (a .operands))
 lists-fit w h = record { named = w .named; short = w .accepted .tokens; shape = h .shape }
 
 -- the whole call
-module _ (names tree : List ℕ) (room : ℕ) where
+module _ (ρ : Rules) (names tree : List ℕ) (room : ℕ) where
   abbrev done : ℕ → Type 0
-  done k = k ≡ length (listingAt names tree)
+  done k = k ≡ length (listingAt ρ names tree)
 
-  names-refused : (n p : ℕ) → RefusedWith (namesOrder names) n p → RefusedWith (order names tree room) n p
+  names-refused : (n p : ℕ) → RefusedWith (namesOrder names) n p → RefusedWith (order ρ names tree room) n p
   unfolding RefusedWith order
   names-refused n p (inl x) = inl x
   names-refused n p (inr (m, inl x)) = inr (m, inl x)
   names-refused n p (inr (m, inr (l, x))) = absurd x
 
   comes-names : (made : ℕ → Type 0) (r : Refusal) → Comes (namesOrder names) made (Refused r)
-      → Comes (order names tree room) done (Refused r)
+      → Comes (order ρ names tree room) done (Refused r)
   unfolding Comes
   comes-names made r x = record { by = names-refused _ _ (x .by); bare = x .bare }
 
-  comes-ten : Named names → (Accepted (namesIn names) Vector tree → ⊥)
-      → Comes (order names tree room) done (Refused (refusal 10 0))
+  comes-ten : Named names → (Accepted ρ (namesIn names) Vector tree → ⊥)
+      → Comes (order ρ names tree room) done (Refused (refusal 10 0))
   unfolding Comes RefusedWith Passed order
   comes-ten h f =
       record {
@@ -180,8 +182,8 @@ module _ (names tree : List ℕ) (room : ℕ) where
         bare = refl;
       }
 
-  comes-end : Named names → Accepted (namesIn names) Vector tree → (o : Outcome)
-      → Comes (lineOrder (listingAt names tree) room) done o → Comes (order names tree room) done o
+  comes-end : Named names → Accepted ρ (namesIn names) Vector tree → (o : Outcome)
+      → Comes (lineOrder (listingAt ρ names tree) room) done o → Comes (order ρ names tree room) done o
   unfolding Comes RefusedWith Passed order
   comes-end h a (Done k) x = ((h .passed .0, (h .passed .1 .0, ((λ p y. y .given a), x .0))), x .1)
   comes-end h a (Refused q) x =
@@ -190,26 +192,27 @@ module _ (names tree : List ℕ) (room : ℕ) where
         bare = x .bare;
       }
 
-pub refused-names : {names tree out : List ℕ} (made : ℕ → Type 0) {r : Refusal} {o : Outcome}
+pub refused-names : {ρ : Rules} {names tree out : List ℕ} (made : ℕ → Type 0) {r : Refusal} {o : Outcome}
     → Comes (namesOrder names) made o → o ≡ Refused r
-    → WritesAlternatives names tree out out (record { written = Refused r; untold = 0 })
+    → WritesAlternatives ρ names tree out out (record { written = Refused r; untold = 0 })
 unfolding after tally
-refused-names {names} {tree} {out} made {r} x e =
-    record { outcome = comes-names names tree (length out) made r (rw e at x); memory = refl; untold-are = refl }
+refused-names {ρ} {names} {tree} {out} made {r} x e =
+    record { outcome = comes-names ρ names tree (length out) made r (rw e at x); memory = refl; untold-are = refl }
 
-pub refused-tree : {names tree out : List ℕ} {o : Outcome} → Named names
-    → (Accepted (namesIn names) Vector tree → ⊥) → o ≡ Refused (refusal 10 0)
-    → WritesAlternatives names tree out out (record { written = o; untold = 0 })
+pub refused-tree : {ρ : Rules} {names tree out : List ℕ} {o : Outcome} → Named names
+    → (Accepted ρ (namesIn names) Vector tree → ⊥) → o ≡ Refused (refusal 10 0)
+    → WritesAlternatives ρ names tree out out (record { written = o; untold = 0 })
 unfolding after tally
-refused-tree {names} {tree} {out} h f e =
-    rw e (record { outcome = comes-ten names tree (length out) h f; memory = refl; untold-are = refl })
+refused-tree {ρ} {names} {tree} {out} h f e =
+    rw e (record { outcome = comes-ten ρ names tree (length out) h f; memory = refl; untold-are = refl })
 
-pub listed : {names tree out out′ : List ℕ} {r : Lines} → Named names → Accepted (namesIn names) Vector tree
-    → DeliversLines (listingAt names tree) (untold names (ownAt names tree)) out out′ r
-    → WritesAlternatives names tree out out′ r
-listed {names} {tree} {out} {r = r} h a d =
+pub listed : {ρ : Rules} {names tree out out′ : List ℕ} {r : Lines} → Named names
+    → Accepted ρ (namesIn names) Vector tree
+    → DeliversLines (listingAt ρ names tree) (untold names (ownAt ρ names tree)) out out′ r
+    → WritesAlternatives ρ names tree out out′ r
+listed {ρ} {names} {tree} {out} {r = r} h a d =
     record {
-      outcome = comes-end names tree (length out) h a (r .written) (d .delivers .outcome);
+      outcome = comes-end ρ names tree (length out) h a (r .written) (d .delivers .outcome);
       memory = d .delivers .memory;
       untold-are = d .untold-are;
     }

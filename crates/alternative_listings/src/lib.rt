@@ -15,6 +15,7 @@ ghost use Rattle.alternative_lines.specs.Inner.{AllLines, headedLines};
 ghost use Rattle.alternative_listings.specs.Inner.{Whole, Listed};
 ghost use Rattle.alternative_texts.specs.Inner.{allTests};
 use acceptance::accepting::accepts;
+use alf::Rules;
 use alf::Sort;
 use alternative_lines::numbered::put_all;
 use alternative_texts::showing::count_untold;
@@ -142,14 +143,14 @@ fn list_all(
     deliver(names, tree, steps, tests, edges, operands, &flags, out)
 }
 
-// The alternatives of an accepted tree.
-fn list_tree(names: &[u8], tree: &[u8], out: &mut [u8]) -> Lines
-    requires { ⌜ Whole (now names) (now tree) ⌝ }
-    ensures { λ r. ⌜ DeliversLines (listingAt (now (names .entry)) (now (tree .entry)))
-        (untold (now (names .entry)) (ownAt (now (names .entry)) (now (tree .entry))))
+// The alternatives of an accepted tree, as the rules read it.
+fn list_tree(rules: Rules, names: &[u8], tree: &[u8], out: &mut [u8]) -> Lines
+    requires { ⌜ Whole rules (now names) (now tree) ⌝ }
+    ensures { λ r. ⌜ DeliversLines (listingAt rules (now (names .entry)) (now (tree .entry)))
+        (untold (now (names .entry)) (ownAt rules (now (names .entry)) (now (tree .entry))))
         (now (out .entry)) (now (out .exit)) r ⌝ }
 {
-    let a = alternatives_of(tree, names.len() / 32);
+    let a = alternatives_of(rules, tree, names.len() / 32);
     let n = a.count;
     let m = a.step_count;
     let k = a.test_count;
@@ -169,23 +170,24 @@ fn list_tree(names: &[u8], tree: &[u8], out: &mut [u8]) -> Lines
 }
 
 // Where the names are checked.
-fn write_named(names: &[u8], tree: &[u8], out: &mut [u8]) -> Lines
+fn write_named(rules: Rules, names: &[u8], tree: &[u8], out: &mut [u8]) -> Lines
     requires { ⌜ Named (now names) ⌝ }
-    ensures { λ r. ⌜ WritesAlternatives (now (names .entry)) (now (tree .entry)) (now (out .entry))
+    ensures { λ r. ⌜ WritesAlternatives rules (now (names .entry)) (now (tree .entry)) (now (out .entry))
         (now (out .exit)) r ⌝ }
 {
-    if !accepts(tree, names.len() / 32, Sort::Vector) {
+    if !accepts(rules, tree, names.len() / 32, Sort::Vector) {
         return Lines {
             written: refuse(10, 0),
             untold: 0,
         };
     }
-    list_tree(names, tree, out)
+    list_tree(rules, names, tree, out)
 }
 
-// The alternatives of a tree as text into a lent buffer. Refused with 18, 12, 10 or 9, in this order.
-pub fn write_alternatives(names: &[u8], tree: &[u8], out: &mut [u8]) -> Lines
-    ensures { λ r. ⌜ WritesAlternatives (now (names .entry)) (now (tree .entry)) (now (out .entry))
+// The alternatives of a tree, as the rules read it, as text into a lent buffer. Refused with 18, 12, 10 or 9, in this
+// order.
+pub fn write_alternatives(rules: Rules, names: &[u8], tree: &[u8], out: &mut [u8]) -> Lines
+    ensures { λ r. ⌜ WritesAlternatives rules (now (names .entry)) (now (tree .entry)) (now (out .entry))
         (now (out .exit)) r ⌝ }
 {
     let checked = check_names(names);
@@ -194,6 +196,6 @@ pub fn write_alternatives(names: &[u8], tree: &[u8], out: &mut [u8]) -> Lines
             written: Outcome::Refused(r),
             untold: 0,
         },
-        Outcome::Done(_) => write_named(names, tree, out),
+        Outcome::Done(_) => write_named(rules, names, tree, out),
     }
 }

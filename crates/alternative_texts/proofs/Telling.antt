@@ -17,6 +17,8 @@ use Rattle.basics.specs.declared.Outcome.the-variants.{Done, Refused}
 use Rattle.basics.specs.declared.Refusal.{Refusal}
 use Rattle.alf.specs.declared.Sort.the-variants.{Vector}
 use Rattle.basics.specs.Words.{greatestOf, sumOf}
+use Rattle.alf.specs.Values.{oldRules}
+use Rattle.alf.specs.Steady.{meant}
 use Rattle.alf.specs.Expressions.{Boolean, Edge, Expression, vector, edge}
 use Rattle.alf.specs.Bytes.{bytesOf, vectorBytes}
 use Rattle.alf.specs.Decoder.{edgeAt, Decodes}
@@ -40,9 +42,9 @@ use Rattle.alternative_texts.specs.Texts.{readable, shown, missing}
 use Rattle.alternative_texts.specs.Inner.{ShowsTest, Tellable, Testable}
 use Rattle.alternative_texts.proofs.PartBytes.{laid-decodes}
 
--- an edge of an operand has one alternative with one step and one test
-edge-sized : (e : Edge) (c : Boolean) → overSize (vector (edge e c)) ≡ false
-unfolding overSize overLimit alternatives tests greatestOf sumOf
+-- an edge of an operand has one alternative with one step and one test; it is asked as the writer asks
+edge-sized : (e : Edge) (c : Boolean) → overSize oldRules (vector (edge e c)) ≡ false
+unfolding overSize meant overLimit alternatives tests greatestOf sumOf
 edge-sized e c = refl
 
 module _ {names tree list : List ℕ} (h : Tellable names tree list) where
@@ -58,7 +60,7 @@ module _ {names tree list : List ℕ} (h : Tellable names tree list) where
   size : length (bytesOf x) ≡ length tree
   size = ap length (bytes-decode (namesIn names) tree x (h .decodes))
 
-  accepted : length tree ≤ 256 → depthOf x ≤ 32 → Accepted (namesIn names) Vector tree
+  accepted : length tree ≤ 256 → depthOf x ≤ 32 → Accepted oldRules (namesIn names) Vector tree
   unfolding sortOf
   accepted l d =
       record {
@@ -70,7 +72,7 @@ module _ {names tree list : List ℕ} (h : Tellable names tree list) where
         sized = edge-sized (h .of-edge) (h .operand);
       }
 
-  shallow : Accepted (namesIn names) Vector tree → depthOf x ≤ 32
+  shallow : Accepted oldRules (namesIn names) Vector tree → depthOf x ≤ 32
   shallow a =
       rw (decode-unique (namesIn names) tree x (a .expression) (h .decodes) (accepted-decodes a)) (a .brackets)
 
@@ -114,7 +116,7 @@ module _ {names tree list : List ℕ} (h : Tellable names tree list) where
   passed-readable : Passed (order names tree Vector (length list)) → readable names x ≡ true
   unfolding readable Passed order
   passed-readable p =
-      let no : (Accepted (namesIn names) Vector tree → ⊥) → ⊥ =
+      let no : (Accepted oldRules (namesIn names) Vector tree → ⊥) → ⊥ =
       λ f. p .1 .1 .0 0 (record { given = f; there = refl }) in
       all-three _ _ _
       (λ e. let k = leb-false (length (bytesOf x)) 256 e in no (λ a. omega (arith, k, size, a .tokens)))

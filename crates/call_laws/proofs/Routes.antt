@@ -55,15 +55,15 @@ codes-passed states x y s = (λ p a. a .given x, (λ p a. a .given y, (codes-nev
 abbrev pub FoundAt : Rules → ℕ → List ℕ → List ℕ → ℕ → Matching → Type 0
 FoundAt ρ names tree states row = FoundAs (answersOn ρ names tree states row) (triesOn ρ names tree states row)
 
-module _ {names n : ℕ} {tree states : List ℕ} {row : ℕ} (l : Rows names n (length states))
-    (a : Accepted names Vector tree) (s : Codes states) (h : row < n) where
-  pub answered : {ρ : Rules} (x : Told) → RowAnswer ρ names n tree states row x
+module _ {ρ : Rules} {names n : ℕ} {tree states : List ℕ} {row : ℕ} (l : Rows names n (length states))
+    (a : Accepted ρ names Vector tree) (s : Codes states) (h : row < n) where
+  pub answered : (x : Told) → RowAnswer ρ names n tree states row x
       → AnsweredAs (answersOn ρ names tree states row) x
   unfolding Tells
   answered (told.Answered b) w = record { answer = b; is = refl; numbered = w .comes .1 }
   answered (told.Refused r) w = absurd (refused-passed _ _ _ (row-passed states n row l a s h) (w .comes .by))
 
-  pub matched : {ρ : Rules} (y : Matching) → RowMatch ρ names n tree states row y
+  pub matched : (y : Matching) → RowMatch ρ names n tree states row y
       → FoundAt ρ names tree states row y
   unfolding Finds
   matched (Found m) w =
@@ -75,17 +75,17 @@ module _ {names n : ℕ} {tree states : List ℕ} {row : ℕ} (l : Rows names n 
       }
   matched (Refused r) w = absurd (refused-passed _ _ _ (row-passed states n row l a s h) (w .comes .by))
 
-taken : {ρ : Rules} {names : ℕ} {tree : List ℕ} {q : Queue} {row : List ℕ} {q′ : Queue} → Handed names tree q
+taken : {ρ : Rules} {names : ℕ} {tree : List ℕ} {q : Queue} {row : List ℕ} {q′ : Queue} → Handed ρ names tree q
     → RowFits names (length row) → Codes row → (z : Matching) → Push ρ names tree q row z q′
     → (m : Matched) × ((z ≡ Found m) × PushesTree ρ names tree q row (m .answer) (m .tries) q′)
 unfolding Takes
 taken h f s (Found m) w = (m, (refl, w .comes .1))
 taken {ρ} {names} {tree} {q} {row} h f s (Refused r) w =
-    absurd (refused-passed (pushOrder names tree q row) _ _ (codes-passed row f h s) (w .comes .0 .by))
+    absurd (refused-passed (pushOrder ρ names tree q row) _ _ (codes-passed row f h s) (w .comes .0 .by))
 
 -- K: the steps of the longest alternative
-abbrev pub K : List ℕ → ℕ → ℕ
-K tree names = longestOf (alternatives (expression tree names))
+abbrev pub K : Rules → List ℕ → ℕ → ℕ
+K ρ tree names = longestOf (alternatives (expression ρ tree names))
 
 -- a queue of at most k rows, and of codes
 pub record Holding (names k : ℕ) (q : Queue) : Type 0 where
@@ -104,21 +104,21 @@ holding-first names k q e =
     }
 
 module _ {names : ℕ} (tree : List ℕ) {q : Queue} {row : List ℕ} {a : Answer} {t : ℕ} {q′ : Queue} where
-  pub push-holds : {ρ : Rules} → Holding names (K tree names) q → length row ≡ names → Codes row
-      → PushesTree ρ names tree q row a t q′ → Holding names (K tree names) q′
+  pub push-holds : {ρ : Rules} → Holding names (K ρ tree names) q → length row ≡ names → Codes row
+      → PushesTree ρ names tree q row a t q′ → Holding names (K ρ tree names) q′
   unfolding lastRows stepsOf
-  push-holds h f s p =
+  push-holds {ρ} h f s p =
       let kept = q .kept .0 in
       let trace = traceOf names q row in
-      let rest = lastRows names (K tree names) (kept + 1) trace in
+      let rest = lastRows names (K ρ tree names) (kept + 1) trace in
       let size : length trace ≡ (kept + 1) * names = length-append (heldOf names q) row ∙ next in
-      let l = last-length names (K tree names) (kept + 1) trace size ∙ ap (λ (j : ℕ). j * names) (sym (p .kept)) in
+      let l = last-length names (K ρ tree names) (kept + 1) trace size ∙ ap (λ (j : ℕ). j * names) (sym (p .kept)) in
       let held = ap (take (q′ .kept .0 * names)) (p .states) ∙ held-stored rest (q′ .kept .0 * names) l in
       record {
         few = omega (arith, p .kept);
         codes =
             subst Codes (sym held)
-            (codes-drop ((kept + 1 - K tree names) * names) trace (codes-append (heldOf names q) row (h .codes) s));
+            (codes-drop ((kept + 1 - K ρ tree names) * names) trace (codes-append (heldOf names q) row (h .codes) s));
         whole = ap length held ∙ l;
       }
     where
@@ -139,20 +139,20 @@ fed-codes rows (suc n) h =
 -- A feed of good rows, one push after the other, the first into a queue that keeps nothing.
 module _ {ρ : Rules} {names n : ℕ} {tree : List ℕ} {rows : ℕ → List ℕ} {queues : ℕ → Queue}
     {results : ℕ → Matching}
-    (some : NameCount names) (accepted : Accepted names Vector tree) (first : queues 0 .kept .0 ≡ 0)
+    (some : NameCount names) (accepted : Accepted ρ names Vector tree) (first : queues 0 .kept .0 ≡ 0)
     (full : (i : ℕ) → i < n → length (rows i) ≡ names) (good : (i : ℕ) → i < n → Codes (rows i))
     (pushed : (i : ℕ) → i < n → Push ρ names tree (queues i) (rows i) (results i) (queues (suc i))) where
-  handed : (q : Queue) → Holding names (K tree names) q → Handed names tree q
+  handed : (q : Queue) → Holding names (K ρ tree names) q → Handed ρ names tree q
   unfolding stepsOf
   handed q h = record { accepted = accepted; kept = record { few = h .few; codes = h .codes } }
 
-  goes-on : (i : ℕ) (l : i < n) → Holding names (K tree names) (queues i)
+  goes-on : (i : ℕ) (l : i < n) → Holding names (K ρ tree names) (queues i)
       → (m : Matched)
       × ((results i ≡ Found m) × PushesTree ρ names tree (queues i) (rows i) (m .answer) (m .tries) (queues (suc i)))
   goes-on i l h =
       taken (handed (queues i) h) (record { name-count = some; full = full i l }) (good i l) (results i) (pushed i l)
 
-  holding : (i : ℕ) → i ≤ n → Holding names (K tree names) (queues i)
+  holding : (i : ℕ) → i ≤ n → Holding names (K ρ tree names) (queues i)
   holding zero l = holding-first _ _ _ first
   holding (suc i) l =
       let h = holding i (omega arith) in

@@ -33,6 +33,7 @@ use Rattle.alf.proofs.RowsAreAlternatives.{same-answer}
 use Rattle.alf.proofs.TraceNearness.{steps-pos, correction-elsewhere}
 use Rattle.alf.proofs.Totals.{totals-sum}
 use Rattle.acceptance.proofs.Acceptance.{accepted-decodes}
+use Rattle.steady_laws.proofs.Meant.{meant-over}
 use Rattle.acceptance.specs.Accepted.{sortOf, Accepted}
 use Rattle.matcher.specs.declared.answers.Matched.{Matched}
 use Rattle.matcher.specs.declared.tables.Total.{Total}
@@ -78,38 +79,38 @@ isVectorSort : Sort → Bool
 isVectorSort sort.Boolean = false
 isVectorSort sort.Vector = true
 
-expression-over : (names : ℕ) (tree : List ℕ) → Accepted names sort.Vector tree
-    → VectorOver names (expression tree names)
+expression-over : (ρ : Rules) (names : ℕ) (tree : List ℕ) → Accepted ρ names sort.Vector tree
+    → VectorOver names (expression ρ tree names)
 unfolding Decodes topVector sortOf isVectorSort ExpressionOver
-expression-over names tree a = go (a .expression) (accepted-decodes a) (a .sorted)
+expression-over ρ names tree a = go (a .expression) (accepted-decodes a) (a .sorted)
   where
     go : (e : Expression) → Decodes names tree e → sortOf e ≡ sort.Vector
-        → VectorOver names (expression tree names)
+        → VectorOver names (expression ρ tree names)
     go (boolean c) d k = never (ap isVectorSort k)
-    go (vector p) d k = rw d (decode-over names tree (vector p) d)
+    go (vector p) d k = rw d (meant-over ρ p names (decode-over names tree (vector p) d))
 
 -- Three routes: where every push of the rows of a trace is taken, the answer as written, the answer by alternatives
 -- and the answer of push i are one, and the numbers tried are one.
 module _ {ρ : Rules} {names n : ℕ} {tree : List ℕ} {rows : ℕ → List ℕ} {queues : ℕ → Queue} {told : ℕ → Matched}
-    (accepted : Accepted names sort.Vector tree) (first : queues 0 .kept .0 ≡ 0)
+    (accepted : Accepted ρ names sort.Vector tree) (first : queues 0 .kept .0 ≡ 0)
     (full : (i : ℕ) → i < n → length (rows i) ≡ names)
     (pushed : (i : ℕ) → i < n → Push ρ names tree (queues i) (rows i) (Found (told i)) (queues (suc i))) where
-  feed : Feed ρ names (alternatives (expression tree names)) n rows queues (λ i. told i .answer) (λ i. told i .tries)
+  feed : Feed ρ names (alternatives (expression ρ tree names)) n rows queues (λ i. told i .answer) (λ i. told i .tries)
   unfolding Takes
   feed = record { first = first; full = full; pushes = λ i l. tree-pushed (pushed i l .comes .1) }
 
-  asks : All (Asks (Over names)) (alternatives (expression tree names))
-  asks = alternatives-ask (Over names) _ (over-asked names _ (expression-over names tree accepted))
+  asks : All (Asks (Over names)) (alternatives (expression ρ tree names))
+  asks = alternatives-ask (Over names) _ (over-asked names _ (expression-over ρ names tree accepted))
 
-  longest-pos : 0 < longestOf (alternatives (expression tree names))
+  longest-pos : 0 < longestOf (alternatives (expression ρ tree names))
   unfolding stepsOf
-  longest-pos = steps-pos (expression tree names)
+  longest-pos = steps-pos (expression ρ tree names)
 
   pub push-answers : (i : ℕ) → i < n → MatchesTree ρ names tree (fed rows n) i (told i .answer) (told i .tries)
   push-answers i l =
       let q = row-so-far feed asks longest-pos i l in
       record {
-        is = q .is ∙ sym (same-answer (stateAt ρ names (fed rows n)) (expression tree names) i);
+        is = q .is ∙ sym (same-answer (stateAt ρ names (fed rows n)) (expression ρ tree names) i);
         count = q .count;
       }
 
@@ -126,9 +127,9 @@ module _ {ρ : Rules} {names n : ℕ} {tree : List ℕ} {rows : ℕ → List ℕ
 
 -- The correction.
 module _ {ρ : Rules} {names n : ℕ} {tree states answers : List ℕ} {r : ℕ} {new states′ answers′ : List ℕ} {k : ℕ}
-    (accepted : Accepted names sort.Vector tree)
+    (accepted : Accepted ρ names sort.Vector tree)
     (c : Correction ρ names n tree states answers r new states′ answers′ (outcome.Done k)) where
-  passed : Passed (correctionOrder names n tree states answers r new)
+  passed : Passed (correctionOrder ρ names n tree states answers r new)
   unfolding Comes
   passed = c .comes .0
 
@@ -141,7 +142,7 @@ module _ {ρ : Rules} {names n : ℕ} {tree states answers : List ℕ} {r : ℕ}
   below = le-stable (suc r) n (λ h. passed .1 .1 .1 .1 .0 0 (record { given = omega (arith, h); there = refl }))
 
   abbrev last : ℕ
-  last = lastRewritten (stepsOf (expression tree names)) n r
+  last = lastRewritten (stepsOf (expression ρ tree names)) n r
 
   reach : (r ≤ last) × (last < n) × (r + (last + 1 - r) ≡ last + 1)
   unfolding lastRewritten
@@ -183,14 +184,14 @@ module _ {ρ : Rules} {names n : ℕ} {tree states answers : List ℕ} {r : ℕ}
       ∙ ruled-behind answers r (last + 1 - r) f fits i (omega (arith, reach))
 
   -- and they are the corrected trace's too, if they were the trace's
-  stays-right : (i : ℕ) → (i < r) ⊎ (r + stepsOf (expression tree names) < i)
+  stays-right : (i : ℕ) → (i < r) ⊎ (r + stepsOf (expression ρ tree names) < i)
       → answersOn ρ names tree states i ≡ answersOn ρ names tree states′ i
   stays-right i w =
-      let o = expression-over names tree accepted in
+      let o = expression-over ρ names tree accepted in
       rw stored
-      (sym (correction-elsewhere names states new r whole (lists .full) _ (expression tree names) o i w))
+      (sym (correction-elsewhere names states new r whole (lists .full) _ (expression ρ tree names) o i w))
 
-  beyond : (i : ℕ) → i < n → last < i → r + stepsOf (expression tree names) < i
+  beyond : (i : ℕ) → i < n → last < i → r + stepsOf (expression ρ tree names) < i
   unfolding lastRewritten
   beyond i h l = omega arith
 
@@ -212,5 +213,5 @@ unfolding Counts Passed
 totals-together {ρ} {names} {n} {tree} {states} w =
     let (p, t) = w .comes in
     let l = rows-stable names n (length states) (λ h. p .0 0 (record { given = h; there = refl })) in
-    let e = totals-sum (stateAt ρ names states) (expression tree names) n (l .row-count .0) in
+    let e = totals-sum (stateAt ρ names states) (expression ρ tree names) n (l .row-count .0) in
     omega (arith, t .yeses, t .noes, t .unknowns, e)

@@ -168,11 +168,11 @@ takes-unique ρ names tree q row (Found m) (Found k) p r a b =
     let e = pushes-unique (tree-pushed (a .1)) (tree-pushed (b .1)) in
     (λ i. Found (record { answer = e .0 i; tries = e .1 i }), e .2)
 takes-unique ρ names tree q row (Found m) (Refused s) p r a b =
-    absurd (refused-passed (pushOrder names tree q row) _ _ (a .0) (b .0 .by))
+    absurd (refused-passed (pushOrder ρ names tree q row) _ _ (a .0) (b .0 .by))
 takes-unique ρ names tree q row (Refused s) (Found k) p r a b =
-    absurd (refused-passed (pushOrder names tree q row) _ _ (b .0) (a .0 .by))
+    absurd (refused-passed (pushOrder ρ names tree q row) _ _ (b .0) (a .0 .by))
 takes-unique ρ names tree q row (Refused s) (Refused t) p r a b =
-    let e = refused-by-unique (pushOrder names tree q row) (codes-fixed _ _ row) (a .0) (b .0) in
+    let e = refused-by-unique (pushOrder ρ names tree q row) (codes-fixed _ _ row) (a .0) (b .0) in
     (ap Refused e, a .1 ∙ sym (b .1))
 
 pub push-unique : {ρ : Rules} {names : ℕ} {tree : List ℕ} {q : Queue} {row : List ℕ} {x y : Matching} {p r : Queue}

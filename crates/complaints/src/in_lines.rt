@@ -1,4 +1,5 @@
-// A refusal of a text that has many lines: why, which line it is and which byte of the line, then that line with a caret.
+// A refusal of a text that has many lines: why, which line it is and which byte of the line, then that line with a
+// caret.
 use basics::Refusal;
 use console::output::note;
 use console::output::note_number;

@@ -10,6 +10,7 @@ use lib.ListN.{length, getD, take, length-take, length-map, List·getD-append}
 use Rattle.basics.specs.Refusing.{refusal}
 use Rattle.basics.specs.declared.Outcome.{Outcome}
 use Rattle.basics.specs.declared.Outcome.the-variants.{Done, Refused}
+use Rattle.alf.specs.declared.Rules.{Rules}
 use Rattle.alf.specs.declared.Sort.the-variants.{Vector}
 use Rattle.alf.specs.Alternatives.{Alternative, contradictory}
 use Rattle.alf.specs.Refusals.{Order, NameCount, RefusedWith, Passed, Comes}
@@ -23,7 +24,7 @@ use Rattle.contradictions.specs.Possible.{flagOf, flagList, Reported, Fl
 use Rattle.rewriting_calls.specs.Calls.{treeOrder}
 use Rattle.basics.specs.Memory.{after}
 use Rattle.contradictions.specs.Calls.{ownAt, flagOrder, Reports, Contradicts, Flaggable}
-use Rattle.step_tests.proofs.Exchanging.{placed-number}
+use Rattle.rewriting.proofs.Holding.{holds-number}
 use Rattle.rewriting_calls.proofs.Calls.{comes-18, comes-10, comes-on}
 use Rattle.basics.proofs.Memory.{after-unique}
 
@@ -32,7 +33,8 @@ unfolding flagList
 flag-entries names xs = length-map xs _
 
 -- the lists in use, and their flags
-pub reported : {names : ℕ} {tree : List ℕ} {a : Alternatives} {flags : List ℕ} → Flaggable names tree a flags
+pub reported : {ρ : Rules} {names : ℕ} {tree : List ℕ} {a : Alternatives} {flags : List ℕ}
+    → Flaggable ρ names tree a flags
     → Reported tree names (take (a .count) (a .steps)) (take (a .«step_count») (a .tests))
     (take (a .«test_count») (a .edges)) (take (a .«test_count») (a .operands)) flags
 reported {a = a} h =
@@ -42,22 +44,22 @@ reported {a = a} h =
       room = omega (arith, h .room, length-take (a .count) (a .steps));
     }
 
-pub flagged-own : {names : ℕ} {tree : List ℕ} {a : Alternatives} {flags flags′ : List ℕ}
-    → Flaggable names tree a flags
+pub flagged-own : {ρ : Rules} {names : ℕ} {tree : List ℕ} {a : Alternatives} {flags flags′ : List ℕ}
+    → Flaggable ρ names tree a flags
     → Flagged names (alternativesOf tree names (take (a .count) (a .steps)) (take (a .«step_count») (a .tests))
     (take (a .«test_count») (a .edges)) (take (a .«test_count») (a .operands))) flags flags′
-    → Flagged names (ownAt tree names) flags flags′
+    → Flagged names (ownAt ρ tree names) flags flags′
 flagged-own h f = rw (h .holds .stands) at f
 
-module _ {names : ℕ} {tree : List ℕ} {a : Alternatives} (h : Holds tree names a) where
-  count-own : a .count ≡ length (ownAt tree names)
-  count-own = h .long .alternatives-are ∙ placed-number (length tree) _
+module _ {ρ : Rules} {names : ℕ} {tree : List ℕ} {a : Alternatives} (h : Holds ρ tree names a) where
+  count-own : a .count ≡ length (ownAt ρ tree names)
+  count-own = holds-number h
 
-  count-needed : a .count ≡ length (flagList names (ownAt tree names))
-  count-needed = count-own ∙ sym (flag-entries names (ownAt tree names))
+  count-needed : a .count ≡ length (flagList names (ownAt ρ tree names))
+  count-needed = count-own ∙ sym (flag-entries names (ownAt ρ tree names))
 
   pub short-flags : {flags : List ℕ} {r : Outcome} → length flags < a .count
-      → r ≡ Refused (refusal 9 (a .count)) → Reports names tree flags flags r
+      → r ≡ Refused (refusal 9 (a .count)) → Reports ρ names tree flags flags r
   unfolding Comes RefusedWith flagOrder after
   short-flags l e =
       let f = count-needed in
@@ -68,49 +70,49 @@ module _ {names : ℕ} {tree : List ℕ} {a : Alternatives} (h : Holds tree name
       })
 
   pub flags-delivered : {flags flags′ : List ℕ} → a .count ≤ length flags
-      → Flagged names (ownAt tree names) flags flags′ → Reports names tree flags flags′ (Done (a .count))
+      → Flagged names (ownAt ρ tree names) flags flags′ → Reports ρ names tree flags flags′ (Done (a .count))
   unfolding Comes Passed flagOrder after
   flags-delivered l f =
       let g = count-needed in
       record { outcome = (((λ p r. omega (arith, r .given)), tt), count-own); memory = f .flags-are }
 
-module _ (names : ℕ) (tree flags : List ℕ) where
+module _ (ρ : Rules) (names : ℕ) (tree flags : List ℕ) where
   pub report-18 : {r : Outcome} → (NameCount names → ⊥) → r ≡ Refused (refusal 18 0)
-      → Contradicts names tree flags flags r
+      → Contradicts ρ names tree flags flags r
   unfolding after
-  report-18 f e = rw e (record { outcome = comes-18 names tree _ _ f; memory = refl })
+  report-18 f e = rw e (record { outcome = comes-18 ρ names tree _ _ f; memory = refl })
 
-  pub report-10 : {r : Outcome} → NameCount names → (Accepted names Vector tree → ⊥)
-      → r ≡ Refused (refusal 10 0) → Contradicts names tree flags flags r
+  pub report-10 : {r : Outcome} → NameCount names → (Accepted ρ names Vector tree → ⊥)
+      → r ≡ Refused (refusal 10 0) → Contradicts ρ names tree flags flags r
   unfolding after
-  report-10 n f e = rw e (record { outcome = comes-10 names tree _ _ n f; memory = refl })
+  report-10 n f e = rw e (record { outcome = comes-10 ρ names tree _ _ n f; memory = refl })
 
-  pub report-on : {flags′ : List ℕ} {r : Outcome} → NameCount names → Accepted names Vector tree
-      → Reports names tree flags flags′ r → Contradicts names tree flags flags′ r
+  pub report-on : {flags′ : List ℕ} {r : Outcome} → NameCount names → Accepted ρ names Vector tree
+      → Reports ρ names tree flags flags′ r → Contradicts ρ names tree flags flags′ r
   report-on {r = r} n a d =
-      record { outcome = comes-on names tree _ _ n a r (d .outcome); memory = d .memory }
+      record { outcome = comes-on ρ names tree _ _ n a r (d .outcome); memory = d .memory }
 
   abbrev order : Order
-  order = treeOrder names tree (flagOrder names (ownAt tree names) flags)
+  order = treeOrder ρ names tree (flagOrder names (ownAt ρ tree names) flags)
 
   order-fixed : AllFixed order
   unfolding treeOrder flagOrder
   order-fixed = (at-fixed _ _, (at-fixed _ _, (at-fixed _ _, tt)))
 
-  pub contradicts-unique : {flags₁ flags₂ : List ℕ} {r q : Outcome} → Contradicts names tree flags flags₁ r
-      → Contradicts names tree flags flags₂ q → (r ≡ q) × (flags₁ ≡ flags₂)
+  pub contradicts-unique : {flags₁ flags₂ : List ℕ} {r q : Outcome} → Contradicts ρ names tree flags flags₁ r
+      → Contradicts ρ names tree flags flags₂ q → (r ≡ q) × (flags₁ ≡ flags₂)
   contradicts-unique {r = r} {q = q} a b =
       let e : r ≡ q = comes-unique order _ order-fixed (λ j k x y. x ∙ sym y) r q (a .outcome) (b .outcome) in
       (e, after-unique _ flags e (a .memory) (b .memory))
 
   -- entry t is 1 exactly where alternative t is contradictory, else 0
-  pub contradicts-flag : {flags′ : List ℕ} {k : ℕ} → Contradicts names tree flags flags′ (Done k)
+  pub contradicts-flag : {flags′ : List ℕ} {k : ℕ} → Contradicts ρ names tree flags flags′ (Done k)
       → (t : ℕ)
-      → t < length (ownAt tree names)
-      → getD flags′ t 0 ≡ flagOf (contradictory names (getD (ownAt tree names) t []))
+      → t < length (ownAt ρ tree names)
+      → getD flags′ t 0 ≡ flagOf (contradictory names (getD (ownAt ρ tree names) t []))
   unfolding after flagList
   contradicts-flag c t l =
       ap (λ (f : List ℕ). getD f t 0) (c .memory)
-      ∙ List·getD-append (flagList names (ownAt tree names)) _ 0 t
-      (omega (arith, flag-entries names (ownAt tree names)))
-      ∙ getD-map (λ x. flagOf (contradictory names x)) (ownAt tree names) t [] 0 l
+      ∙ List·getD-append (flagList names (ownAt ρ tree names)) _ 0 t
+      (omega (arith, flag-entries names (ownAt ρ tree names)))
+      ∙ getD-map (λ x. flagOf (contradictory names x)) (ownAt ρ tree names) t [] 0 l

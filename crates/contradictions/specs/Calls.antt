@@ -7,6 +7,8 @@ use mathlib.Core.List.{List, [], _∷_}
 use lib.ListN.{length}
 use Rattle.basics.specs.declared.Outcome.{Outcome}
 use Rattle.alf.specs.Alternatives.{Alternative, alternatives}
+use Rattle.alf.specs.Steady.{meant}
+use Rattle.alf.specs.declared.Rules.{Rules}
 use Rattle.alf.specs.Refusals.{Order, check, no-room, Comes}
 use Rattle.trees.specs.Parts.{vectorAt}
 use Rattle.rewriting.specs.declared.lists.Alternatives.{Alternatives}
@@ -15,24 +17,24 @@ use Rattle.contradictions.specs.Possible.{flagList}
 use Rattle.rewriting_calls.specs.Calls.{treeOrder}
 use Rattle.basics.specs.Memory.{after, front}
 
--- the expression's alternatives; the report of the contradictory ones: 9, or a flag for each
-abbrev pub ownAt : List ℕ → ℕ → List Alternative
-ownAt tree names = alternatives (vectorAt tree names (length tree))
+-- the alternatives of the expression as the rules read it; the report of the contradictory ones: 9, or a flag for each
+abbrev pub ownAt : Rules → List ℕ → ℕ → List Alternative
+ownAt ρ tree names = alternatives (meant ρ (vectorAt tree names (length tree)))
 
 unfoldable pub flagOrder : ℕ → List Alternative → List ℕ → Order
 flagOrder names xs flags = check 9 (no-room (length (flagList names xs)) (length flags)) ∷ []
 
-pub record Reports (names : ℕ) (tree flags flags′ : List ℕ) (r : Outcome) : Type 0 where
-  pub outcome : Comes (flagOrder names (ownAt tree names) flags) (λ k. k ≡ length (ownAt tree names)) r
-  pub memory : flags′ ≡ after (front (flagList names (ownAt tree names)) flags) flags r
+pub record Reports (ρ : Rules) (names : ℕ) (tree flags flags′ : List ℕ) (r : Outcome) : Type 0 where
+  pub outcome : Comes (flagOrder names (ownAt ρ tree names) flags) (λ k. k ≡ length (ownAt ρ tree names)) r
+  pub memory : flags′ ≡ after (front (flagList names (ownAt ρ tree names)) flags) flags r
 
-pub record Contradicts (names : ℕ) (tree flags flags′ : List ℕ) (r : Outcome) : Type 0 where
-  pub outcome : Comes (treeOrder names tree (flagOrder names (ownAt tree names) flags))
-      (λ k. k ≡ length (ownAt tree names)) r
-  pub memory : flags′ ≡ after (front (flagList names (ownAt tree names)) flags) flags r
+pub record Contradicts (ρ : Rules) (names : ℕ) (tree flags flags′ : List ℕ) (r : Outcome) : Type 0 where
+  pub outcome : Comes (treeOrder ρ names tree (flagOrder names (ownAt ρ tree names) flags))
+      (λ k. k ≡ length (ownAt ρ tree names)) r
+  pub memory : flags′ ≡ after (front (flagList names (ownAt ρ tree names)) flags) flags r
 
 -- what is asked where the flags are set: the lists of the tree, over at most 32 names, and room
-pub record Flaggable (names : ℕ) (tree : List ℕ) (a : Alternatives) (flags : List ℕ) : Type 0 where
-  pub holds : Holds tree names a
+pub record Flaggable (ρ : Rules) (names : ℕ) (tree : List ℕ) (a : Alternatives) (flags : List ℕ) : Type 0 where
+  pub holds : Holds ρ tree names a
   pub few : names ≤ 32
   pub room : a .count ≤ length flags

@@ -6,6 +6,7 @@ ghost use Rattle.contradictions.specs.Possible.{Flagged};
 ghost use Rattle.contradictions.specs.Calls.{ownAt, Flaggable, Reports, Contradicts};
 use crate::possible::flag_all;
 use acceptance::accepting::accepts;
+use alf::Rules;
 use alf::Sort;
 use basics::Outcome;
 use basics::refusing::refuse;
@@ -14,9 +15,9 @@ use rewriting::lists::alternatives_of;
 use rewriting_calls::names_fit;
 
 // The flags of the alternatives that are in use.
-fn flag_lists(names: usize, tree: &[u8], a: Alternatives, flags: &mut [u8])
-    requires { ⌜ Flaggable names (now tree) a (now flags) ⌝ }
-    ensures { λ r. ⌜ Flagged names (ownAt (now (tree .entry)) names) (now (flags .entry)) (now (flags .exit)) ⌝ }
+fn flag_lists(rules: Rules, names: usize, tree: &[u8], a: Alternatives, flags: &mut [u8])
+    requires { ⌜ Flaggable rules names (now tree) a (now flags) ⌝ }
+    ensures { λ r. ⌜ Flagged names (ownAt rules (now (tree .entry)) names) (now (flags .entry)) (now (flags .exit)) ⌝ }
 {
     let n = a.count;
     let m = a.step_count;
@@ -37,29 +38,29 @@ fn flag_lists(names: usize, tree: &[u8], a: Alternatives, flags: &mut [u8])
 }
 
 // The report for an accepted tree: 9, or a flag for each alternative.
-fn report(names: usize, tree: &[u8], flags: &mut [u8]) -> Outcome
-    requires { ⌜ Accepted names Vector (now tree) × NameCount names ⌝ }
-    ensures { λ r. ⌜ Reports names (now (tree .entry)) (now (flags .entry)) (now (flags .exit)) r ⌝ }
+fn report(rules: Rules, names: usize, tree: &[u8], flags: &mut [u8]) -> Outcome
+    requires { ⌜ Accepted rules names Vector (now tree) × NameCount names ⌝ }
+    ensures { λ r. ⌜ Reports rules names (now (tree .entry)) (now (flags .entry)) (now (flags .exit)) r ⌝ }
 {
-    let a = alternatives_of(tree, names);
+    let a = alternatives_of(rules, tree, names);
     let n = a.count;
     if flags.len() < n {
         return refuse(9, n);
     }
-    flag_lists(names, tree, a, flags);
+    flag_lists(rules, names, tree, a, flags);
     Outcome::Done(n)
 }
 
-// A flag for each alternative of a tree, 1 where it is contradictory, else 0; how many. Refused with 18, 10 or 9, in
-// this order.
-pub fn contradictions(names: usize, tree: &[u8], flags: &mut [u8]) -> Outcome
-    ensures { λ r. ⌜ Contradicts names (now (tree .entry)) (now (flags .entry)) (now (flags .exit)) r ⌝ }
+// A flag for each alternative of a tree, as the rules read it, 1 where it is contradictory, else 0; how many. Refused
+// with 18, 10 or 9, in this order.
+pub fn contradictions(rules: Rules, names: usize, tree: &[u8], flags: &mut [u8]) -> Outcome
+    ensures { λ r. ⌜ Contradicts rules names (now (tree .entry)) (now (flags .entry)) (now (flags .exit)) r ⌝ }
 {
     if !names_fit(names) {
         return refuse(18, 0);
     }
-    if !accepts(tree, names, Sort::Vector) {
+    if !accepts(rules, tree, names, Sort::Vector) {
         return refuse(10, 0);
     }
-    report(names, tree, flags)
+    report(rules, names, tree, flags)
 }

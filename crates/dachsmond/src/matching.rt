@@ -67,9 +67,10 @@ pub extern "C" fn dachsmond_totals(
     tell_counts(totals(rules, names, n, tree, states))
 }
 
-// The alternatives of a vector expression, into four lent lists.
+// The alternatives of a vector expression, as the rules read it, into four lent lists.
 #[no_mangle]
 pub extern "C" fn dachsmond_rewrite(
+    rules: Rules,
     names: usize,
     tree: &[u8],
     steps: &mut [u8],
@@ -77,18 +78,23 @@ pub extern "C" fn dachsmond_rewrite(
     edges: &mut [u8],
     operands: &mut [u16],
 ) -> Told
-    ensures { λ r. ⌜ Hands (Rewrites names (now (tree .entry)) (now (steps .entry)) (now (tests .entry))
+    ensures { λ r. ⌜ Hands (Rewrites rules names (now (tree .entry)) (now (steps .entry)) (now (tests .entry))
         (now (edges .entry)) (now (operands .entry)) (now (steps .exit)) (now (tests .exit)) (now (edges .exit))
         (now (operands .exit))) told r ⌝ }
 {
-    tell(rewrite(names, tree, steps, tests, edges, operands))
+    tell(rewrite(rules, names, tree, steps, tests, edges, operands))
 }
 
 // A flag for each of its alternatives, 1 where it is contradictory, else 0, into a lent list.
 #[no_mangle]
-pub extern "C" fn dachsmond_contradictions(names: usize, tree: &[u8], flags: &mut [u8]) -> Told
-    ensures { λ r. ⌜ Hands (Contradicts names (now (tree .entry)) (now (flags .entry))
+pub extern "C" fn dachsmond_contradictions(
+    rules: Rules,
+    names: usize,
+    tree: &[u8],
+    flags: &mut [u8],
+) -> Told
+    ensures { λ r. ⌜ Hands (Contradicts rules names (now (tree .entry)) (now (flags .entry))
         (now (flags .exit))) told r ⌝ }
 {
-    tell(contradictions(names, tree, flags))
+    tell(contradictions(rules, names, tree, flags))
 }

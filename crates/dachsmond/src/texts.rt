@@ -7,6 +7,7 @@ ghost use Rattle.names.specs.Check.{namesOrder};
 ghost use Rattle.reader.specs.Reading.{ReadsText};
 ghost use Rattle.writer.specs.Writing.{Writes};
 ghost use Rattle.telling.specs.Handing.{Hands, told, toldExpression, sortOf};
+use alf::Rules;
 use names::check_names;
 use reader::read_expression;
 use telling::Expression;
@@ -27,10 +28,16 @@ pub extern "C" fn dachsmond_check_names(names: &[u8]) -> Told
 
 // The expression that a text is, as a tree over a list of names.
 #[no_mangle]
-pub extern "C" fn dachsmond_read_expression(names: &[u8], text: &[u8], vector: bool) -> Expression
-    ensures { λ r. ⌜ Hands (ReadsText (now (names .entry)) (now (text .entry)) (sortOf vector)) toldExpression r ⌝ }
+pub extern "C" fn dachsmond_read_expression(
+    rules: Rules,
+    names: &[u8],
+    text: &[u8],
+    vector: bool,
+) -> Expression
+    ensures { λ r. ⌜ Hands (ReadsText rules (now (names .entry)) (now (text .entry)) (sortOf vector))
+        toldExpression r ⌝ }
 {
-    tell_expression(read_expression(names, text, sort_of(vector)))
+    tell_expression(read_expression(rules, names, text, sort_of(vector)))
 }
 
 // The text of a tree into a lent buffer.

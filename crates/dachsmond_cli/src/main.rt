@@ -1,12 +1,11 @@
-// Dachsmond, the program: counts patterns of pin events in a trace. Here are the commands; `words` has the words that
-// they expect. What a command prints of an answer is made by one call of the library; here are arguments, files and
-// complaints.
+// Dachsmond, the program: counts patterns of pin events in a trace. Here are the commands, their arguments, files and
+// complaints; `words` has the words. What is printed of an answer is made by one call of the library.
 mod words;
 
 use crate::words::expects;
 use crate::words::help;
-use crate::words::is_equal;
 use crate::words::named;
+use crate::words::option;
 use alf::Rules;
 use complaints::unfit;
 use complaints::unknown;
@@ -24,8 +23,10 @@ use text_commands::answer;
 use text_parts::parts::front;
 use trace_saving::write_to;
 
-// The commands by their number in `named`. `list` is 1 and `values` is 2, as `text_commands` has them; `rewrite` is 3.
+// The commands by their number in `named`. `list` is 1 and `values` is 2, as `text_commands` has them.
 const TABLE: usize = 0;
+
+const REWRITE: usize = 3;
 
 const SHOW: usize = 4;
 
@@ -37,8 +38,13 @@ const VERSION: usize = 7;
 
 const NONE: usize = 11;
 
-// How a command is asked: the rules of evaluation, the argument that names the trace, or the text for `make`, and the
-// first one behind it.
+// The options by their number in `option`.
+const EQUAL: usize = 0;
+
+const STEADY: usize = 1;
+
+// How a command is asked: the rules of reading and evaluation, the argument that names the trace, or the text for
+// `make`, and the first one behind it.
 struct Asked {
     rules: Rules,
     trace: usize,
@@ -156,42 +162,76 @@ fn run(word: &[u8], more: usize) {
         return;
     }
     if c == VERSION {
-        say(b"dachsmond 2.0\n");
+        say(b"dachsmond 3.0\n");
         return;
     }
     help();
 }
 
-// A command behind `--equal-branches`: one that evaluates.
-fn run_equal(word: &[u8], more: usize) {
+// The rules with an option: of two options, the one that is not the first is the other.
+fn ruled(rules: Rules, o: usize) -> Rules {
+    let mut with = rules;
+    if o == EQUAL {
+        with.equal_branches = true;
+    } else {
+        with.steady_pins = true;
+    }
+    with
+}
+
+// A command behind options: behind `--equal-branches` one that evaluates, behind `--steady-pins` one that reads a text.
+fn run_ruled(a: Asked, word: &[u8], more: usize) {
     let c = named(word);
-    if VALUES < c {
-        unfit(b"--equal-branches", b"table, list or values\n", 0);
+    if a.rules.equal_branches {
+        if VALUES < c {
+            unfit(b"--equal-branches", b"table, list or values\n", 0);
+            return;
+        }
+    }
+    if REWRITE < c {
+        unfit(b"--steady-pins", b"table, list, values or rewrite\n", 0);
         return;
     }
     if expects(c, word, more) {
-        let mut rules = old_rules();
-        rules.equal_branches = true;
-        on_trace(
-            Asked {
-                rules,
-                trace: 3,
-                first: 4,
-            },
-            c,
-        );
+        on_trace(a, c);
     }
 }
 
-// The command behind the option, which is argument 2; where it is missing, a word of no length is none.
-fn behind_option(count: usize) {
+// The command behind two options, which is argument 3; where it is missing, a word of no length is none.
+fn behind_both(rules: Rules, count: usize) {
+    let a = Asked {
+        rules,
+        trace: 4,
+        first: 5,
+    };
+    let mut word = io::buffer();
+    let n = os::arg(3, &mut word);
+    if count < 4 {
+        run_ruled(a, b"", 0);
+        return;
+    }
+    run_ruled(a, &word[..n], count - 4);
+}
+
+// The command behind an option, which is argument 2, or another option.
+fn behind_option(rules: Rules, count: usize) {
+    let a = Asked {
+        rules,
+        trace: 3,
+        first: 4,
+    };
     let mut word = io::buffer();
     let n = os::arg(2, &mut word);
     if count < 3 {
-        run_equal(b"", 0);
+        run_ruled(a, b"", 0);
         return;
     }
-    run_equal(&word[..n], count - 3);
+    let o = option(&word[..n]);
+    if o <= STEADY {
+        behind_both(ruled(rules, o), count);
+        return;
+    }
+    run_ruled(a, &word[..n], count - 3);
 }
 
 fn main() {
@@ -202,8 +242,9 @@ fn main() {
     }
     let mut word = io::buffer();
     let n = os::arg(1, &mut word);
-    if is_equal(&word[..n]) {
-        behind_option(count);
+    let o = option(&word[..n]);
+    if o <= STEADY {
+        behind_option(ruled(old_rules(), o), count);
         return;
     }
     run(&word[..n], count - 2);

@@ -1,4 +1,4 @@
-// The words of the program: the names of its commands, how many words a command expects, the option, the help.
+// The words of the program: the names of its commands, how many words a command expects, the options, the help.
 use crate::MAKE;
 use complaints::unfit;
 use console::output::say;
@@ -50,6 +50,9 @@ pub fn help() {
 
 `--equal-branches` before table, list or values: `c ? a : b` with c unknown has the value of its branches where both
 have the same. A table made so ends in the line `rules`, tab, `equal-branches`. Without it such a ternary is X.
+`--steady-pins` before table, list, values or rewrite: where all steps of a run of `->` change something, the pins that
+the run names stay as they are at the steps without an edge on them. A table made so ends in the line `rules`, tab,
+`steady-pins`. Both options may be given; then `equal-branches`, a tab and `steady-pins` stand in that line.
 
 rewrite writes `->` between steps, `&` between the tests of a step, and `( )` for an empty step.
 make reads a line with `time` and the names, then a line with time and states for each row. `#` starts a comment line.
@@ -59,7 +62,7 @@ Exit status: 0 where all was done, 1 where something was complained of.
     );
 }
 
-// Whether a word is the option.
-pub fn is_equal(word: &[u8]) -> bool {
-    line_of(b"--equal-branches\n", word) == 0
+// An option's number; another word has a greater one.
+pub fn option(word: &[u8]) -> usize {
+    line_of(b"--equal-branches\n--steady-pins\n", word)
 }

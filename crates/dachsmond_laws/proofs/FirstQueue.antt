@@ -41,15 +41,15 @@ module _ (q : Queue) (e : EmptyQueue q) where
   empty-queue-keeps names k =
       let h = holding-first names k (queueOf q) (e .0) in record { few = h .few; codes = h .codes }
 
-  pub empty-queue-pushed : {ρ : Rules} (names : ℕ) (tree row : List ℕ) (r : Pushed) → Accepted names Vector tree
+  pub empty-queue-pushed : {ρ : Rules} (names : ℕ) (tree row : List ℕ) (r : Pushed) → Accepted ρ names Vector tree
       → RowFits names (length row) → Codes row → Hands (Pushes ρ names tree (queueOf q) row) toldPush r
       → r .number ≡ 0
   unfolding Takes
   empty-queue-pushed {ρ} names tree row r a f s h =
-      let handed : Handed names tree (queueOf q) = record { accepted = a; kept = empty-queue-keeps names _ } in
+      let handed : Handed ρ names tree (queueOf q) = record { accepted = a; kept = empty-queue-keeps names _ } in
       push-reliable names tree q row .done-zero h
       (λ g d.
-      refused-passed (pushOrder names tree (queueOf q) row) _ _ (codes-passed row f handed s)
+      refused-passed (pushOrder ρ names tree (queueOf q) row) _ _ (codes-passed row f handed s)
       (subst (Pushes ρ names tree (queueOf q) row) d (h .is-allowed) .comes .0 .by))
 
   pub empty-queue-listed : {ρ : Rules} (names : ℕ) (tree steps tests edges operands row : List ℕ) (r : Pushed)

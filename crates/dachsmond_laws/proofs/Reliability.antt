@@ -10,6 +10,7 @@ use mathlib.Core.List.{List}
 use Rattle.basics.specs.declared.Refusal.{Refusal}
 use Rattle.basics.specs.declared.Outcome.{Outcome}
 use Rattle.basics.specs.declared.Outcome.the-variants.{Done, Refused}
+use Rattle.alf.specs.declared.Rules.{Rules}
 use Rattle.alf.specs.declared.Sort.{Sort}
 use Rattle.reader.specs.declared.Read.{Read}
 use Rattle.reader.specs.Reads.{made, refusedBy}
@@ -96,14 +97,14 @@ pub of-outcome : {allowed : Outcome → Type 0} {kept : Told → Type 0} {ns : L
 unfolding told
 of-outcome n s = reliable kinds.outcomes _ _ (λ a x. outcome-parts a) (λ f. refl) (n .in-table) s
 
-pub of-expression : {names text : List ℕ} {sort : Sort} {ns : List ℕ}
-    → Refuses refusedBy (texts.ReadsText names text sort) ns
-    → Reliable kinds.expressions (texts.ReadsText names text sort) Nothing
+pub of-expression : {ρ : Rules} {names text : List ℕ} {sort : Sort} {ns : List ℕ}
+    → Refuses refusedBy (texts.ReadsText ρ names text sort) ns
+    → Reliable kinds.expressions (texts.ReadsText ρ names text sort) Nothing
 unfolding toldExpression refusedBy made
-of-expression {names} {text} {sort} n =
+of-expression {ρ} {names} {text} {sort} n =
     reliable kinds.expressions _ _ (λ a x. parts x) (λ f. refl) (n .in-table) (λ f x. tt)
   where
-    parts : {a : Read} → texts.ReadsText names text sort a → Parts kinds.expressions a
+    parts : {a : Read} → texts.ReadsText ρ names text sort a → Parts kinds.expressions a
     parts (texts.refused f h) = inl (f, refl)
     parts (texts.read a g) = inr refl
 

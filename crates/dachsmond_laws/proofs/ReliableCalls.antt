@@ -40,10 +40,9 @@ use Rattle.dachsmond_laws.proofs.Reliability.{of-match, of-counts, of-p
 pub check-names-reliable : (names : List ℕ) → Reliable outcomes (ChecksNames names) Nothing
 check-names-reliable names = of-outcome (refused-numbers {ρ = oldRules} .check-names names) (λ f x. tt)
 
-pub read-expression-reliable : (names text : List ℕ) (sort : Sort)
-    → Reliable expressions (ReadsText names text sort) Nothing
-read-expression-reliable names text sort = of-expression
-    (refused-numbers {ρ = oldRules} .read-expression names text sort)
+pub read-expression-reliable : {ρ : Rules} (names text : List ℕ) (sort : Sort)
+    → Reliable expressions (ReadsText ρ names text sort) Nothing
+read-expression-reliable names text sort = of-expression (refused-numbers .read-expression names text sort)
 
 pub write-expression-reliable : (names tree : List ℕ) (sort : Sort) (out out′ : List ℕ)
     → Reliable outcomes (writer.Writes names tree sort out out′) (λ r. out′ ≡ out)
@@ -121,24 +120,23 @@ push-reliable {ρ} names tree queue row =
     (refused-numbers {ρ = ρ} .push names tree (queueOf queue) row (queueOf queue)) (λ f s x. x .comes .1)
 
 -- alternatives
-module _ (names : ℕ) (tree : List ℕ) where
+module _ {ρ : Rules} (names : ℕ) (tree : List ℕ) where
   pub rewrite-reliable : (steps tests edges operands steps′ tests′ edges′ operands′ : List ℕ)
-      → Reliable outcomes (Rewrites names tree steps tests edges operands steps′ tests′ edges′ operands′)
+      → Reliable outcomes (Rewrites ρ names tree steps tests edges operands steps′ tests′ edges′ operands′)
       (λ r. (steps′ ≡ steps) × (tests′ ≡ tests) × (edges′ ≡ edges) × (operands′ ≡ operands))
   unfolding after
   rewrite-reliable steps tests edges operands steps′ tests′ edges′ operands′ =
       of-outcome
-      (refused-numbers
-      {ρ = oldRules} .rewrite names tree steps tests edges operands steps′ tests′ edges′ operands′)
+      (refused-numbers {ρ = ρ} .rewrite names tree steps tests edges operands steps′ tests′ edges′ operands′)
       (λ f x.
       let l = x .memory in
       (l .steps-are, l .tests-are, l .edges-are, l .operands-are))
 
   pub contradictions-reliable : (flags flags′ : List ℕ)
-      → Reliable outcomes (Contradicts names tree flags flags′) (λ r. flags′ ≡ flags)
+      → Reliable outcomes (Contradicts ρ names tree flags flags′) (λ r. flags′ ≡ flags)
   unfolding after
   contradictions-reliable flags flags′ =
-      of-outcome (refused-numbers {ρ = oldRules} .contradictions names tree flags flags′) (λ f x. x .memory)
+      of-outcome (refused-numbers {ρ = ρ} .contradictions names tree flags flags′) (λ f x. x .memory)
 
 -- alternatives in lists
 module _ (names n : ℕ) (tree steps tests edges operands states : List ℕ) where

@@ -39,8 +39,8 @@ use Rattle.telling.specs.Matching.{toldMatch, toldCounts, Pushes, toldPush}
 use Rattle.telling.proofs.Unique.{from-both, hands-unique}
 
 -- texts
-pub read-expression-unique : {names text : List ℕ} {sort : Sort} {r s : Expression}
-    → Hands (ReadsText names text sort) toldExpression r → Hands (ReadsText names text sort) toldExpression s
+pub read-expression-unique : {ρ : Rules} {names text : List ℕ} {sort : Sort} {r s : Expression}
+    → Hands (ReadsText ρ names text sort) toldExpression r → Hands (ReadsText ρ names text sort) toldExpression s
     → r ≡ s
 read-expression-unique x y = hands-unique (λ a b p q. read-unique p q) x y
 
@@ -139,27 +139,27 @@ pushed-unique x y =
     (λ a b p q. let e = push-unique p q in λ i. record { told = e .0 i; queue = e .1 i }) x y
 
 -- alternatives
-module _ {names : ℕ} {tree steps tests edges operands : List ℕ} where
+module _ {ρ : Rules} {names : ℕ} {tree steps tests edges operands : List ℕ} where
   pub rewrite-unique : {a b c d a′ b′ c′ d′ : List ℕ} {r s : Told}
-      → Hands (Rewrites names tree steps tests edges operands a b c d) told r
-      → Hands (Rewrites names tree steps tests edges operands a′ b′ c′ d′) told s
+      → Hands (Rewrites ρ names tree steps tests edges operands a b c d) told r
+      → Hands (Rewrites ρ names tree steps tests edges operands a′ b′ c′ d′) told s
       → (r ≡ s) × (a ≡ a′) × (b ≡ b′) × (c ≡ c′) × (d ≡ d′)
   rewrite-unique x y = (
-    hands-unique (λ a b p q. rewrites-unique names tree steps tests edges operands p q .0) x y,
-    from-both (λ a b p q. rewrites-unique names tree steps tests edges operands p q .1) x y,
-    from-both (λ a b p q. rewrites-unique names tree steps tests edges operands p q .2) x y,
-    from-both (λ a b p q. rewrites-unique names tree steps tests edges operands p q .3) x y,
-    from-both (λ a b p q. rewrites-unique names tree steps tests edges operands p q .4) x y,
+    hands-unique (λ a b p q. rewrites-unique ρ names tree steps tests edges operands p q .0) x y,
+    from-both (λ a b p q. rewrites-unique ρ names tree steps tests edges operands p q .1) x y,
+    from-both (λ a b p q. rewrites-unique ρ names tree steps tests edges operands p q .2) x y,
+    from-both (λ a b p q. rewrites-unique ρ names tree steps tests edges operands p q .3) x y,
+    from-both (λ a b p q. rewrites-unique ρ names tree steps tests edges operands p q .4) x y,
   )
 
-pub contradictions-unique : {names : ℕ} {tree flags a b : List ℕ} {r s : Told}
-    → Hands (Contradicts names tree flags a) told r → Hands (Contradicts names tree flags b) told s
+pub contradictions-unique : {ρ : Rules} {names : ℕ} {tree flags a b : List ℕ} {r s : Told}
+    → Hands (Contradicts ρ names tree flags a) told r → Hands (Contradicts ρ names tree flags b) told s
     → (r ≡ s) × (a ≡ b)
-contradictions-unique {names} {tree} {flags} x y = (
-  hands-unique (λ a b p q. contradicts-unique names tree flags p q .0) x y,
-  from-both (λ a b p q. contradicts-unique names tree flags p q .1) x y,
+contradictions-unique {ρ} {names} {tree} {flags} x y = (
+  hands-unique (λ a b p q. contradicts-unique ρ names tree flags p q .0) x y,
+  from-both (λ a b p q. contradicts-unique ρ names tree flags p q .1) x y,
 )
 
 -- the version, which takes nothing
-pub version-unique : (r s : ℕ) → r ≡ 131072 → s ≡ 131072 → r ≡ s
+pub version-unique : (r s : ℕ) → r ≡ 196608 → s ≡ 196608 → r ≡ s
 version-unique r s x y = x ∙ sym y

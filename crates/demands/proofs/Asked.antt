@@ -13,7 +13,8 @@ use Rattle.alf.specs.Names.{namesIn}
 use Rattle.alf.specs.declared.Sort.{Sort}
 use Rattle.alf.specs.declared.Sort.the-variants as sort
 use Rattle.alf.specs.Expressions.{Expression, vector}
-use Rattle.alf.specs.Decoder.{Decodes, topBoolean, topVector}
+use Rattle.alf.specs.Decoder.{Stack, Decodes, topBoolean, topVector}
+use Rattle.alf.specs.Steady.{meant}
 use Rattle.alf.specs.Refusals.{Passed}
 use Rattle.names.specs.Check.{namesOrder}
 use Rattle.trace_format.specs.Format.{Trace, fewestOf, fileOf}
@@ -29,7 +30,7 @@ use Rattle.writer.specs.Writing.{textAt, Named}
 use Rattle.text_laws.proofs.WrittenGives.{written-gives}
 use Rattle.text_laws.proofs.GivenAccepted.{gives-accepted, gives-decodes}
 use Rattle.text_laws.proofs.ReadTrees.{sorted-vector}
-use Rattle.demands.specs.Questions.{Asked, Question, Formula, namesOf, treeOf}
+use Rattle.demands.specs.Questions.{Asked, Question, Formula, namesOf, treeOf, meantBy}
 
 module _ {A : Type 0} {into : A → Expression} {sort : Sort} {file given-text : List ℕ}
     (q : Asked into sort file given-text) where
@@ -54,7 +55,7 @@ module _ {A : Type 0} {into : A → Expression} {sort : Sort} {file given-text :
   pub codes-good : Codes (q .states)
   codes-good i l = omega (arith, q .trace .codes i l)
 
-  pub tree-accepted : Accepted (namesOf q) sort (treeOf q)
+  pub tree-accepted : Accepted (q .rules) (namesOf q) sort (treeOf q)
   tree-accepted = gives-accepted names-good (q .given)
 
   pub tree-whole : expressionAt (treeOf q) (namesOf q) (length (treeOf q)) ≡ into (q .pattern)
@@ -66,9 +67,9 @@ module _ {A : Type 0} {into : A → Expression} {sort : Sort} {file given-text :
   tree-text = ap (text (q .names)) tree-whole
 
 module _ {file given-text : List ℕ} where
-  pub tree-is : (q : Question file given-text) → expression (treeOf q) (namesOf q) ≡ q .pattern
+  pub tree-is : (q : Question file given-text) → expression (q .rules) (treeOf q) (namesOf q) ≡ meantBy q
   unfolding Decodes topVector
-  tree-is q = ap topVector (gives-decodes (names-good q) (q .given))
+  tree-is q = ap (λ (s : Stack). meant (q .rules) (topVector s)) (gives-decodes (names-good q) (q .given))
 
   pub formula-is : (q : Formula file given-text) → booleanAt (treeOf q) (namesOf q) (length (treeOf q)) ≡ q .pattern
   unfolding Decodes topBoolean
@@ -76,7 +77,7 @@ module _ {file given-text : List ℕ} where
 
 -- a trace and an accepted tree are asked by the trace's file and the tree's text
 module _ {names times states : List ℕ} {rows : ℕ} (t : Trace names times states rows) {tree : List ℕ}
-    (a : Accepted (namesIn names) sort.Vector tree) where
+    {ρ : Rules} (a : Accepted ρ (namesIn names) sort.Vector tree) where
   slots-named : Named names
   unfolding Passed
   slots-named =
@@ -84,13 +85,13 @@ module _ {names times states : List ℕ} {rows : ℕ} (t : Trace names times sta
         passed = (λ p x. x .given (t .slots), (λ p x. x .given .1 (t .good p (x .given .0)), tt));
       }
 
-  pub question-of : (rules : Rules) → Question (fileOf names times states rows) (textAt names tree)
+  pub question-of : Question (fileOf names times states rows) (textAt names tree)
   unfolding Decodes top
-  question-of rules =
+  question-of =
       let v = sorted-vector (a .expression) (a .sorted) in
       let d : Decodes (namesIn names) tree (vector (v .p)) = rw (v .is-vector) at (accepted-decodes a) in
       record {
-        rules = rules;
+        rules = ρ;
         names = names;
         times = times;
         states = states;

@@ -1,15 +1,14 @@
 -- Document 01's cases 1 to 12, each from its text: cases-stand.
---   slots-named         the names A, B, C are good
 --   Given, all-given    the text of each case is the text that is written for its expression, so it gives that
---   stand-all           with the answers that alf/proofs/Cases computes, each case stands
+--   stand-all           with the answers that steady_laws computes, each case stands, under any rules
 use Prim.Native.Nat.{ℕ, zero, suc, _+_, _<_, _≤_}
 use native.Mathlib.Omega.{arith}
 use mathlib.Core.Path.{_≡_, refl, sym, ap, _∙_}
-use mathlib.Core.Bool.{true, false}
-use mathlib.Core.List.{List}
-use lib.ListN.{length, getD}
+use mathlib.Core.Bool.{Bool, true, false}
+use mathlib.Core.List.{List, map}
+use lib.ListN.{length, getD, drop}
 use Rattle.basics.specs.Text.{bytes}
-use Rattle.basics.specs.Words.{all, greatestOf, sumOf, same}
+use Rattle.basics.specs.Words.{if_then_else_, all, greatestOf, sumOf, same}
 use Rattle.basics.proofs.AllEntries.{All, none, more}
 use Rattle.basics.proofs.Bools.{and-left, and-right}
 use Rattle.basics.proofs.Entries.{same-sound}
@@ -20,16 +19,21 @@ use Rattle.alf.specs.Names.{slot, untilZero, nameAt, slotOf}
 use Rattle.alf.specs.Names.{GoodSlot}
 use Rattle.alf.specs.States.{H, Z}
 use Rattle.alf.specs.Expressions.{literal, binary, choice, and, or, equals, changes, edge, join, while, on-right}
-use Rattle.alf.specs.Expressions.{any-order, with, Expression, boolean, vector}
+use Rattle.alf.specs.Expressions.{any-order, with, Boolean, Vector, Expression, boolean, vector}
 use Rattle.alf.specs.Expressions.{Over, HalfKnown, EdgeKnown, VectorOver, ExpressionOver}
 use Rattle.alf.specs.Bytes.{binaryByte, joinByte, halfNumber, edgeNumber, booleanBytes, vectorBytes, bytesOf}
 use Rattle.alf.specs.Alternatives.{each, padded, zipped, overlaid, conditioned, rewritten, alternatives, tests}
 use Rattle.alf.specs.Alternatives.{overLimit}
+use Rattle.alf.specs.Alternatives as named
+use Rattle.alf.specs.Steady.{isThen, isWith, isStep, isChanging, moves, hasEdgeOn, someOf, operands, row, run}
+use Rattle.alf.specs.Steady.{isSteady, kept, steadied, filledIn, filled, meant}
+use Rattle.steady_laws.specs.SteadyT.{readAs, steadyCases, casesUnder}
+use Rattle.steady_laws.proofs.SteadyCases.{cases-under}
+use Rattle.steady_laws.proofs.Meant.{meant-cases}
 use Rattle.alf.specs.Refusals.{Passed}
 use Rattle.alf.specs.Traces.{corrected}
 use Rattle.alf.specs.TableT.{names, slots, A, B, C, rise, fall, settle, pulse}
 use Rattle.alf.specs.TableT.{states, Case, answers, values, correction, cases, numbers, entries, holds, allHold}
-use Rattle.alf.proofs.Cases.{cases-hold}
 use Rattle.names.specs.Check.{Slots}
 use Rattle.trees.specs.Brackets.{binaryLevel, joinLevel, levelOf, bracketed, booleanDepth, vectorDepth, depthOf}
 use Rattle.acceptance.specs.Accepted.{sortOf, overSize}
@@ -42,68 +46,19 @@ use Rattle.writer.specs.Writing.{Named}
 use Rattle.reader.specs.Reading.{Gives}
 use Rattle.text_laws.proofs.WrittenGives.{text-gives}
 use Rattle.demands.specs.Cases.{Stands, AllStand}
-
--- The names A, B, C.
-slots-count : namesIn slots ≡ names
-unfolding slots slotOf bytes
-slots-count = refl
-
-first-byte : (k : ℕ) → k < names → getD (nameAt slots k) 0 0 ≡ 65 + k
-unfolding slots slotOf slot untilZero bytes
-first-byte zero l = refl
-first-byte (suc zero) l = refl
-first-byte (suc (suc zero)) l = refl
-first-byte (suc (suc (suc k))) l = absurd (omega arith)
-
-slot-named : (k : ℕ) → k < names → isName (nameAt slots k) ≡ true
-unfolding slots slotOf slot untilZero bytes isName startsName isLetter isDecimal goesOnName all
-slot-named zero l = refl
-slot-named (suc zero) l = refl
-slot-named (suc (suc zero)) l = refl
-slot-named (suc (suc (suc k))) l = absurd (omega arith)
-
-slot-filled : (k : ℕ) → k < names → slot slots k ≡ slotOf (nameAt slots k)
-unfolding slots slotOf slot untilZero bytes
-slot-filled zero l = refl
-slot-filled (suc zero) l = refl
-slot-filled (suc (suc zero)) l = refl
-slot-filled (suc (suc (suc k))) l = absurd (omega arith)
-
-slot-good : (k : ℕ) → k < names → GoodSlot slots k
-slot-good k l =
-    record {
-      named = slot-named k l;
-      filled = slot-filled k l;
-      new = λ j h e.
-          let a = sym (first-byte j (omega arith)) ∙ (ap (λ (x : List ℕ). getD x 0 0) e ∙ first-byte k l) in
-          omega (arith, a, h);
-    }
-
-slots-fit : Slots slots
-unfolding slots slotOf bytes
-slots-fit = record { whole = refl; some = omega arith; few = omega arith }
-
-slots-named : Named slots
-unfolding Passed
-slots-named =
-    record {
-      passed = (
-        λ p a. a .given slots-fit,
-        (λ p a. a .given .1 (slot-good p (omega (arith, a .given .0, slots-count))), tt),
-      );
-    }
+use Rattle.demands.proofs.CaseNames.{slots-count, slots-named}
 
 -- a text that is written for an expression over A, B, C gives it
-written-given : (x : Expression) {t : List ℕ} → text slots x ≡ t → ExpressionOver names x
-    → length (bytesOf x) ≤ 256 → depthOf x ≤ 32 → overSize x ≡ false
-    → Gives slots t (sortOf x) x
-written-given x e o few shallow small =
-    rw (sym e) (text-gives slots-named x (rw slots-count o) few shallow small)
+written-given : (ρ : Rules) (x : Expression) {t : List ℕ} → text slots x ≡ t → ExpressionOver names x
+    → length (bytesOf x) ≤ 256 → depthOf x ≤ 32 → overSize ρ x ≡ false
+    → Gives ρ slots t (sortOf x) x
+written-given ρ x e o few shallow small =
+    rw (sym e) (text-gives slots-named x (rw slots-count o) ρ few shallow small)
 
-Given : Case → Type 0
-Given (answers t p ns) = Gives slots t sort.Vector (vector p)
-Given (values t c vs) = Gives slots t sort.Boolean (boolean c)
-Given (correction t p r new ns es) = Gives slots t sort.Vector (vector p)
+Given : Rules → Case → Type 0
+Given ρ (answers t p ns) = Gives ρ slots t sort.Vector (vector p)
+Given ρ (values t c vs) = Gives ρ slots t sort.Boolean (boolean c)
+Given ρ (correction t p r new ns es) = Gives ρ slots t sort.Vector (vector p)
 
 -- each expression is over A, B, C
 rise-over : VectorOver names (edge rise A)
@@ -114,72 +69,145 @@ pulse-over : VectorOver names pulse
 unfolding VectorOver EdgeKnown HalfKnown Over
 pulse-over = (rise-over, ((omega arith, omega arith), omega arith))
 
-all-given : All Given cases
-unfolding
-    cases Given slots bytes slotOf slot untilZero text textOf following spelled signSpelled prefixes marks operators
-    pairSpelled literalSpelled halfByte treeOf vectorTree booleanTree joinCode written fitted table kindIn kind
-    binaryByte joinByte edgeNumber halfNumber booleanBytes vectorBytes bytesOf sortOf overSize overLimit alternatives
-    rewritten conditioned overlaid zipped padded each tests greatestOf sumOf binaryLevel joinLevel levelOf bracketed
-    booleanDepth vectorDepth depthOf ExpressionOver VectorOver Over EdgeKnown HalfKnown
-all-given =
-    let rise-given = written-given (vector (edge rise A)) refl rise-over (omega arith) (omega arith) refl in
-    -- 1
-    more rise-given
-    -- 2
-    (more (written-given (vector pulse) refl pulse-over (omega arith) (omega arith) refl)
-    -- 3
-    (more
-    (written-given (vector (while on-right pulse C)) refl (pulse-over, omega arith) (omega arith) (omega arith) refl)
-    -- 4
-    (more
-    (written-given (vector (edge rise (binary and A B))) refl ((omega arith, omega arith), (omega arith, omega arith))
-    (omega arith) (omega arith) refl)
-    -- 5
-    (more
-    (written-given (vector (edge settle A)) refl ((omega arith, omega arith), omega arith) (omega arith) (omega arith)
-    refl)
-    -- 6
-    (more (written-given (vector (edge changes B)) refl (tt, omega arith) (omega arith) (omega arith) refl)
-    -- 7
-    (more
-    (written-given (vector (join any-order (edge rise A) (edge fall B))) refl pulse-over (omega arith) (omega arith)
-    refl)
-    -- 8
-    (more
-    (written-given (boolean (choice A C (literal Z))) refl (omega arith, omega arith, omega arith) (omega arith)
-    (omega arith) refl)
-    -- 9
-    (more
-    (written-given (boolean (binary equals C (literal H))) refl (omega arith, omega arith) (omega arith) (omega arith)
-    refl)
-    -- 10
-    (more
-    (written-given (boolean (binary or A B)) refl (omega arith, omega arith) (omega arith) (omega arith) refl)
-    -- 11
-    (more
-    (written-given (vector (join with (edge fall C) pulse)) refl
-    (((omega arith, omega arith), omega arith), pulse-over) (omega arith) (omega arith) refl)
-    -- 12
-    (more rise-given none)))))))))))
+-- within limit 8, as it is written and as it is filled, a pattern is within it under any rules
+small : (ρ : Rules) (p : Vector) → overLimit (alternatives p) ≡ false → overLimit (alternatives (filled p)) ≡ false
+    → overSize ρ (vector p) ≡ false
+unfolding overSize
+small ρ p h k = meant-cases ρ p (λ q. overLimit (alternatives q) ≡ false) h k
 
-stands-so : (ρ : Rules) (c : Case) → Given c → holds ρ c ≡ true → Stands ρ c
-unfolding Given Stands holds
+small-boolean : (ρ : Rules) (c : Boolean) → overSize ρ (boolean c) ≡ false
+unfolding overSize
+small-boolean ρ c = refl
+
+-- the patterns of the cases, within limit 8
+abbrev Small : Vector → Type 0
+Small p = (overLimit (alternatives p) ≡ false) × (overLimit (alternatives (filled p)) ≡ false)
+
+record AllSmall : Type 0 where
+  rises : Small (edge rise A)
+  pulses : Small pulse
+  held : Small (while on-right pulse C)
+  both : Small (edge rise (binary and A B))
+  settles : Small (edge settle A)
+  flips : Small (edge changes B)
+  orders : Small (join any-order (edge rise A) (edge fall B))
+  falls : Small (join with (edge fall C) pulse)
+
+all-small : AllSmall
+unfolding
+    overLimit alternatives rewritten conditioned overlaid zipped padded each tests greatestOf sumOf isThen isWith isStep
+    isChanging moves hasEdgeOn someOf operands row run isSteady kept steadied filledIn all named.isName
+all-small =
+    record {
+      rises = (refl, refl);
+      pulses = (refl, refl);
+      held = (refl, refl);
+      both = (refl, refl);
+      settles = (refl, refl);
+      flips = (refl, refl);
+      orders = (refl, refl);
+      falls = (refl, refl);
+    }
+
+module _ (ρ : Rules) where
+  pattern-given : (p : Vector) {t : List ℕ} → text slots (vector p) ≡ t → VectorOver names p
+      → length (bytesOf (vector p)) ≤ 256 → depthOf (vector p) ≤ 32 → Small p → Gives ρ slots t sort.Vector (vector p)
+  unfolding sortOf ExpressionOver
+  pattern-given p e o few shallow (h, k) = written-given ρ (vector p) e o few shallow (small ρ p h k)
+
+  formula-given : (c : Boolean) {t : List ℕ} → text slots (boolean c) ≡ t → Over names c
+      → length (bytesOf (boolean c)) ≤ 256 → depthOf (boolean c) ≤ 32 → Gives ρ slots t sort.Boolean (boolean c)
+  unfolding sortOf ExpressionOver
+  formula-given c e o few shallow = written-given ρ (boolean c) e o few shallow (small-boolean ρ c)
+
+  -- 1, 2, 3
+  first-given : Gives ρ slots (bytes "01 A") sort.Vector (vector (edge rise A))
+      × Gives ρ slots (bytes "01 A -> 10 B") sort.Vector (vector pulse)
+      × Gives ρ slots (bytes "( 01 A -> 10 B ) & C") sort.Vector (vector (while on-right pulse C))
+  unfolding
+      slots bytes slotOf slot untilZero text textOf following spelled signSpelled prefixes marks operators pairSpelled
+      literalSpelled halfByte treeOf vectorTree booleanTree joinCode written fitted table kindIn kind binaryByte
+      joinByte edgeNumber halfNumber booleanBytes vectorBytes bytesOf binaryLevel joinLevel levelOf bracketed booleanDepth
+      vectorDepth depthOf VectorOver Over
+  first-given = (
+    pattern-given (edge rise A) refl rise-over (omega arith) (omega arith) (all-small .rises),
+    pattern-given pulse refl pulse-over (omega arith) (omega arith) (all-small .pulses),
+    pattern-given (while on-right pulse C) refl (pulse-over, omega arith) (omega arith) (omega arith)
+        (all-small .held),
+  )
+
+  -- 4 to 12
+  rest-given : All (Given ρ) (drop 3 cases)
+  unfolding
+      cases Given slots bytes slotOf slot untilZero text textOf following spelled signSpelled prefixes marks operators
+      pairSpelled literalSpelled halfByte treeOf vectorTree booleanTree joinCode written fitted table kindIn kind
+      binaryByte joinByte edgeNumber halfNumber booleanBytes vectorBytes bytesOf binaryLevel joinLevel levelOf bracketed
+      booleanDepth vectorDepth depthOf VectorOver Over EdgeKnown HalfKnown
+  rest-given =
+      -- 4
+      more
+      (pattern-given (edge rise (binary and A B)) refl ((omega arith, omega arith), (omega arith, omega arith))
+      (omega arith) (omega arith) (all-small .both))
+      -- 5
+      (more
+      (pattern-given (edge settle A) refl ((omega arith, omega arith), omega arith) (omega arith) (omega arith)
+      (all-small .settles))
+      -- 6
+      (more (pattern-given (edge changes B) refl (tt, omega arith) (omega arith) (omega arith) (all-small .flips))
+      -- 7
+      (more
+      (pattern-given (join any-order (edge rise A) (edge fall B)) refl pulse-over (omega arith) (omega arith)
+      (all-small .orders))
+      -- 8
+      (more
+      (formula-given (choice A C (literal Z)) refl (omega arith, omega arith, omega arith) (omega arith) (omega arith))
+      -- 9
+      (more
+      (formula-given (binary equals C (literal H)) refl (omega arith, omega arith) (omega arith) (omega arith))
+      -- 10
+      (more (formula-given (binary or A B) refl (omega arith, omega arith) (omega arith) (omega arith))
+      -- 11
+      (more
+      (pattern-given (join with (edge fall C) pulse) refl (((omega arith, omega arith), omega arith), pulse-over)
+      (omega arith) (omega arith) (all-small .falls))
+      -- 12
+      (more (first-given .0) none))))))))
+
+  plain-given : All (Given ρ) cases
+  unfolding cases Given
+  plain-given = let (a, b, c) = first-given in more a (more b (more c rest-given))
+
+  steady-given : All (Given ρ) steadyCases
+  unfolding steadyCases cases Given
+  steady-given = let (a, b, c) = first-given in more a (more b (more c rest-given))
+
+  all-given : All (Given ρ) (casesUnder ρ)
+  unfolding casesUnder
+  all-given = go (ρ .«steady_pins»)
+    where
+      go : (q : Bool) → All (Given ρ) (if q then steadyCases else cases)
+      go true = steady-given
+      go false = plain-given
+
+stands-so : (ρ : Rules) (c : Case) → Given ρ c → holds ρ (readAs ρ c) ≡ true → Stands ρ c
+unfolding Given Stands holds readAs
 stands-so ρ (answers t p ns) g h = record { gives = g; answers-are = same-sound _ _ h }
 stands-so ρ (values t c vs) g h = record { gives = g; values-are = same-sound _ _ h }
 stands-so ρ (correction t p r new ns es) g h =
-    let right = same (numbers ρ (corrected names states r new) p) ns in
-    let reached = same (entries p r) es in
+    let right = same (numbers ρ (corrected names states r new) (meant ρ p)) ns in
+    let reached = same (entries (meant ρ p) r) es in
     record {
       gives = g;
       answers-are = same-sound _ _ (and-left right reached h);
       entries-are = same-sound _ _ (and-right right reached h);
     }
 
-stand-all : (ρ : Rules) {cs : List Case} → All Given cs → allHold ρ cs ≡ true → AllStand ρ cs
+stand-all : (ρ : Rules) {cs : List Case} → All (Given ρ) cs → allHold ρ (map (readAs ρ) cs) ≡ true → AllStand ρ cs
 unfolding allHold
 stand-all ρ none h = none
 stand-all ρ (more {x = c} g gs) h =
-    more (stands-so ρ c g (and-left (holds ρ c) _ h)) (stand-all ρ gs (and-right (holds ρ c) _ h))
+    more (stands-so ρ c g (and-left (holds ρ (readAs ρ c)) _ h))
+    (stand-all ρ gs (and-right (holds ρ (readAs ρ c)) _ h))
 
-pub cases-stand : (ρ : Rules) → AllStand ρ cases
-cases-stand ρ = stand-all ρ all-given (cases-hold ρ)
+pub cases-stand : (ρ : Rules) → AllStand ρ (casesUnder ρ)
+cases-stand ρ = stand-all ρ (all-given ρ) (cases-under ρ)

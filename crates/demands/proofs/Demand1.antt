@@ -68,14 +68,14 @@ demand-1 =
       rewrite = λ names tree steps tests edges operands.
           record {
             one = λ a b m n x y.
-                let e = rewrites-unique names tree steps tests edges operands x y in
+                let e = rewrites-unique _ names tree steps tests edges operands x y in
                 (e .0, λ i. (e .1 i, e .2 i, e .3 i, e .4 i));
             stays = λ r m x.
                 let l = x .memory in
                 λ i. (l .steps-are i, l .tests-are i, l .edges-are i, l .operands-are i);
           };
       contradictions = λ names tree flags.
-          record { one = λ a b m n x y. contradicts-unique names tree flags x y; stays = λ r m x. x .memory };
+          record { one = λ a b m n x y. contradicts-unique _ names tree flags x y; stays = λ r m x. x .memory };
       row-state = λ names n tree states row a b x y. state-unique x y;
       row-value = λ names n tree states row a b x y. value-unique x y;
       values = λ names n tree states out.

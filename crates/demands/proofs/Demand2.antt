@@ -42,7 +42,7 @@ use Rattle.queue_calls.specs.Pushing.{Takes, Push}
 use Rattle.queue_calls.proofs.ByAlternatives.{tree-pushed}
 use Rattle.call_laws.proofs.Routes.{answered, matched, pushed-found, row-passed, codes-passed}
 use Rattle.call_laws.proofs.Routes.{told-by, never-refused}
-use Rattle.demands.specs.Questions.{Question, namesOf, treeOf, answerOn, triesOn, answerAt, triesAt}
+use Rattle.demands.specs.Questions.{Question, namesOf, treeOf, answerOn, triesOn, answerAt, triesAt, meantBy}
 use Rattle.rewritten_laws.specs.WrittenOut.{WrittenOut}
 use Rattle.rewritten_laws.proofs.Theorems.{rewritten-accepted, written-are, match-as-tree, all-as-tree}
 use Rattle.rewritten_laws.proofs.Theorems.{totals-as-tree, push-as-tree}
@@ -76,7 +76,7 @@ module _ {file text : List ℕ} (q : Question file text) where
 
   on-window : (a b : ℕ) → max a b < q .rows → (x : Told)
       → WindowAnswer (q .rules) k (q .rows) (treeOf q) (q .states) a b x
-      → AnsweredAs (numbered (answer (stateAt (q .rules) k (q .states)) (q .pattern) a b)) x
+      → AnsweredAs (numbered (answer (stateAt (q .rules) k (q .states)) (meantBy q) a b)) x
   unfolding Tells
   on-window a b l (told.Answered c) w = record { answer = c; is = refl; numbered = rw (tree-is q) at (w .comes .1) }
   on-window a b l (told.Refused r) w =
@@ -113,12 +113,12 @@ module _ {file text : List ℕ} (q : Question file text) where
   -- The totals.
   totals-right : (z : Counting) → RowTotals (q .rules) k (q .rows) (treeOf q) (q .states) z
       → (t : Total) × ((z ≡ counting.Counted t)
-      × Totals (stateAt (q .rules) k (q .states)) (q .pattern) (q .rows) (t .yes) (t .no) (t .unknown)
+      × Totals (stateAt (q .rules) k (q .states)) (meantBy q) (q .rows) (t .yes) (t .no) (t .unknown)
       × (t .yes + t .no + t .unknown ≡ q .rows - 1))
   unfolding Counts
   totals-right (counting.Counted t) w =
       let c = rw (tree-is q) at (w .comes .1) in
-      let n = totals-sum (stateAt (q .rules) k (q .states)) (q .pattern) (q .rows) (lists-fit q .row-count .0) in
+      let n = totals-sum (stateAt (q .rules) k (q .states)) (meantBy q) (q .rows) (lists-fit q .row-count .0) in
       (t, (refl, c, omega (arith, c .yeses, c .noes, c .unknowns, n)))
   totals-right (counting.Refused r) w =
       absurd
@@ -150,9 +150,9 @@ module _ {file text : List ℕ} (q : Question file text) where
         (pushed-found (lists-fit q .name-count) (tree-accepted q) first rows-full rows-codes pushed i l)
 
   -- Any rows over the same names, and any number of pushes: push i answers for row i of what was fed so far.
-  longest-pos : 0 < longestOf (alternatives (expression (treeOf q) k))
+  longest-pos : 0 < longestOf (alternatives (expression (q .rules) (treeOf q) k))
   unfolding stepsOf
-  longest-pos = steps-pos (expression (treeOf q) k)
+  longest-pos = steps-pos (expression (q .rules) (treeOf q) k)
 
   module _ {n : ℕ} {rows : ℕ → List ℕ} {queues : ℕ → Queue} {results : ℕ → Matching}
       (first : queues 0 .kept .0 ≡ 0)
@@ -167,8 +167,8 @@ module _ {file text : List ℕ} (q : Question file text) where
         subst (λ (z : Matching). Push (q .rules) k (treeOf q) (queues i) (rows i) z (queues (suc i))) (not-refused i l)
         (pushed i l)
 
-    feed : Feed (q .rules) k (alternatives (expression (treeOf q) k)) n rows queues (λ i. told-by (results i) .answer)
-        (λ i. told-by (results i) .tries)
+    feed : Feed (q .rules) k (alternatives (expression (q .rules) (treeOf q) k)) n rows queues
+        (λ i. told-by (results i) .answer) (λ i. told-by (results i) .tries)
     unfolding Takes
     feed = record { first = first; full = full; pushes = λ i l. tree-pushed (taken i l .comes .1) }
 
@@ -177,17 +177,18 @@ module _ {file text : List ℕ} (q : Question file text) where
     any-feed i l =
         let answer = told-by (results i) .answer in
         let tried = queue-answers feed longest-pos i l .count in
-        let found : FoundAs (rowAnswer (stateAt (q .rules) k (fed rows (suc i))) (expression (treeOf q) k) i)
-        (tries (stateAt (q .rules) k (fed rows (suc i))) (alternatives (expression (treeOf q) k)) i) (results i) =
+        let found : FoundAs (rowAnswer (stateAt (q .rules) k (fed rows (suc i))) (expression (q .rules) (treeOf q) k) i)
+        (tries (stateAt (q .rules) k (fed rows (suc i))) (alternatives (expression (q .rules) (treeOf q) k)) i)
+        (results i) =
         record {
           answer = answer;
           is = not-refused i l ∙ (λ j. Found (record { answer = answer; tries = tried j }));
-          numbered = queue-windows feed (expression (treeOf q) k) refl longest-pos i l;
+          numbered = queue-windows feed (expression (q .rules) (treeOf q) k) refl longest-pos i l;
         } in
         rw (tree-is q) at found
 
   -- By the lists that `rewrite` writes: what they come to, the tree's call may come to.
-  by-lists : (steps tests edges operands : List ℕ) → WrittenOut k (treeOf q) steps tests edges operands
+  by-lists : (steps tests edges operands : List ℕ) → WrittenOut (q .rules) k (treeOf q) steps tests edges operands
       → ByLists q steps tests edges operands
   by-lists steps tests edges operands w =
       record {

@@ -30,7 +30,7 @@ module _ {file text : List ℕ} (q : Question file text) where
 
   module _ (answers : List ℕ) (r : ℕ) (new : List ℕ) (room : length answers ≡ q .rows) (full : length new ≡ k)
       (codes : Codes new) (there : r < q .rows) where
-    passed : Passed (correctionOrder k (q .rows) (treeOf q) (q .states) answers r new)
+    passed : Passed (correctionOrder (q .rules) k (q .rows) (treeOf q) (q .states) answers r new)
     unfolding Passed
     passed = (
       λ p x. x .given (record { room = room; full = full; rows = lists-fit q }),
@@ -49,11 +49,11 @@ module _ {file text : List ℕ} (q : Question file text) where
     correction-done (Done m) w = ap Done (w .comes .1)
     correction-done (Refused e) w = absurd (refused-passed _ _ _ passed (w .comes .by))
 
-  steps-is : stepsOf (expression (treeOf q) k) ≡ K q
+  steps-is : stepsOf (expression (q .rules) (treeOf q) k) ≡ K q
   steps-is = ap stepsOf (tree-is q)
 
   answer-is : (states : List ℕ) (i : ℕ)
-      → rowAnswer (stateAt (q .rules) k states) (expression (treeOf q) k) i ≡ answerOn q states i
+      → rowAnswer (stateAt (q .rules) k states) (expression (q .rules) (treeOf q) k) i ≡ answerOn q states i
   answer-is states i = ap (λ (p : Vector). rowAnswer (stateAt (q .rules) k states) p i) (tree-is q)
 
   module _ {answers : List ℕ} {r : ℕ} {new states′ answers′ : List ℕ}

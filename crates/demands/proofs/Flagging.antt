@@ -24,7 +24,7 @@ use Rattle.rewriting_calls.specs.Calls.{treeOrder}
 use Rattle.contradictions.specs.Calls.{ownAt, flagOrder, Contradicts}
 use Rattle.contradictions.specs.Possible.{flagOf}
 use Rattle.contradictions.proofs.Reporting.{contradicts-flag, flag-entries}
-use Rattle.demands.specs.Questions.{Question, namesOf, treeOf}
+use Rattle.demands.specs.Questions.{Question, namesOf, treeOf, meantBy}
 use Rattle.demands.proofs.Asked.{lists-fit, codes-good, tree-accepted, tree-is}
 
 -- an entry of a list of codes, or none, is a code
@@ -44,17 +44,17 @@ module _ {file text : List ℕ} (q : Question file text) where
   abbrev k : ℕ
   k = namesOf q
 
-  pub own-is : ownAt (treeOf q) k ≡ alternatives (q .pattern)
+  pub own-is : ownAt (q .rules) (treeOf q) k ≡ alternatives (meantBy q)
   own-is = ap alternatives (tree-is q)
 
-  flags-passed : (flags : List ℕ) → numberOfAlternatives (q .pattern) ≤ length flags
-      → Passed (treeOrder k (treeOf q) (flagOrder k (ownAt (treeOf q) k) flags))
+  flags-passed : (flags : List ℕ) → numberOfAlternatives (meantBy q) ≤ length flags
+      → Passed (treeOrder (q .rules) k (treeOf q) (flagOrder k (ownAt (q .rules) (treeOf q) k) flags))
   unfolding Passed treeOrder flagOrder numberOfAlternatives
   flags-passed flags l = (
     λ p x. x .given (lists-fit q .name-count),
     (
       λ p x. x .given (tree-accepted q),
-      (λ p x. omega (arith, x .given, flag-entries k (ownAt (treeOf q) k), ap length own-is, l), tt),
+      (λ p x. omega (arith, x .given, flag-entries k (ownAt (q .rules) (treeOf q) k), ap length own-is, l), tt),
     ),
   )
 
@@ -62,21 +62,21 @@ module _ {file text : List ℕ} (q : Question file text) where
   unfolding state recordedOr
   name-codes n r l = code-at (q .states) (codes-good q) (r * k + n)
 
-  pub flagged : (flags flags′ : List ℕ) (o : Outcome) → numberOfAlternatives (q .pattern) ≤ length flags
-      → Contradicts k (treeOf q) flags flags′ o
-      → (o ≡ outcome.Done (numberOfAlternatives (q .pattern)))
-      × ((t : ℕ) → t < numberOfAlternatives (q .pattern)
-      → getD flags′ t 0 ≡ (if contradictory k (getD (alternatives (q .pattern)) t []) then 1 else 0))
+  pub flagged : (flags flags′ : List ℕ) (o : Outcome) → numberOfAlternatives (meantBy q) ≤ length flags
+      → Contradicts (q .rules) k (treeOf q) flags flags′ o
+      → (o ≡ outcome.Done (numberOfAlternatives (meantBy q)))
+      × ((t : ℕ) → t < numberOfAlternatives (meantBy q)
+      → getD flags′ t 0 ≡ (if contradictory k (getD (alternatives (meantBy q)) t []) then 1 else 0))
   unfolding Comes numberOfAlternatives
   flagged flags flags′ (outcome.Done m) l w = (
     ap outcome.Done (w .outcome .1 ∙ ap length own-is),
-    λ t h. (rw own-is at (contradicts-flag k (treeOf q) flags w t (rw own-is h))) ∙ flag-is _,
+    λ t h. (rw own-is at (contradicts-flag (q .rules) k (treeOf q) flags w t (rw own-is h))) ∙ flag-is _,
   )
   flagged flags flags′ (outcome.Refused e) l w =
       absurd (refused-passed _ _ _ (flags-passed flags l) (w .outcome .by))
 
-  pub never-yes : (t i : ℕ) → contradictory k (getD (alternatives (q .pattern)) t []) ≡ true
-      → atRow (stateAt (q .rules) k (q .states)) i (getD (alternatives (q .pattern)) t []) ≡ YES → ⊥
+  pub never-yes : (t i : ℕ) → contradictory k (getD (alternatives (meantBy q)) t []) ≡ true
+      → atRow (stateAt (q .rules) k (q .states)) i (getD (alternatives (meantBy q)) t []) ≡ YES → ⊥
   never-yes t i h y =
       contradictory-row-not-yes (stateAt (q .rules) k (q .states)) k name-codes
-      (getD (alternatives (q .pattern)) t []) h i y
+      (getD (alternatives (meantBy q)) t []) h i y

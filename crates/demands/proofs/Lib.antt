@@ -11,4 +11,5 @@ pub mod Demand3
 pub mod NumberLists
 pub mod MakingNumbers
 pub mod Numbers
+pub mod CaseNames
 pub mod Cases

@@ -15,6 +15,7 @@ use Rattle.basics.specs.declared.Refusal.{Refusal}
 use Rattle.basics.specs.Words.{all}
 use Rattle.basics.proofs.Bools.{never, and-left, and-right}
 use Rattle.alf.specs.declared.Rules.{Rules}
+use Rattle.alf.specs.Values.{oldRules}
 use Rattle.alf.specs.declared.Sort.{Sort}
 use Rattle.alf.specs.States.{among}
 use Rattle.alf.specs.Refusals.{Row, Order, check, numbersOf, RefusedWith, RefusedBy, Comes}
@@ -65,10 +66,10 @@ part-numbers names times states n from to room =
     ∙ ap (λ ns. ns ++ (9 ∷ [])) (rows-numbers _ times states from (to - from)))
 
 -- The orders of the public calls.
-pub numbers : Numbers
+pub numbers : (ρ : Rules) → Numbers ρ
 unfolding numbersOf tokens.order texts.treeOrder writing.order rewriting.treeOrder rewriting.roomOrder
     flagging.flagOrder saidOrder
-numbers =
+numbers ρ =
     record {
       check-names = λ names. refl;
       read-expression = λ names text sort. refl;
@@ -122,13 +123,14 @@ module _ {R : Type 0} {refused : Refusal → R} {allows : R → Type 0} where
   by-order o e a reason = by-rows o e a (λ r x. reason r x .by)
 
 -- the two calls that read tell their refusals in their own words
-text-refused : (names text : List ℕ) (sort : Sort) {x : Read} (r : Refusal) → texts.ReadsText names text sort x
-    → x ≡ refusedBy r → RefusedWith (texts.readOrder names text sort) (r .number) (r .place)
+text-refused : (ρ : Rules) (names text : List ℕ) (sort : Sort) {x : Read} (r : Refusal)
+    → texts.ReadsText ρ names text sort x → x ≡ refusedBy r
+    → RefusedWith (texts.readOrder ρ names text sort) (r .number) (r .place)
 unfolding made refusedBy
-text-refused names text sort r (texts.refused q h) e =
-    subst (λ (f : Refusal). RefusedWith (texts.readOrder names text sort) (f .number) (f .place))
+text-refused ρ names text sort r (texts.refused q h) e =
+    subst (λ (f : Refusal). RefusedWith (texts.readOrder ρ names text sort) (f .number) (f .place))
     (ap (λ (x : Read). x .refusal) e) (h .by)
-text-refused names text sort r (texts.read a g) e = never (ap (λ (x : Read). x .refused) e)
+text-refused ρ names text sort r (texts.read a g) e = never (ap (λ (x : Read). x .refused) e)
 
 file-refused : {file names times states : List ℕ} (n p : ℕ)
     → FileRefused file n p ⊎ RoomRefused file names times states n p → among n fileNumbers ≡ true
@@ -136,11 +138,13 @@ file-refused {file} n p (inl h) =
     let m = markHere file (h .names) (h .rows) in
     let order = markedOrder file (h .names) (h .rows) m in
     one-passes (λ k. among k fileNumbers) (recordNumbers m) n (of-a-file m)
-    (ap (among n) (sym (numbers .read-record file (h .names) (h .rows))) ∙ refused-among order n p (h .refused))
+    (ap (among n) (sym (numbers oldRules .read-record file (h .names) (h .rows)))
+    ∙ refused-among order n p (h .refused))
 file-refused {file} {names} {times} {states} n p (inr h) =
     let order = roomOrder names times states (h .k) (h .n) in
     one-passes (λ k. among k fileNumbers) roomNumbers n of-its-room
-    (ap (among n) (sym (numbers .read-room names times states (h .k) (h .n))) ∙ refused-among order n p (h .refused))
+    (ap (among n) (sym (numbers oldRules .read-room names times states (h .k) (h .n)))
+    ∙ refused-among order n p (h .refused))
 
 making-refused : (text names times states : List ℕ) (n p : ℕ) → RefusedWith (readOrder text names times states) n p
     → among n makingNumbers ≡ true
@@ -153,66 +157,66 @@ pub refused-numbers : {ρ : Rules} → RefusedNumbers ρ
 unfolding all inTable Comes Reads MakesTrace changes.RowChanged Tells Finds Counts pushing.Takes listed.Takes
 refused-numbers {ρ} =
     record {
-      check-names = λ names. by-order _ (numbers .check-names names) refl (λ r x. x);
+      check-names = λ names. by-order _ (numbers ρ .check-names names) refl (λ r x. x);
       read-expression = λ names text sort.
-          by-rows _ (numbers .read-expression names text sort) refl (λ r x. text-refused names text sort r x refl);
+          by-rows _ (numbers ρ .read-expression names text sort) refl (λ r x. text-refused ρ names text sort r x refl);
       write-expression = λ names tree sort out out′.
-          by-order _ (numbers .write-expression names tree sort _) refl (λ r x. x .outcome);
+          by-order _ (numbers ρ .write-expression names tree sort _) refl (λ r x. x .outcome);
       read-trace = λ file names times states names′ times′ states′.
           refuses fileNumbers refl (λ r x. file-refused (r .number) (r .place) (x .0));
       make-trace = λ text names times states names′ times′ states′.
           refuses makingNumbers refl (λ r x. making-refused text names times states (r .number) (r .place) (x .0 .by));
       write-trace = λ names times states n out out′.
-          by-order _ (numbers .write-trace names times states n _) (rows-in-table n) (λ r x. x .outcome);
+          by-order _ (numbers ρ .write-trace names times states n _) (rows-in-table n) (λ r x. x .outcome);
       activity = λ names times states n out out′.
-          by-order _ (numbers .activity names times states n _) (rows-in-table n) (λ r x. x .outcome);
+          by-order _ (numbers ρ .activity names times states n _) (rows-in-table n) (λ r x. x .outcome);
       activity-part = λ names times states n from to out out′.
-          by-order _ (numbers .activity-part names times states n from to _) (rows-in-table (to - from))
+          by-order _ (numbers ρ .activity-part names times states n from to _) (rows-in-table (to - from))
           (λ r x. x .outcome);
-      changes-at = λ names n states row. by-order _ (numbers .changes-at names n states row) refl (λ r x. x);
+      changes-at = λ names n states row. by-order _ (numbers ρ .changes-at names n states row) refl (λ r x. x);
       rewrite = λ names tree steps tests edges operands steps′ tests′ edges′ operands′.
-          by-order _ (numbers .rewrite names tree _ steps tests edges operands) refl (λ r x. x .outcome);
+          by-order _ (numbers ρ .rewrite names tree _ steps tests edges operands) refl (λ r x. x .outcome);
       contradictions = λ names tree flags flags′.
-          by-order _ (numbers .contradictions names tree _ flags) refl (λ r x. x .outcome);
+          by-order _ (numbers ρ .contradictions names tree _ flags) refl (λ r x. x .outcome);
       row-state = λ names n tree states row.
-          by-order _ (numbers .row-state names n tree states row) refl (λ r x. x .comes);
+          by-order _ (numbers ρ .row-state names n tree states row) refl (λ r x. x .comes);
       row-value = λ names n tree states row.
-          by-order _ (numbers .row-state names n tree states row) refl (λ r x. x .comes);
+          by-order _ (numbers ρ .row-state names n tree states row) refl (λ r x. x .comes);
       values = λ names n tree states out out′.
-          by-order _ (numbers .values names n tree states out) refl (λ r x. x .comes);
+          by-order _ (numbers ρ .values names n tree states out) refl (λ r x. x .comes);
       row-answer = λ names n tree states row.
-          by-order _ (numbers .match-row names n tree states row) refl (λ r x. x .comes);
+          by-order _ (numbers ρ .match-row names n tree states row) refl (λ r x. x .comes);
       window-answer = λ names n tree states from to.
-          by-order _ (numbers .match-row names n tree states (max from to)) refl (λ r x. x .comes);
+          by-order _ (numbers ρ .match-row names n tree states (max from to)) refl (λ r x. x .comes);
       match-row = λ names n tree states row.
-          by-order _ (numbers .match-row names n tree states row) refl (λ r x. x .comes);
+          by-order _ (numbers ρ .match-row names n tree states row) refl (λ r x. x .comes);
       match-all = λ names n tree states answers tried answers′ tried′.
-          by-order _ (numbers .match-all names n tree states answers tried) refl (λ r x. x .comes);
-      totals = λ names n tree states. by-order _ (numbers .totals names n tree states) refl (λ r x. x .comes);
+          by-order _ (numbers ρ .match-all names n tree states answers tried) refl (λ r x. x .comes);
+      totals = λ names n tree states. by-order _ (numbers ρ .totals names n tree states) refl (λ r x. x .comes);
       correct = λ names n tree states answers row new states′ answers′.
-          by-order _ (numbers .correct names n tree states answers row new) refl (λ r x. x .comes);
+          by-order _ (numbers ρ .correct names n tree states answers row new) refl (λ r x. x .comes);
       push = λ names tree queue row queue′.
-          by-order _ (numbers .push names tree queue row) refl (λ r x. x .comes .0);
+          by-order _ (numbers ρ .push names tree queue row) refl (λ r x. x .comes .0);
       listed-match-row = λ names n tree steps tests edges operands states row.
-          by-order _ (numbers .listed-match-row names n tree steps tests edges operands states row) refl
+          by-order _ (numbers ρ .listed-match-row names n tree steps tests edges operands states row) refl
           (λ r x. x .comes);
       listed-match-all = λ names n tree steps tests edges operands states answers tried answers′ tried′.
-          by-order _ (numbers .listed-match-all names n tree steps tests edges operands states answers tried) refl
+          by-order _ (numbers ρ .listed-match-all names n tree steps tests edges operands states answers tried) refl
           (λ r x. x .comes);
       listed-totals = λ names n tree steps tests edges operands states.
-          by-order _ (numbers .listed-totals names n tree steps tests edges operands states) refl (λ r x. x .comes);
+          by-order _ (numbers ρ .listed-totals names n tree steps tests edges operands states) refl (λ r x. x .comes);
       listed-push = λ names tree steps tests edges operands queue row queue′.
-          by-order _ (numbers .listed-push names tree steps tests edges operands queue row) refl
+          by-order _ (numbers ρ .listed-push names tree steps tests edges operands queue row) refl
           (λ r x. x .comes .0);
       listed-fits = λ names tree steps tests edges operands.
-          by-order _ (numbers .listed-fits names tree steps tests edges operands) refl (λ r x. x .comes);
+          by-order _ (numbers ρ .listed-fits names tree steps tests edges operands) refl (λ r x. x .comes);
       list = λ names n tree times states out out′.
           by-order _
-          (numbers .list names n tree times states (patternListing ρ names times states (expression tree names))
+          (numbers ρ .list names n tree times states (patternListing ρ names times states (expression ρ tree names))
           (length out)) refl (λ r x. x .comes);
       table-line = λ names n tree states pattern out out′.
           by-order _
-          (numbers .table-line names n tree states (totalsLine ρ names n states pattern (expression tree names))
+          (numbers ρ .table-line names n tree states (totalsLine ρ names n states pattern (expression ρ tree names))
           (length out)) refl (λ r x. x .comes);
-      line = λ text out out′. by-order _ (numbers .line text _) refl (λ r x. x .outcome);
+      line = λ text out out′. by-order _ (numbers ρ .line text _) refl (λ r x. x .outcome);
     }

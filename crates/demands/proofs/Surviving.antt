@@ -30,5 +30,5 @@ module _ {A : Type 0} {into : A → Expression} {sort : Sort} {file text : List 
             (written-within (named q) (tree-accepted q) w (rw (tree-text q) l) (rw (tree-text q) m));
         text-too-long = λ out out′ r l w.
             refused-past-limit (named q) (tree-accepted q) w (rw (tree-text q) l);
-        text-survives = λ out out′ m r w v. read-unique v (written-read w) ∙ ap made (tree-whole q);
+        text-survives = λ out out′ m r w v. read-unique v (written-read (tree-accepted q) w) ∙ ap made (tree-whole q);
       }

@@ -14,25 +14,26 @@ use Rattle.alf.specs.declared.Sort.the-variants as sort
 use Rattle.alf.specs.Expressions.{Boolean, Vector, boolean, vector}
 use Rattle.alf.specs.Values.{valueAt}
 use Rattle.alf.specs.Traces.{corrected}
+use Rattle.alf.specs.Steady.{meant}
 use Rattle.alf.specs.TableT.{names, rows, slots, states, Case, answers, values, correction, numbers, entries}
 use Rattle.reader.specs.Reading.{Gives}
 
--- for the names A, B, C the text gives the pattern p; on T, p answers ns, a number for each row
+-- for the names A, B, C the text gives the pattern p; on T, p, as the rules read it, answers ns, a number for each row
 pub record Answered (ρ : Rules) (text : List ℕ) (p : Vector) (ns : List ℕ) : Type 0 where
-  pub gives : Gives slots text sort.Vector (vector p)
-  pub answers-are : numbers ρ states p ≡ ns
+  pub gives : Gives ρ slots text sort.Vector (vector p)
+  pub answers-are : numbers ρ states (meant ρ p) ≡ ns
 
 -- for the names A, B, C the text gives the boolean expression c; on T, c has the values vs
 pub record Valued (ρ : Rules) (text : List ℕ) (c : Boolean) (vs : List ℕ) : Type 0 where
-  pub gives : Gives slots text sort.Boolean (boolean c)
+  pub gives : Gives ρ slots text sort.Boolean (boolean c)
   pub values-are : listed 0 rows (valueAt ρ names states c) ≡ vs
 
 -- for the names A, B, C the text gives the pattern p; on T with the states `new` in row r, p answers ns, and of a list
 -- of answers the correction of row r rewrites the entries es
 pub record Corrected (ρ : Rules) (text : List ℕ) (p : Vector) (r : ℕ) (new ns es : List ℕ) : Type 0 where
-  pub gives : Gives slots text sort.Vector (vector p)
-  pub answers-are : numbers ρ (corrected names states r new) p ≡ ns
-  pub entries-are : entries p r ≡ es
+  pub gives : Gives ρ slots text sort.Vector (vector p)
+  pub answers-are : numbers ρ (corrected names states r new) (meant ρ p) ≡ ns
+  pub entries-are : entries (meant ρ p) r ≡ es
 
 unfoldable pub Stands : Rules → Case → Type 0
 Stands ρ (answers text p ns) = Answered ρ text p ns

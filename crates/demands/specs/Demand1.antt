@@ -39,9 +39,9 @@ use Rattle.demands.specs.Promises.{Promised, One, Two, Three, Four}
 pub record Demand1 (ρ : Rules) : Type 0 where
   -- texts
   pub check-names : (names : List ℕ) → One (ChecksNames names)
-  pub read-expression : (names text : List ℕ) (sort : Sort) → One (ReadsText names text sort)
+  pub read-expression : (names text : List ℕ) (sort : Sort) → One (ReadsText ρ names text sort)
   -- document 02, [4]: a text that is refused shows what is refused
-  pub read-shows : (names text : List ℕ) (sort : Sort) (r : Read) → ReadsText names text sort r → r .refused ≡ true
+  pub read-shows : (names text : List ℕ) (sort : Sort) (r : Read) → ReadsText ρ names text sort r → r .refused ≡ true
       → ShownAs text (r .refusal .number) (r .refusal .place) (r .refusal .extent)
   pub write-expression : (names tree : List ℕ) (sort : Sort) (out : List ℕ)
       → Promised Refused (λ r m. writing.Writes names tree sort out m r) out
@@ -64,10 +64,10 @@ pub record Demand1 (ρ : Rules) : Type 0 where
   -- rewriting
   pub rewrite : (names : ℕ) (tree steps tests edges operands : List ℕ)
       → Promised {M = Four} Refused
-      (λ r m. Rewrites names tree steps tests edges operands (m .0) (m .1) (m .2) (m .3) r)
+      (λ r m. Rewrites ρ names tree steps tests edges operands (m .0) (m .1) (m .2) (m .3) r)
       (steps, tests, edges, operands)
   pub contradictions : (names : ℕ) (tree flags : List ℕ)
-      → Promised Refused (λ r m. Contradicts names tree flags m r) flags
+      → Promised Refused (λ r m. Contradicts ρ names tree flags m r) flags
   -- rows, for a tree handed in
   pub row-state : (names n : ℕ) (tree states : List ℕ) (row : ℕ) → One (RowState ρ names n tree states row)
   pub row-value : (names n : ℕ) (tree states : List ℕ) (row : ℕ) → One (RowValue ρ names n tree states row)

@@ -29,7 +29,7 @@ use Rattle.matching_calls.specs.declared.matching.Counting.the-variants as coun
 use Rattle.matching_calls.specs.Matching.{RowMatch, FoundAs, AllMatched, RowTotals}
 use Rattle.queue_calls.specs.Pushing.{Push}
 use Rattle.rewritten_laws.specs.WrittenOut.{WrittenOut}
-use Rattle.demands.specs.Questions.{Question, namesOf, treeOf, answerOn, triesOn}
+use Rattle.demands.specs.Questions.{Question, namesOf, treeOf, answerOn, triesOn, meantBy}
 use Rattle.demands.specs.Questions.{answerAt, triesAt}
 use Rattle.demands.specs.Survival.{Survives}
 use Rattle.demands.specs.Lists.{ByLists}
@@ -43,7 +43,7 @@ module _ {file text : List ℕ} (q : Question file text) where
         → RowAnswer (q .rules) (namesOf q) (q .rows) (treeOf q) (q .states) i x → AnsweredAs (answerAt q i) x
     pub on-window : (a b : ℕ) (x : Told) → max a b < q .rows
         → WindowAnswer (q .rules) (namesOf q) (q .rows) (treeOf q) (q .states) a b x
-        → AnsweredAs (numbered (answer (stateAt (q .rules) (namesOf q) (q .states)) (q .pattern) a b)) x
+        → AnsweredAs (numbered (answer (stateAt (q .rules) (namesOf q) (q .states)) (meantBy q) a b)) x
     -- by alternatives, with the number tried: at a row, at all rows
     pub by-alternatives : (i : ℕ) (y : Matching) → i < q .rows
         → RowMatch (q .rules) (namesOf q) (q .rows) (treeOf q) (q .states) i y → FoundAs (answerAt q i) (triesAt q i) y
@@ -68,16 +68,16 @@ module _ {file text : List ℕ} (q : Question file text) where
     -- the totals are of these answers, and yes, no and unknown together are n-1
     pub totals-right : (z : Counting) → RowTotals (q .rules) (namesOf q) (q .rows) (treeOf q) (q .states) z
         → (t : Total) × ((z ≡ counting.Counted t)
-        × Totals (stateAt (q .rules) (namesOf q) (q .states)) (q .pattern) (q .rows) (t .yes) (t .no) (t .unknown)
+        × Totals (stateAt (q .rules) (namesOf q) (q .states)) (meantBy q) (q .rows) (t .yes) (t .no) (t .unknown)
         × (t .yes + t .no + t .unknown ≡ q .rows - 1))
     -- by the lists that `rewrite` writes: accepted, nothing dropped, and the same answers
     pub by-lists : (steps tests edges operands : List ℕ)
-        → WrittenOut (namesOf q) (treeOf q) steps tests edges operands → ByLists q steps tests edges operands
+        → WrittenOut (q .rules) (namesOf q) (treeOf q) steps tests edges operands → ByLists q steps tests edges operands
     -- contradictory alternatives are flagged exactly, and never answer yes
-    pub flagged : (flags flags′ : List ℕ) (r : Outcome) → numberOfAlternatives (q .pattern) ≤ length flags
-        → Contradicts (namesOf q) (treeOf q) flags flags′ r
-        → (r ≡ Done (numberOfAlternatives (q .pattern)))
-        × ((t : ℕ) → t < numberOfAlternatives (q .pattern)
-        → getD flags′ t 0 ≡ (if contradictory (namesOf q) (getD (alternatives (q .pattern)) t []) then 1 else 0))
-    pub never-yes : (t i : ℕ) → contradictory (namesOf q) (getD (alternatives (q .pattern)) t []) ≡ true
-        → atRow (stateAt (q .rules) (namesOf q) (q .states)) i (getD (alternatives (q .pattern)) t []) ≡ YES → ⊥
+    pub flagged : (flags flags′ : List ℕ) (r : Outcome) → numberOfAlternatives (meantBy q) ≤ length flags
+        → Contradicts (q .rules) (namesOf q) (treeOf q) flags flags′ r
+        → (r ≡ Done (numberOfAlternatives (meantBy q)))
+        × ((t : ℕ) → t < numberOfAlternatives (meantBy q)
+        → getD flags′ t 0 ≡ (if contradictory (namesOf q) (getD (alternatives (meantBy q)) t []) then 1 else 0))
+    pub never-yes : (t i : ℕ) → contradictory (namesOf q) (getD (alternatives (meantBy q)) t []) ≡ true
+        → atRow (stateAt (q .rules) (namesOf q) (q .states)) i (getD (alternatives (meantBy q)) t []) ≡ YES → ⊥

@@ -29,7 +29,7 @@ pub record Demand1Jobs (ρ : Rules) : Type 0 where
   pub values-text : (names times states text out : List ℕ)
       → Promised Refused (λ r m. ListsValues ρ names times states text out m r) out
   pub list-values : (times values out : List ℕ) → Promised Refused (λ r m. ValuesText times values out m r) out
-  pub alternatives-text : (names text out : List ℕ) → Single (λ r m. RewritesText names text out m r)
-  pub write-alternatives : (names tree out : List ℕ) → Single (λ r m. WritesAlternatives names tree out m r)
+  pub alternatives-text : (names text out : List ℕ) → Single (λ r m. RewritesText ρ names text out m r)
+  pub write-alternatives : (names tree out : List ℕ) → Single (λ r m. WritesAlternatives ρ names tree out m r)
   pub correct-letters : (names n : ℕ) (states : List ℕ) (row : ℕ) (letters : List ℕ)
       → Promised Refused (λ r m. CorrectsLetters names n states row letters m r) states

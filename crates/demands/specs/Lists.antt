@@ -21,7 +21,7 @@ use Rattle.matching_calls.specs.declared.matching.Counting.the-variants as coun
 use Rattle.matching_calls.specs.Matching.{FoundAs}
 use Rattle.listed_acceptance.specs.Lists.{AcceptedAlternatives}
 use Rattle.listed_calls.specs.Listed.{ListedMatch, ListedAll, ListedTotals, ListedPush}
-use Rattle.demands.specs.Questions.{Question, namesOf, treeOf, answerOn, triesOn}
+use Rattle.demands.specs.Questions.{Question, namesOf, treeOf, answerOn, triesOn, meantBy}
 use Rattle.demands.specs.Questions.{answerAt, triesAt}
 
 -- What `rewrite` writes for a pattern: the calls that take alternatives as lists accept it, and answer as by the tree.
@@ -29,7 +29,7 @@ module _ {file text : List ℕ} (q : Question file text) (steps tests edges oper
   pub record ByLists : Type 0 where
     -- the lists are accepted, and stand for all of the pattern's alternatives, contradictory ones too, in their order
     pub accepted : AcceptedAlternatives (namesOf q) (treeOf q) steps tests edges operands
-    pub all-kept : alternativesOf (treeOf q) (namesOf q) steps tests edges operands ≡ alternatives (q .pattern)
+    pub all-kept : alternativesOf (treeOf q) (namesOf q) steps tests edges operands ≡ alternatives (meantBy q)
     -- at a row, at all rows, the totals
     pub at-row : (i : ℕ) (y : Matching) → i < q .rows
         → ListedMatch (q .rules) (namesOf q) (q .rows) (treeOf q) steps tests edges operands (q .states) i y
@@ -44,7 +44,7 @@ module _ {file text : List ℕ} (q : Question file text) (steps tests edges oper
     pub counted : (z : Counting)
         → ListedTotals (q .rules) (namesOf q) (q .rows) (treeOf q) steps tests edges operands (q .states) z
         → (t : Total) × ((z ≡ counting.Counted t)
-        × Totals (stateAt (q .rules) (namesOf q) (q .states)) (q .pattern) (q .rows) (t .yes) (t .no) (t .unknown)
+        × Totals (stateAt (q .rules) (namesOf q) (q .states)) (meantBy q) (q .rows) (t .yes) (t .no) (t .unknown)
         × (t .yes + t .no + t .unknown ≡ q .rows - 1))
     -- by the queue, for any rows and any number of pushes
     pub fed-to : (n : ℕ) (rows : ℕ → List ℕ) (queues : ℕ → Queue) (results : ℕ → Matching)

@@ -72,9 +72,9 @@ use Rattle.demands.specs.CallNumbers.{
 
 -- The orders of the calls have these numbers. `row-state` is also the order of `row-value`; `match-row` that of
 -- `row-answer` and, at the later of its two rows, of `window-answer`.
-pub record Numbers : Type 0 where
+pub record Numbers (ρ : Rules) : Type 0 where
   pub check-names : (names : List ℕ) → numbersOf (namesOrder names) ≡ namesNumbers
-  pub read-expression : (names text : List ℕ) (sort : Sort) → numbersOf (readOrder names text sort) ≡ textNumbers
+  pub read-expression : (names text : List ℕ) (sort : Sort) → numbersOf (readOrder ρ names text sort) ≡ textNumbers
   pub write-expression : (names tree : List ℕ) (sort : Sort) (room : ℕ)
       → numbersOf (writing.order names tree sort room) ≡ writingNumbers
   pub read-record : (file : List ℕ) (k r : ℕ)
@@ -94,25 +94,25 @@ pub record Numbers : Type 0 where
   pub changes-at : (names n : ℕ) (states : List ℕ) (row : ℕ)
       → numbersOf (changes.order names n states row) ≡ changesNumbers
   pub rewrite : (names : ℕ) (tree : List ℕ) (xs : List Alternative) (steps tests edges operands : List ℕ)
-      → numbersOf (rewriting.treeOrder names tree (rewriting.roomOrder xs steps tests edges operands))
+      → numbersOf (rewriting.treeOrder ρ names tree (rewriting.roomOrder xs steps tests edges operands))
       ≡ rewritingNumbers
   pub contradictions : (names : ℕ) (tree : List ℕ) (xs : List Alternative) (flags : List ℕ)
-      → numbersOf (rewriting.treeOrder names tree (flagging.flagOrder names xs flags)) ≡ flagNumbers
+      → numbersOf (rewriting.treeOrder ρ names tree (flagging.flagOrder names xs flags)) ≡ flagNumbers
   pub row-state : (names n : ℕ) (tree states : List ℕ) (row : ℕ)
-      → numbersOf (judging.rowOrder names n tree Boolean states row) ≡ rowNumbers
+      → numbersOf (judging.rowOrder ρ names n tree Boolean states row) ≡ rowNumbers
   pub values : (names n : ℕ) (tree states out : List ℕ)
-      → numbersOf (judging.rowsOrder names n (length out ≡ n) tree Boolean states) ≡ rowsNumbers
+      → numbersOf (judging.rowsOrder ρ names n (length out ≡ n) tree Boolean states) ≡ rowsNumbers
   pub match-row : (names n : ℕ) (tree states : List ℕ) (row : ℕ)
-      → numbersOf (judging.rowOrder names n tree Vector states row) ≡ rowNumbers
+      → numbersOf (judging.rowOrder ρ names n tree Vector states row) ≡ rowNumbers
   pub match-all : (names n : ℕ) (tree states answers tried : List ℕ)
-      → numbersOf (judging.rowsOrder names n ((length answers ≡ n) × (length tried ≡ n)) tree Vector states)
+      → numbersOf (judging.rowsOrder ρ names n ((length answers ≡ n) × (length tried ≡ n)) tree Vector states)
       ≡ rowsNumbers
   pub totals : (names n : ℕ) (tree states : List ℕ)
-      → numbersOf (judging.traceOrder names n tree Vector states) ≡ rowsNumbers
+      → numbersOf (judging.traceOrder ρ names n tree Vector states) ≡ rowsNumbers
   pub correct : (names n : ℕ) (tree states answers : List ℕ) (row : ℕ) (new : List ℕ)
-      → numbersOf (correctionOrder names n tree states answers row new) ≡ correctionNumbers
+      → numbersOf (correctionOrder ρ names n tree states answers row new) ≡ correctionNumbers
   pub push : (names : ℕ) (tree : List ℕ) (queue : Queue) (row : List ℕ)
-      → numbersOf (pushOrder names tree queue row) ≡ rowsNumbers
+      → numbersOf (pushOrder ρ names tree queue row) ≡ rowsNumbers
   pub listed-match-row : (names n : ℕ) (tree steps tests edges operands states : List ℕ) (row : ℕ)
       → numbersOf (listed.rowOrder names n tree steps tests edges operands states row) ≡ rowNumbers
   pub listed-match-all : (names n : ℕ) (tree steps tests edges operands states answers tried : List ℕ)
@@ -127,10 +127,10 @@ pub record Numbers : Type 0 where
       → numbersOf (fitsOrder names tree steps tests edges operands) ≡ fitsNumbers
   pub list : (names n : ℕ) (tree times states text : List ℕ) (room : ℕ)
       → numbersOf
-      (textOrder ((length times ≡ n) × judging.Rows names n (length states)) names tree states text room)
+      (textOrder ρ ((length times ≡ n) × judging.Rows names n (length states)) names tree states text room)
       ≡ textNumbersOfTree
   pub table-line : (names n : ℕ) (tree states text : List ℕ) (room : ℕ)
-      → numbersOf (textOrder (judging.Rows names n (length states)) names tree states text room)
+      → numbersOf (textOrder ρ (judging.Rows names n (length states)) names tree states text room)
       ≡ textNumbersOfTree
   pub line : (text : List ℕ) (room : ℕ) → numbersOf (lineOrder text room) ≡ lineNumbers
 
@@ -147,7 +147,7 @@ pub record Refuses {R : Type 0} (refused : Refusal → R) (allows : R → Type 0
 pub record RefusedNumbers (ρ : Rules) : Type 0 where
   pub check-names : (names : List ℕ) → Refuses Refused (ChecksNames names) namesNumbers
   pub read-expression : (names text : List ℕ) (sort : Sort)
-      → Refuses refusedBy (ReadsText names text sort) textNumbers
+      → Refuses refusedBy (ReadsText ρ names text sort) textNumbers
   pub write-expression : (names tree : List ℕ) (sort : Sort) (out out′ : List ℕ)
       → Refuses Refused (writing.Writes names tree sort out out′) writingNumbers
   pub read-trace : (file names times states names′ times′ states′ : List ℕ)
@@ -164,10 +164,10 @@ pub record RefusedNumbers (ρ : Rules) : Type 0 where
       → Refuses row-changes.Refused (changes.RowChanged names n states row) changesNumbers
   pub rewrite : (names : ℕ) (tree steps tests edges operands steps′ tests′ edges′ operands′ : List ℕ)
       → Refuses Refused
-      (rewriting.Rewrites names tree steps tests edges operands steps′ tests′ edges′ operands′)
+      (rewriting.Rewrites ρ names tree steps tests edges operands steps′ tests′ edges′ operands′)
       rewritingNumbers
   pub contradictions : (names : ℕ) (tree flags flags′ : List ℕ)
-      → Refuses Refused (flagging.Contradicts names tree flags flags′) flagNumbers
+      → Refuses Refused (flagging.Contradicts ρ names tree flags flags′) flagNumbers
   pub row-state : (names n : ℕ) (tree states : List ℕ) (row : ℕ)
       → Refuses Refused (RowState ρ names n tree states row) rowNumbers
   pub row-value : (names n : ℕ) (tree states : List ℕ) (row : ℕ)

@@ -5,6 +5,7 @@
 -- so a question is as good as a trace and an accepted tree.
 --   Asked                     the file, the text, and what document 01 reads in them
 --   Question, Formula         asked for a vector expression, a pattern; for a boolean expression
+--   meantBy                   a pattern as the rules read it (document 02, [2])
 --   answerOn, triesOn         a pattern's answer at a row of a trace, and how many alternatives are tried there
 --   answerAt, triesAt         the same on the question's own trace
 --   valueOf, stateOf          a boolean expression's value and state at a row of the question's trace
@@ -23,6 +24,7 @@ use Rattle.alf.specs.declared.Rules.{Rules}
 use Rattle.alf.specs.Values.{stateAt, valueAt}
 use Rattle.alf.specs.Windows.{rowAnswer}
 use Rattle.alf.specs.Alternatives.{alternatives, tries, stepsOf}
+use Rattle.alf.specs.Steady.{meant}
 use Rattle.trace_format.specs.Format.{Trace, Fitting, fileIn}
 use Rattle.reader.specs.Reading.{Gives}
 
@@ -37,7 +39,7 @@ pub record Asked {A : Type 0} (into : A → Expression) (sort : Sort) (file text
   pub fitting : Fitting widths times rows
   pub read : file ≡ fileIn widths names times states rows
   pub pattern : A
-  pub given : Gives names text sort (into pattern)
+  pub given : Gives rules names text sort (into pattern)
 
 abbrev pub Question : List ℕ → List ℕ → Type 0
 Question = Asked vector sort.Vector
@@ -54,13 +56,17 @@ module _ {A : Type 0} {into : A → Expression} {sort : Sort} {file text : List 
   treeOf q = bytesOf (into (q .pattern))
 
 module _ {file text : List ℕ} where
+  -- the pattern as the rules read it
+  abbrev pub meantBy : Question file text → Vector
+  meantBy q = meant (q .rules) (q .pattern)
+
   -- the answer of the pattern at a row of a trace with the question's names, as document 01 defines and numbers it; and
   -- how many of its alternatives are tried there
   abbrev pub answerOn : Question file text → List ℕ → ℕ → ℕ
-  answerOn q states = rowAnswer (stateAt (q .rules) (namesOf q) states) (q .pattern)
+  answerOn q states = rowAnswer (stateAt (q .rules) (namesOf q) states) (meantBy q)
 
   abbrev pub triesOn : Question file text → List ℕ → ℕ → ℕ
-  triesOn q states = tries (stateAt (q .rules) (namesOf q) states) (alternatives (q .pattern))
+  triesOn q states = tries (stateAt (q .rules) (namesOf q) states) (alternatives (meantBy q))
 
   -- on the question's own trace
   abbrev pub answerAt : Question file text → ℕ → ℕ
@@ -71,7 +77,7 @@ module _ {file text : List ℕ} where
 
   -- the steps of the longest alternative
   abbrev pub K : Question file text → ℕ
-  K q = stepsOf (q .pattern)
+  K q = stepsOf (meantBy q)
 
   -- the value and the state of a boolean expression at a row
   abbrev pub valueOf : Formula file text → ℕ → ℕ

@@ -51,7 +51,7 @@ module _ {A : Type 0} {into : A → Expression} {sort : Sort} {file text : List 
     pub file-same : needlessRows file (namesOf q) (q .rows) ≡ 0 → fileAgain ≡ file
     pub file-shorter : length file ≡ length fileAgain + 4 * needlessRows file (namesOf q) (q .rows)
     -- a text of at most 4,096 bytes is read as its expression
-    pub text-read : (r : texts.Read) → length text ≤ 4096 → ReadsText (q .names) text sort r
+    pub text-read : (r : texts.Read) → length text ≤ 4096 → ReadsText (q .rules) (q .names) text sort r
         → r ≡ made (into (q .pattern))
     -- the expression is written, given room, where its text has at most 4,096 bytes; else that is refused
     pub text-written : (out out′ : List ℕ) (r : Outcome) → length textOf ≤ 4096
@@ -61,5 +61,5 @@ module _ {A : Type 0} {into : A → Expression} {sort : Sort} {file text : List 
         → Writes (q .names) (treeOf q) sort out out′ r → (r ≡ Refused (refusal 1 4096)) × (out′ ≡ out)
     -- what is written is read again as it was
     pub text-survives : (out out′ : List ℕ) (m : ℕ) (r : texts.Read)
-        → Writes (q .names) (treeOf q) sort out out′ (Done m) → ReadsText (q .names) (take m out′) sort r
+        → Writes (q .names) (treeOf q) sort out out′ (Done m) → ReadsText (q .rules) (q .names) (take m out′) sort r
         → r ≡ made (into (q .pattern))

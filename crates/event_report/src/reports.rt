@@ -1,6 +1,7 @@
 // A report as a line has it, its words separated by blanks: `=`, a letter for each name, the number of rows, and for
 // each row the time, a colon and the states.
 ghost use Prim.Native.Nat.{_≤_};
+use alf::Rules;
 use alf::Sort;
 use reader::Read;
 use reader::read_expression;
@@ -111,8 +112,8 @@ fn list_of(letters: &[u8]) -> [u8; 160] {
 }
 
 // A text over the names of a report.
-pub fn read(report: &[u8], text: &[u8]) -> Read {
+pub fn read(rules: Rules, report: &[u8], text: &[u8]) -> Read {
     let names = list_of(part(report, 1, b' '));
     let end = 32 * names_of(report);
-    read_expression(&names[0..end], text, Sort::Vector)
+    read_expression(rules, &names[0..end], text, Sort::Vector)
 }

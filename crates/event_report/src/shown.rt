@@ -20,6 +20,7 @@ use run_printing::printing::number;
 use run_printing::printing::refusal;
 use run_printing::printing::write;
 use run_words::lists::zeros;
+use states::rules::old_rules;
 use text_parts::lines::behind_line;
 use text_parts::lines::line_at;
 use text_parts::parts::front;
@@ -116,11 +117,10 @@ fn show_tree(rules: Rules, report: &[u8], tree: &[u8]) {
     let states = states_of(report);
     let n = rows_of(report);
     let end = size_of(names_of(report), n);
-    write(b"\n  windows:     ");
+    write(b"\n    windows:     ");
     windows(rules, report, n, tree, &states[0..end]);
-    write(b"\n  alternatives:");
+    write(b"\n    alternatives:");
     alternatives(rules, report, n, tree, &states[0..end]);
-    character(b'\n');
 }
 
 fn show_read(rules: Rules, report: &[u8], tree: &[u8; 256], len: usize) {
@@ -128,44 +128,53 @@ fn show_read(rules: Rules, report: &[u8], tree: &[u8; 256], len: usize) {
 }
 
 fn show_text(rules: Rules, report: &[u8], text: &[u8]) {
-    let r = read(report, text);
+    let r = read(rules, report, text);
     let refused = r.refused;
     if refused {
-        refusal(r.refusal);
-        return character(b'\n');
+        return refusal(r.refusal);
     }
     let tree = r.tree;
     show_read(rules, report, &tree, r.len);
 }
 
+fn steady_rules() -> Rules {
+    let mut rules = old_rules();
+    rules.steady_pins = true;
+    rules
+}
+
 // A case: its parts are separated by `;`, the report, a label, an expression, and the times stated.
-fn show_case(rules: Rules, report: &[u8], line: &[u8]) {
+fn show_case(report: &[u8], line: &[u8]) {
     write(part(line, 1, b';'));
     write(b": ");
     write(part(line, 2, b';'));
-    write(b"\n  000:          ");
+    write(b"\n  000:            ");
     write(part(line, 3, b';'));
-    show_text(rules, report, part(line, 2, b';'));
+    write(b"\n  pins free");
+    show_text(old_rules(), report, part(line, 2, b';'));
+    write(b"\n  pins steady");
+    show_text(steady_rules(), report, part(line, 2, b';'));
+    character(b'\n');
 }
 
 // A line that is empty or starts with `#` is a remark; one that starts with `=` is a report.
-fn show_line(rules: Rules, input: &[u8], line: &[u8]) {
+fn show_line(input: &[u8], line: &[u8]) {
     if line.len() == 0 {
         return;
     }
     match line[0] {
         b'#' | b'=' => return,
-        b'w' => show_case(rules, part(input, 0, b'\n'), line),
-        b'n' => show_case(rules, part(input, 1, b'\n'), line),
+        b'w' => show_case(part(input, 0, b'\n'), line),
+        b'n' => show_case(part(input, 1, b'\n'), line),
         _ => broken(line),
     }
 }
 
 // Each line of the input, of which the first two are the reports.
-pub fn show_lines(rules: Rules, input: &[u8]) {
+pub fn show_lines(input: &[u8]) {
     let mut at: usize = 0;
     while at < input.len() {
-        show_line(rules, input, line_at(input, at));
+        show_line(input, line_at(input, at));
         at = behind_line(input, at);
     }
 }

@@ -18,7 +18,7 @@ use Rattle.basics.specs.declared.Refusal.{Refusal}
 use Rattle.basics.specs.declared.Outcome.{Outcome}
 use Rattle.basics.specs.declared.Outcome.the-variants.{Done, Refused}
 use Rattle.basics.specs.Words.{listed}
-use Rattle.alf.specs.Expressions.{boolean, vector, Over, ExpressionOver}
+use Rattle.alf.specs.Expressions.{Vector, boolean, vector, Over, ExpressionOver}
 use Rattle.alf.specs.Decoder.{topBoolean, topVector, Decodes}
 use Rattle.alf.specs.Values.{rowOf, valueAt}
 use Rattle.alf.specs.Refusals.{Order, check, bad-lists, bad-code, no-room, RefusedWith, RefusedBy, Passed, Comes}
@@ -26,6 +26,7 @@ use Rattle.basics.proofs.Bools.{below?}
 use Rattle.alf.proofs.Decoding.{decode-over}
 use Rattle.basics.proofs.Listed.{listed-length}
 use Rattle.alf.proofs.Orders.{none-first, by-first}
+use Rattle.alf.specs.Steady.{meant}
 use Rattle.trees.specs.Parts.{booleanAt, vectorAt}
 use Rattle.acceptance.specs.Accepted.{Accepted}
 use Rattle.acceptance.proofs.Acceptance.{decoded, accepted-decodes}
@@ -68,16 +69,16 @@ module _ (lent P Q : Type 0) (l : lent) (q : Q) (rest : Order) where
   lent-comes made (Refused r) h = lent-by h
 
 -- what an accepted tree is, by its sort
-pub tree-vector : (ρ : Rules) (k : ℕ) (times states tree : List ℕ) → Accepted k the-sort.Vector tree
-    → treeListing ρ k times states tree ≡ patternListing ρ k times states (vectorAt tree k (length tree))
+pub tree-vector : (ρ : Rules) (k : ℕ) (times states tree : List ℕ) → Accepted ρ k the-sort.Vector tree
+    → treeListing ρ k times states tree ≡ patternListing ρ k times states (meant ρ (vectorAt tree k (length tree)))
 unfolding Decodes topVector listingOf
 tree-vector ρ k times states tree a =
     let v = sorted-vector (a .expression) (a .sorted) in
     let d : Decodes k tree (vector (v .p)) = rw (v .is-vector) at (accepted-decodes a) in
     ap (listingOf ρ k times states) (decoded k tree (vector (v .p)) d)
-    ∙ ap (patternListing ρ k times states) (sym (ap topVector d))
+    ∙ ap (λ (p : Vector). patternListing ρ k times states (meant ρ p)) (sym (ap topVector d))
 
-pub tree-boolean : (ρ : Rules) (k : ℕ) (times states tree : List ℕ) → Accepted k the-sort.Boolean tree
+pub tree-boolean : (ρ : Rules) (k : ℕ) (times states tree : List ℕ) → Accepted ρ k the-sort.Boolean tree
     → treeListing ρ k times states tree ≡ valueListing ρ k times states (booleanAt tree k (length tree))
 unfolding Decodes topBoolean listingOf
 tree-boolean ρ k times states tree a =
@@ -86,7 +87,8 @@ tree-boolean ρ k times states tree a =
     ap (listingOf ρ k times states) (decoded k tree (boolean (b .c)) d)
     ∙ ap (valueListing ρ k times states) (sym (ap topBoolean d))
 
-tree-over : (k : ℕ) (tree : List ℕ) → Accepted k the-sort.Boolean tree → Over k (booleanAt tree k (length tree))
+tree-over : {ρ : Rules} (k : ℕ) (tree : List ℕ) → Accepted ρ k the-sort.Boolean tree
+    → Over k (booleanAt tree k (length tree))
 unfolding Decodes topBoolean ExpressionOver
 tree-over k tree a =
     let b = sorted-boolean (a .expression) (a .sorted) in
@@ -98,12 +100,13 @@ pub text-as : {k : ℕ} {times states v w out out′ : List ℕ} {r : Outcome} �
     → RowsText k times states w out out′ r
 text-as e h = rw e at h
 
-pub accepted-as : {s sort : Sort} {k : ℕ} {tree : List ℕ} → sort ≡ s → Accepted k sort tree → Accepted k s tree
+pub accepted-as : {ρ : Rules} {s sort : Sort} {k : ℕ} {tree : List ℕ} → sort ≡ s → Accepted ρ k sort tree
+    → Accepted ρ k s tree
 accepted-as e h = rw e at h
 
 -- a pattern's tree
 pub pattern-listed : {ρ : Rules} {k : ℕ} {tree times states out out′ : List ℕ} {r : Outcome}
-    → Accepted k the-sort.Vector tree
+    → Accepted ρ k the-sort.Vector tree
     → ListsTree ρ k (length times) tree times states out out′ r
     → RowsText k times states (treeListing ρ k times states tree) out out′ r
 pattern-listed {ρ} {k} {tree} {times} {states} {r = r} a h =
@@ -129,10 +132,10 @@ recorded states s i = go (below? i (length states))
     go (inr h) = rw (List·getD-eq-default states 0 h) (omega arith)
 
 -- a boolean expression's tree: the listing of values that are codes
-module _ (k : ℕ) (tree times states values : List ℕ) (lent : Type 0)
+module _ (ρ : Rules) (k : ℕ) (tree times states values : List ℕ) (lent : Type 0)
     (e : length values ≡ length times) (good : Codes states → (i : ℕ) → i < length values → getD values i 0 ≤ 7)
   where
-    refused-as : (room : ℕ) → Passed (calls.rowsOrder k (length times) lent tree the-sort.Boolean states)
+    refused-as : (room : ℕ) → Passed (calls.rowsOrder ρ k (length times) lent tree the-sort.Boolean states)
         → (i j : ℕ) → RefusedWith (listOrder times values room) i j
         → RefusedWith (rowsOrder k times states (check 9 (no-room (length (valuesListing times values)) room) ∷ [])) i j
     unfolding Passed RefusedWith
@@ -148,7 +151,7 @@ module _ (k : ℕ) (tree times states values : List ℕ) (lent : Type 0)
         inr (lent-18 lent _ n, inr (s, inl (x, a)))
     refused-as room (n, (m, (s, u))) i j (inr (b, inr (c, inr (d, h)))) = absurd h
 
-    listed-as : (room : ℕ) → Passed (calls.rowsOrder k (length times) lent tree the-sort.Boolean states)
+    listed-as : (room : ℕ) → Passed (calls.rowsOrder ρ k (length times) lent tree the-sort.Boolean states)
         → (o : Outcome)
         → Comes (listOrder times values room) (λ m. m ≡ length (valuesListing times values)) o
         → Comes (rowsOrder k times states (check 9 (no-room (length (valuesListing times values)) room) ∷ []))
@@ -159,7 +162,7 @@ module _ (k : ℕ) (tree times states values : List ℕ) (lent : Type 0)
     listed-as room q (Refused r) h = record { by = refused-as room q _ _ (h .by); bare = h .bare }
 
 module _ {ρ : Rules} {k : ℕ} {tree times states codes codes′ : List ℕ} {o : Outcome}
-    (accepted : Accepted k the-sort.Boolean tree) (size : length codes ≡ length times)
+    (accepted : Accepted ρ k the-sort.Boolean tree) (size : length codes ≡ length times)
     (h : AllValues ρ k (length times) tree states codes codes′ o) where
   pub states-refused : {out : List ℕ} {r : Refusal} → o ≡ Refused r
       → RowsText k times states (treeListing ρ k times states tree) out out (Refused r)
@@ -187,7 +190,7 @@ module _ {ρ : Rules} {k : ℕ} {tree times states codes codes′ : List ℕ} {o
       text-as (sym (tree-boolean ρ k times states tree accepted))
       (record {
         outcome =
-            listed-as k tree times states (listed 0 (length times) f) (length codes ≡ length times)
+            listed-as ρ k tree times states (listed 0 (length times) f) (length codes ≡ length times)
             (listed-length 0 (length times) f)
             (λ s. listed-most 7 (length times) f (λ i. let z = few s i in omega arith))
             (length out) ((rw e at (h .comes)) .0) r (w .outcome);

@@ -15,6 +15,7 @@ use Rattle.alf.specs.declared.Rules.{Rules}
 use Rattle.alf.specs.Expressions.{Boolean, Expression, boolean, vector}
 use Rattle.alf.specs.Values.{valueAt}
 use Rattle.alf.specs.Refusals.{Order, check, bad-lists, bad-code, no-room, Comes}
+use Rattle.alf.specs.Steady.{meant}
 use Rattle.trees.specs.Parts.{expressionAt}
 use Rattle.judging.specs.Orders.{Rows}
 use Rattle.listing.specs.Listing.{valuesListing}
@@ -36,10 +37,10 @@ pub record RowsText (k : ℕ) (times states text out out′ : List ℕ) (r : Out
       (λ m. m ≡ length text) r
   pub memory : out′ ≡ after (front text out) out r
 
--- of an expression of either sort; of that which a tree is
+-- of an expression of either sort, a pattern as the rules read it; of that which a tree is
 unfoldable pub listingOf : Rules → ℕ → List ℕ → List ℕ → Expression → List ℕ
 listingOf ρ k times states (boolean c) = valueListing ρ k times states c
-listingOf ρ k times states (vector p) = patternListing ρ k times states p
+listingOf ρ k times states (vector p) = patternListing ρ k times states (meant ρ p)
 
 abbrev pub treeListing : Rules → ℕ → List ℕ → List ℕ → List ℕ → List ℕ
 treeListing ρ k times states tree = listingOf ρ k times states (expressionAt tree k (length tree))

@@ -23,7 +23,7 @@ fn list_states(
     codes: &mut [u8],
     out: &mut [u8],
 ) -> Outcome
-    requires { ⌜ Accepted k Boolean (now tree) ⌝ }
+    requires { ⌜ Accepted rules k Boolean (now tree) ⌝ }
     requires { ⌜ length (now codes) ≡ length (now times) ⌝ }
     ensures { λ r. ⌜ RowsText k (now (times .entry)) (now (states .entry))
         (treeListing rules k (now (times .entry)) (now (states .entry)) (now (tree .entry)))
@@ -46,7 +46,7 @@ fn list_front(
     codes: &mut [u8],
     out: &mut [u8],
 ) -> Outcome
-    requires { ⌜ Accepted k Boolean (now tree) ⌝ }
+    requires { ⌜ Accepted rules k Boolean (now tree) ⌝ }
     requires { ⌜ length (now codes) ≡ 65535 ⌝ }
     ensures { λ r. ⌜ RowsText k (now (times .entry)) (now (states .entry))
         (treeListing rules k (now (times .entry)) (now (states .entry)) (now (tree .entry)))
@@ -68,7 +68,7 @@ fn list_lent(
     codes: &mut [u8; 65535],
     out: &mut [u8],
 ) -> Outcome
-    requires { ⌜ Accepted k Boolean (now tree) ⌝ }
+    requires { ⌜ Accepted rules k Boolean (now tree) ⌝ }
     ensures { λ r. ⌜ RowsText k (now (times .entry)) (now (states .entry))
         (treeListing rules k (now (times .entry)) (now (states .entry)) (now (tree .entry)))
         (now (out .entry)) (now (out .exit)) r ⌝ }
@@ -85,7 +85,7 @@ fn list_boolean(
     states: &[u8],
     out: &mut [u8],
 ) -> Outcome
-    requires { ⌜ Accepted k Boolean (now tree) ⌝ }
+    requires { ⌜ Accepted rules k Boolean (now tree) ⌝ }
     ensures { λ r. ⌜ RowsText k (now (times .entry)) (now (states .entry))
         (treeListing rules k (now (times .entry)) (now (states .entry)) (now (tree .entry)))
         (now (out .entry)) (now (out .exit)) r ⌝ }
@@ -104,7 +104,7 @@ pub fn list_tree(
     states: &[u8],
     out: &mut [u8],
 ) -> Outcome
-    requires { ⌜ Accepted k sort (now tree) ⌝ }
+    requires { ⌜ Accepted rules k sort (now tree) ⌝ }
     ensures { λ r. ⌜ RowsText k (now (times .entry)) (now (states .entry))
         (treeListing rules k (now (times .entry)) (now (states .entry)) (now (tree .entry)))
         (now (out .entry)) (now (out .exit)) r ⌝ }

@@ -15,6 +15,7 @@ use Rattle.alf.specs.Names.{namesIn}
 use Rattle.basics.specs.declared.Refusal.{Refusal}
 use Rattle.basics.specs.Words.{if_then_else_, sumOf}
 use Rattle.alf.specs.Values.{stateAt}
+use Rattle.alf.specs.Steady.{meant}
 use Rattle.basics.proofs.AllEntries.{All, none, more, all-weaken}
 use Rattle.alf.proofs.Totals.{totals-sum}
 use Rattle.matcher.specs.declared.tables.Total.{Total}
@@ -145,7 +146,7 @@ unfolding CountsIn yesOf unknownOf noOf
 counted-modest {ρ} {names} {n} {states} (Counted t) h =
     let (some, few) = counted-rows h in
     let k = h .comes .1 in
-    let e = totals-sum (stateAt ρ (namesIn names) states) (k .pattern) n some in
+    let e = totals-sum (stateAt ρ (namesIn names) states) (meant ρ (k .pattern)) n some in
     let y = k .totals .yeses in
     let u = k .totals .unknowns in
     let o = k .totals .noes in

@@ -14,6 +14,7 @@ use native.Mathlib.Omega.{arith}
 use lib.ListN.{length}
 use Rattle.basics.specs.declared.Refusal.{Refusal}
 use Rattle.basics.specs.Refusing.{refusal}
+use Rattle.alf.specs.declared.Rules.{Rules}
 use Rattle.alf.specs.declared.Sort.{Sort}
 use Rattle.alf.specs.Refusals.{RefusedWith, Passed}
 use Rattle.alf.proofs.Orders.{plainly}
@@ -74,20 +75,20 @@ judges-row x y e =
     rw e (record { is = judged-facts (λ ((f, g, h), k). (f, g, (h, k))) (judged-next (x .is) y) })
 
 -- of a tree and a trace
-module _ (names n : ℕ) (tree : List ℕ) (sort : Sort) (states : List ℕ) (fits good : Bool)
-    (g : Decides good (Accepted names sort tree)) {v : Verdict} where
+module _ (ρ : Rules) (names n : ℕ) (tree : List ℕ) (sort : Sort) (states : List ℕ) (fits good : Bool)
+    (g : Decides good (Accepted ρ names sort tree)) {v : Verdict} where
   pub checks-row : {row : ℕ} → Decides fits (Rows names n (length states)) → JudgesRow fits good states n row v
-      → ChecksRow names n tree sort states row v
+      → ChecksRow ρ names n tree sort states row v
   checks-row f j = record { is = judged-as fits good _ _ f (λ x. g) _ (j .is) }
 
   pub checks-rows : (lent : Bool) → Decides fits ((lent ≡ true) × Rows names n (length states))
-      → JudgesTrace fits good states v → ChecksRows names n lent tree sort states v
+      → JudgesTrace fits good states v → ChecksRows ρ names n lent tree sort states v
   checks-rows lent f j = record { is = judged-as fits good _ _ f (λ x. g) _ (j .is) }
 
 -- by what is decided of the lists lent
-pub lent-as : (names n : ℕ) (tree : List ℕ) (sort : Sort) (states : List ℕ) (lent : Bool) (P : Type 0)
-    → Decides lent P → {v : Verdict} → ChecksRows names n lent tree sort states v
-    → Judged (rowsOrder names n P tree sort states)
-    ((P × Rows names n (length states)) × Accepted names sort tree × Codes states) v
-lent-as names n tree sort states lent P d c =
+pub lent-as : (ρ : Rules) (names n : ℕ) (tree : List ℕ) (sort : Sort) (states : List ℕ) (lent : Bool) (P : Type 0)
+    → Decides lent P → {v : Verdict} → ChecksRows ρ names n lent tree sort states v
+    → Judged (rowsOrder ρ names n P tree sort states)
+    ((P × Rows names n (length states)) × Accepted ρ names sort tree × Codes states) v
+lent-as ρ names n tree sort states lent P d c =
     lists-as (λ (x, l). (told lent d x, l)) (λ (x, l). (tells lent d x, l)) (c .is)

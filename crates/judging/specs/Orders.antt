@@ -13,6 +13,7 @@ use mathlib.Core.Bool.{Bool, true}
 use mathlib.Core.List.{List, [], _∷_}
 use lib.ListN.{length}
 use Rattle.basics.specs.declared.Refusal.{Refusal}
+use Rattle.alf.specs.declared.Rules.{Rules}
 use Rattle.alf.specs.declared.Sort.{Sort}
 use Rattle.alf.specs.Refusals.{Order, check, bad-lists, cannot-be, bad-code, no-such-row, NameCount, RowCount}
 use Rattle.alf.specs.Refusals.{At, RefusedBy, Passed}
@@ -44,19 +45,19 @@ codesCorrection states new n row =
     check 15 (bad-code states) ∷ check 15 (bad-code new) ∷ check 19 (no-such-row row n) ∷ []
 
 -- a tree and a row of a trace: 18, 10, 15, 19
-abbrev pub rowOrder : ℕ → ℕ → List ℕ → Sort → List ℕ → ℕ → Order
-rowOrder names n tree sort states row =
-    order (Rows names n (length states)) (Accepted names sort tree) (codesRow states n row)
+abbrev pub rowOrder : Rules → ℕ → ℕ → List ℕ → Sort → List ℕ → ℕ → Order
+rowOrder ρ names n tree sort states row =
+    order (Rows names n (length states)) (Accepted ρ names sort tree) (codesRow states n row)
 
 -- a tree, all rows of a trace, and lists lent that are right if `lent` is so: 18, 10, 15
-abbrev pub rowsOrder : ℕ → ℕ → Type 0 → List ℕ → Sort → List ℕ → Order
-rowsOrder names n lent tree sort states =
-    order (lent × Rows names n (length states)) (Accepted names sort tree) (codes states)
+abbrev pub rowsOrder : Rules → ℕ → ℕ → Type 0 → List ℕ → Sort → List ℕ → Order
+rowsOrder ρ names n lent tree sort states =
+    order (lent × Rows names n (length states)) (Accepted ρ names sort tree) (codes states)
 
 -- a tree and all rows of a trace, where no list is lent beside them
-abbrev pub traceOrder : ℕ → ℕ → List ℕ → Sort → List ℕ → Order
-traceOrder names n tree sort states =
-    order (Rows names n (length states)) (Accepted names sort tree) (codes states)
+abbrev pub traceOrder : Rules → ℕ → ℕ → List ℕ → Sort → List ℕ → Order
+traceOrder ρ names n tree sort states =
+    order (Rows names n (length states)) (Accepted ρ names sort tree) (codes states)
 
 -- A verdict by an order: good, and some facts are so; or refused.
 pub data Judged (o : Order) (facts : Type 0) : Verdict → Type 0 where
@@ -90,12 +91,12 @@ pub record JudgesCorrection (fits good : Bool) (states new : List ℕ) (n row : 
   pub is : Judges fits good (codesCorrection states new n row) (Codes states × Codes new × (row < n)) r
 
 -- of a tree and a trace
-pub record ChecksRow (names n : ℕ) (tree : List ℕ) (sort : Sort) (states : List ℕ) (row : ℕ) (r : Verdict)
+pub record ChecksRow (ρ : Rules) (names n : ℕ) (tree : List ℕ) (sort : Sort) (states : List ℕ) (row : ℕ) (r : Verdict)
     : Type 0 where
-  pub is : Judged (rowOrder names n tree sort states row)
-      (Rows names n (length states) × Accepted names sort tree × (Codes states × (row < n))) r
+  pub is : Judged (rowOrder ρ names n tree sort states row)
+      (Rows names n (length states) × Accepted ρ names sort tree × (Codes states × (row < n))) r
 
-pub record ChecksRows (names n : ℕ) (lent : Bool) (tree : List ℕ) (sort : Sort) (states : List ℕ) (r : Verdict)
-    : Type 0 where
-  pub is : Judged (rowsOrder names n (lent ≡ true) tree sort states)
-      (((lent ≡ true) × Rows names n (length states)) × Accepted names sort tree × Codes states) r
+pub record ChecksRows (ρ : Rules) (names n : ℕ) (lent : Bool) (tree : List ℕ) (sort : Sort) (states : List ℕ)
+    (r : Verdict) : Type 0 where
+  pub is : Judged (rowsOrder ρ names n (lent ≡ true) tree sort states)
+      (((lent ≡ true) × Rows names n (length states)) × Accepted ρ names sort tree × Codes states) r

@@ -9,6 +9,7 @@ ghost use Rattle.states.specs.FirstBadCode.{Codes};
 ghost use Rattle.judging.specs.Orders.{Rows, test, codes, place, nextOf, Judged, JudgesTrace, JudgesRow};
 ghost use Rattle.judging.specs.Orders.{ChecksRow, ChecksRows};
 use acceptance::accepting::accepts;
+use alf::Rules;
 use alf::Sort;
 use basics::Refusal;
 use basics::refusing::refusal_of;
@@ -111,6 +112,7 @@ pub fn judge_row(fits: bool, good: bool, states: &[u8], n: usize, row: usize) ->
 
 // A tree and a row of a trace.
 pub fn check_row(
+    rules: Rules,
     names: usize,
     n: usize,
     tree: &[u8],
@@ -118,15 +120,16 @@ pub fn check_row(
     states: &[u8],
     row: usize,
 ) -> Verdict
-    ensures { λ r. ⌜ ChecksRow names n (now (tree .entry)) sort (now (states .entry)) row r ⌝ }
+    ensures { λ r. ⌜ ChecksRow rules names n (now (tree .entry)) sort (now (states .entry)) row r ⌝ }
 {
     let fits = rows_fit(names, n, states.len());
-    let good = accepts(tree, names, sort);
+    let good = accepts(rules, tree, names, sort);
     judge_row(fits, good, states, n, row)
 }
 
 // A tree and all rows of a trace, with `lent` that every list lent is of n entries.
 pub fn check_rows(
+    rules: Rules,
     names: usize,
     n: usize,
     lent: bool,
@@ -134,9 +137,9 @@ pub fn check_rows(
     sort: Sort,
     states: &[u8],
 ) -> Verdict
-    ensures { λ r. ⌜ ChecksRows names n lent (now (tree .entry)) sort (now (states .entry)) r ⌝ }
+    ensures { λ r. ⌜ ChecksRows rules names n lent (now (tree .entry)) sort (now (states .entry)) r ⌝ }
 {
     let fits = lists_fit(names, n, lent, states.len());
-    let good = accepts(tree, names, sort);
+    let good = accepts(rules, tree, names, sort);
     judge(fits, good, states)
 }

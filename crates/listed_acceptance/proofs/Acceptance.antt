@@ -22,6 +22,7 @@ use Rattle.basics.proofs.Bools.{never, or-left, or-right}
 use Rattle.trees.specs.Parts.{EndsBoolean, Start}
 use Rattle.trees.specs.Sorts.{kindOf, Ending}
 use Rattle.trees.proofs.Starts.{start-unique}
+use Rattle.alf.specs.Values.{oldRules}
 use Rattle.acceptance.specs.Accepted.{Accepted}
 use Rattle.basics.specs.Deciding.{Decides}
 use Rattle.alternatives.specs.InMemory.{cut, sum, testsOf, alternativesOf, Tests, Shape}
@@ -174,10 +175,10 @@ module _ (tree : List ℕ) (names end : ℕ) where
           omega (arith, operand-near o)
 
       pub operand-is : kind ≡ 1 → (r : Bool)
-          → Decides r (Accepted names sort.Boolean (take (end - (low + start)) (drop (low + start) tree)))
+          → Decides r (Accepted oldRules names sort.Boolean (take (end - (low + start)) (drop (low + start) tree)))
           → Decides r (Operand tree names end)
       operand-is k r =
-          same-decided (Accepted names sort.Boolean (take (end - (low + start)) (drop (low + start) tree)))
+          same-decided (Accepted oldRules names sort.Boolean (take (end - (low + start)) (drop (low + start) tree)))
           (Operand tree names end) r
           (λ a.
           let s = operand-start e k in

@@ -19,6 +19,7 @@ use Rattle.alf.proofs.FewNames.{stack-few, decodes-few}
 use Rattle.alf.proofs.Encoding.{runs, runs-append, runs-stack, runs-boolean}
 use Rattle.trees.specs.Parts.{top, EndsBoolean, Start}
 use Rattle.trees.proofs.Starts.{of-boolean, ends-pos}
+use Rattle.alf.specs.Values.{oldRules}
 use Rattle.acceptance.specs.Accepted.{Accepted}
 use Rattle.acceptance.proofs.Acceptance.{accepted-boolean, accepted-decodes}
 
@@ -57,7 +58,7 @@ module _ (t : List ℕ) (names end m : ℕ) where
     pub part-length : length part ≡ end - m
     part-length = length-take-le (end - m) (drop m t) (omega (arith, length-drop m t))
 
-    module _ (a : Accepted names sort.Boolean part) where
+    module _ (a : Accepted oldRules names sort.Boolean part) where
       some : m < end
       some =
           let p = ends-pos (of-boolean (accepted-boolean part names a)) in

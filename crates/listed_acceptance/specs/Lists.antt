@@ -13,6 +13,7 @@ use lib.ListN.{length, getD, take, drop}
 use Rattle.alf.specs.declared.Sort.the-variants.{Boolean}
 use Rattle.basics.specs.Words.{greatestOf}
 use Rattle.alf.specs.Alternatives.{overLimit}
+use Rattle.alf.specs.Values.{oldRules}
 use Rattle.trees.specs.Parts.{EndsBoolean, Start}
 use Rattle.acceptance.specs.Accepted.{Accepted}
 use Rattle.alternatives.specs.InMemory.{cut, sum, alternativesOf}
@@ -21,12 +22,13 @@ use Rattle.alternatives.specs.InMemory.{cut, sum, alternativesOf}
 abbrev pub Each : (ℕ → Type 0) → List ℕ → Type 0
 Each so l = (k : ℕ) → k < length l → so (getD l k 0)
 
--- a boolean expression ends there, and its own bytes are a tree that some text gives
+-- a boolean expression ends there, and its own bytes are a tree that some text gives; of a boolean expression no rule
+-- counts anything
 pub record Operand (tree : List ℕ) (names end : ℕ) : Type 0 where
   pub ends : EndsBoolean tree names end
   pub start : ℕ
   pub from : Start tree names end start
-  pub accepted : Accepted names Boolean (take (end - start) (drop start tree))
+  pub accepted : Accepted oldRules names Boolean (take (end - start) (drop start tree))
 
 -- an edge's number
 abbrev pub Known : ℕ → Type 0

@@ -5,6 +5,7 @@ ghost use Rattle.basics.specs.Deciding.{Decides};
 ghost use Rattle.listed_acceptance.specs.Lists.{Each, Known, Operand};
 use acceptance::accepting::accepts;
 use alf::Sort;
+use states::rules::old_rules;
 use trees::sorts::part_of;
 
 // Whether each edge code is one.
@@ -45,7 +46,7 @@ pub fn is_operand(tree: &[u8], names: usize, end: usize) -> bool
         return false;
     }
     let start = low + part.start;
-    accepts(&tree[start..end], names, Sort::Boolean)
+    accepts(old_rules(), &tree[start..end], names, Sort::Boolean)
 }
 
 // Whether each operand is one.

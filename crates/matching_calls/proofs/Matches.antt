@@ -41,41 +41,41 @@ rows-asked l s =
     }
 
 -- a row
-module _ {names n : ℕ} {tree states : List ℕ} {row : ℕ} {v : Verdict}
-    (c : ChecksRow names n tree Vector states row v) where
-  pub match-asked : v ≡ Good → TreeRow names tree states row
+module _ {ρ : Rules} {names n : ℕ} {tree states : List ℕ} {row : ℕ} {v : Verdict}
+    (c : ChecksRow ρ names n tree Vector states row v) where
+  pub match-asked : v ≡ Good → TreeRow ρ names tree states row
   match-asked e = record { accepted = row-accepted c e; there = row-there c e }
 
-  pub match-refused : {ρ : Rules} {r : Refusal} → v ≡ Refused r
+  pub match-refused : {r : Refusal} → v ≡ Refused r
       → RowMatch ρ names n tree states row (matching.Refused r)
   unfolding Finds
   match-refused e = record { comes = judged-not (c .is) e }
 
-  pub match-told : {ρ : Rules} {m : Matched} → v ≡ Good → MatchesTree ρ names tree states row (m .answer) (m .tries)
+  pub match-told : {m : Matched} → v ≡ Good → MatchesTree ρ names tree states row (m .answer) (m .tries)
       → RowMatch ρ names n tree states row (matching.Found m)
   unfolding Finds
   match-told e s = record { comes = (judged-good (c .is) e .0, s) }
 
 -- all rows
-module _ {names n : ℕ} {tree states : List ℕ} (answers tried : List ℕ) {lent : Bool} {v : Verdict}
+module _ {ρ : Rules} {names n : ℕ} {tree states : List ℕ} (answers tried : List ℕ) {lent : Bool} {v : Verdict}
     (d : Decides lent ((length answers ≡ n) × (length tried ≡ n)))
-    (c : ChecksRows names n lent tree Vector states v) where
-  as-lists : Judged (rowsOrder names n ((length answers ≡ n) × (length tried ≡ n)) tree Vector states)
+    (c : ChecksRows ρ names n lent tree Vector states v) where
+  as-lists : Judged (rowsOrder ρ names n ((length answers ≡ n) × (length tried ≡ n)) tree Vector states)
       ((((length answers ≡ n) × (length tried ≡ n)) × Rows names n (length states))
-      × Accepted names Vector tree × Codes states) v
-  as-lists = lent-as names n tree Vector states lent ((length answers ≡ n) × (length tried ≡ n)) d c
+      × Accepted ρ names Vector tree × Codes states) v
+  as-lists = lent-as ρ names n tree Vector states lent ((length answers ≡ n) × (length tried ≡ n)) d c
 
-  pub all-asked : v ≡ Good → TreeLists names n tree states answers tried
+  pub all-asked : v ≡ Good → TreeLists ρ names n tree states answers tried
   all-asked e =
       let (((x, y), l), a, s) = judged-good as-lists e .1 in
       record { asked = record { accepted = a; rows = rows-asked l s }; room = x; space = y }
 
-  pub all-refused : {ρ : Rules} {r : Refusal} → v ≡ Refused r
+  pub all-refused : {r : Refusal} → v ≡ Refused r
       → AllMatched ρ names n tree states answers tried answers tried (outcome.Refused r)
   unfolding Comes after
   all-refused e = record { comes = judged-not as-lists e; answers-memory = refl; tried-memory = refl }
 
-  pub all-told : {ρ : Rules} {answers′ tried′ : List ℕ} → v ≡ Good → FillsTree ρ names n tree states answers′ tried′
+  pub all-told : {answers′ tried′ : List ℕ} → v ≡ Good → FillsTree ρ names n tree states answers′ tried′
       → AllMatched ρ names n tree states answers tried answers′ tried′ (outcome.Done n)
   unfolding Comes after
   all-told e f =
@@ -86,19 +86,20 @@ module _ {names n : ℕ} {tree states : List ℕ} (answers tried : List ℕ) {le
       }
 
 -- the totals
-module _ {names n : ℕ} {tree states : List ℕ} {v : Verdict} (c : ChecksRows names n true tree Vector states v) where
-  as-trace : Judged (traceOrder names n tree Vector states)
-      (Rows names n (length states) × Accepted names Vector tree × Codes states) v
+module _ {ρ : Rules} {names n : ℕ} {tree states : List ℕ} {v : Verdict}
+    (c : ChecksRows ρ names n true tree Vector states v) where
+  as-trace : Judged (traceOrder ρ names n tree Vector states)
+      (Rows names n (length states) × Accepted ρ names Vector tree × Codes states) v
   as-trace = lists-as (λ x. x .1) (λ l. (refl, l)) (c .is)
 
-  pub totals-asked : v ≡ Good → TreeRows names n tree states
+  pub totals-asked : v ≡ Good → TreeRows ρ names n tree states
   totals-asked e = let (l, a, s) = judged-good as-trace e .1 in record { accepted = a; rows = rows-asked l s }
 
-  pub totals-refused : {ρ : Rules} {r : Refusal} → v ≡ Refused r → RowTotals ρ names n tree states (counting.Refused r)
+  pub totals-refused : {r : Refusal} → v ≡ Refused r → RowTotals ρ names n tree states (counting.Refused r)
   unfolding Counts
   totals-refused e = record { comes = judged-not as-trace e }
 
-  pub totals-told : {ρ : Rules} {t : Total} → v ≡ Good → TotalsTree ρ names n tree states (t .yes) (t .no) (t .unknown)
+  pub totals-told : {t : Total} → v ≡ Good → TotalsTree ρ names n tree states (t .yes) (t .no) (t .unknown)
       → RowTotals ρ names n tree states (counting.Counted t)
   unfolding Counts
   totals-told e s = record { comes = (judged-good as-trace e .0, s) }

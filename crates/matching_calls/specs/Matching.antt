@@ -17,6 +17,7 @@ use Rattle.basics.specs.declared.Outcome.{Outcome}
 use Rattle.basics.specs.Words.{listed}
 use Rattle.alf.specs.Expressions.{Vector}
 use Rattle.alf.specs.Values.{stateAt}
+use Rattle.alf.specs.Steady.{meant}
 use Rattle.alf.specs.Windows.{rowAnswer}
 use Rattle.alf.specs.Answers.{numberOf}
 use Rattle.alf.specs.Alternatives.{alternatives, tries}
@@ -33,16 +34,16 @@ use Rattle.matching_calls.specs.declared.matching.Counting.the-variants 
 use Rattle.judging.specs.Orders.{rowOrder, rowsOrder, traceOrder}
 use Rattle.basics.specs.Memory.{after}
 
--- the vector expression that a tree is
-abbrev pub expression : List ℕ → ℕ → Vector
-expression tree names = vectorAt tree names (length tree)
+-- the vector expression that a tree is, as the rules read it
+abbrev pub expression : Rules → List ℕ → ℕ → Vector
+expression ρ tree names = meant ρ (vectorAt tree names (length tree))
 
 -- the number of its answer at each row of a trace, and how many of its alternatives are tried there
 abbrev pub answersOn : Rules → ℕ → List ℕ → List ℕ → ℕ → ℕ
-answersOn ρ names tree states = rowAnswer (stateAt ρ names states) (expression tree names)
+answersOn ρ names tree states = rowAnswer (stateAt ρ names states) (expression ρ tree names)
 
 abbrev pub triesOn : Rules → ℕ → List ℕ → List ℕ → ℕ → ℕ
-triesOn ρ names tree states = tries (stateAt ρ names states) (alternatives (expression tree names))
+triesOn ρ names tree states = tries (stateAt ρ names states) (alternatives (expression ρ tree names))
 
 -- its answer at a row, and the number tried
 pub record MatchesTree (ρ : Rules) (names : ℕ) (tree states : List ℕ) (row : ℕ) (answer : Answer)
@@ -61,7 +62,7 @@ pub record FoundAs (number tried : ℕ) (x : Matching) : Type 0 where
   pub numbered : numberOf answer ≡ number
 
 pub record RowMatch (ρ : Rules) (names n : ℕ) (tree states : List ℕ) (row : ℕ) (r : Matching) : Type 0 where
-  pub comes : Finds (rowOrder names n tree sort.Vector states row) (MatchesTree ρ names tree states row) r
+  pub comes : Finds (rowOrder ρ names n tree sort.Vector states row) (MatchesTree ρ names tree states row) r
 
 -- at rows 0 to n-1, in two lists of n entries
 pub record FillsTree (ρ : Rules) (names n : ℕ) (tree states answers′ tried′ : List ℕ) : Type 0 where
@@ -70,32 +71,32 @@ pub record FillsTree (ρ : Rules) (names n : ℕ) (tree states answers′ tried�
 
 pub record AllMatched (ρ : Rules) (names n : ℕ) (tree states answers tried answers′ tried′ : List ℕ) (r : Outcome)
     : Type 0 where
-  pub comes : Comes (rowsOrder names n ((length answers ≡ n) × (length tried ≡ n)) tree sort.Vector states)
+  pub comes : Comes (rowsOrder ρ names n ((length answers ≡ n) × (length tried ≡ n)) tree sort.Vector states)
       (λ k. k ≡ n) r
   pub answers-memory : answers′ ≡ after (listed 0 n (answersOn ρ names tree states)) answers r
   pub tried-memory : tried′ ≡ after (listed 0 n (triesOn ρ names tree states)) tried r
 
 -- how many rows answer yes, no and unknown
 abbrev pub TotalsTree : Rules → ℕ → ℕ → List ℕ → List ℕ → ℕ → ℕ → ℕ → Type 0
-TotalsTree ρ names n tree states = Totals (stateAt ρ names states) (expression tree names) n
+TotalsTree ρ names n tree states = Totals (stateAt ρ names states) (expression ρ tree names) n
 
 unfoldable pub Counts : Order → (ℕ → ℕ → ℕ → Type 0) → Counting → Type 0
 Counts o right (counting.Counted t) = Passed o × right (t .yes) (t .no) (t .unknown)
 Counts o right (counting.Refused r) = RefusedBy o r
 
 pub record RowTotals (ρ : Rules) (names n : ℕ) (tree states : List ℕ) (r : Counting) : Type 0 where
-  pub comes : Counts (traceOrder names n tree sort.Vector states) (TotalsTree ρ names n tree states) r
+  pub comes : Counts (traceOrder ρ names n tree sort.Vector states) (TotalsTree ρ names n tree states) r
 
 -- What the functions inside ask: an accepted tree; a row that is there; n rows; and lists of n entries.
-pub record TreeRow (names : ℕ) (tree states : List ℕ) (row : ℕ) : Type 0 where
-  pub accepted : Accepted names sort.Vector tree
+pub record TreeRow (ρ : Rules) (names : ℕ) (tree states : List ℕ) (row : ℕ) : Type 0 where
+  pub accepted : Accepted ρ names sort.Vector tree
   pub there : Within states names row
 
-pub record TreeRows (names n : ℕ) (tree states : List ℕ) : Type 0 where
-  pub accepted : Accepted names sort.Vector tree
+pub record TreeRows (ρ : Rules) (names n : ℕ) (tree states : List ℕ) : Type 0 where
+  pub accepted : Accepted ρ names sort.Vector tree
   pub rows : tables.Rows states names n
 
-pub record TreeLists (names n : ℕ) (tree states answers tried : List ℕ) : Type 0 where
-  pub asked : TreeRows names n tree states
+pub record TreeLists (ρ : Rules) (names n : ℕ) (tree states answers tried : List ℕ) : Type 0 where
+  pub asked : TreeRows ρ names n tree states
   pub room : length answers ≡ n
   pub space : length tried ≡ n

@@ -29,10 +29,10 @@ pub enum Counting {
 
 // An accepted tree, at a row that is there.
 fn match_tree(rules: Rules, names: usize, tree: &[u8], states: &[u8], row: usize) -> Matched
-    requires { ⌜ TreeRow names (now tree) (now states) row ⌝ }
+    requires { ⌜ TreeRow rules names (now tree) (now states) row ⌝ }
     ensures { λ r. ⌜ MatchesTree rules names (now (tree .entry)) (now (states .entry)) row (r .answer) (r .tries) ⌝ }
 {
-    let a = alternatives_of(tree, names);
+    let a = alternatives_of(rules, tree, names);
     let count = a.count;
     let step_count = a.step_count;
     let test_count = a.test_count;
@@ -63,11 +63,11 @@ fn match_tree_all(
     answers: &mut [u8],
     tried: &mut [u32],
 )
-    requires { ⌜ TreeLists names n (now tree) (now states) (now answers) (now tried) ⌝ }
+    requires { ⌜ TreeLists rules names n (now tree) (now states) (now answers) (now tried) ⌝ }
     ensures { λ _. ⌜ FillsTree rules names n (now (tree .entry)) (now (states .entry)) (now (answers .exit))
         (now (tried .exit)) ⌝ }
 {
-    let a = alternatives_of(tree, names);
+    let a = alternatives_of(rules, tree, names);
     let count = a.count;
     let step_count = a.step_count;
     let test_count = a.test_count;
@@ -92,11 +92,11 @@ fn match_tree_all(
 
 // The totals of n rows.
 fn total_tree(rules: Rules, names: usize, n: usize, tree: &[u8], states: &[u8]) -> Total
-    requires { ⌜ TreeRows names n (now tree) (now states) ⌝ }
+    requires { ⌜ TreeRows rules names n (now tree) (now states) ⌝ }
     ensures { λ r. ⌜ TotalsTree rules names n (now (tree .entry))
         (now (states .entry)) (r .yes) (r .no) (r .unknown) ⌝ }
 {
-    let a = alternatives_of(tree, names);
+    let a = alternatives_of(rules, tree, names);
     let count = a.count;
     let step_count = a.step_count;
     let test_count = a.test_count;
@@ -129,7 +129,7 @@ pub fn match_row(
     ensures { λ r. ⌜ RowMatch rules names n (now (tree .entry)) (now (states .entry)) (row .0) r ⌝ }
 {
     let at = row.0 as usize;
-    let v = check_row(names, n, tree, Sort::Vector, states, at);
+    let v = check_row(rules, names, n, tree, Sort::Vector, states, at);
     match v {
         Verdict::Refused(r) => Matching::Refused(r),
         Verdict::Good => Matching::Found(match_tree(rules, names, tree, states, at)),
@@ -160,7 +160,7 @@ pub fn match_all(
         (now (tried .entry)) (now (answers .exit)) (now (tried .exit)) r ⌝ }
 {
     let lent = both_are(n, answers.len(), tried.len());
-    let v = check_rows(names, n, lent, tree, Sort::Vector, states);
+    let v = check_rows(rules, names, n, lent, tree, Sort::Vector, states);
     match v {
         Verdict::Refused(r) => Outcome::Refused(r),
         Verdict::Good => {
@@ -174,7 +174,7 @@ pub fn match_all(
 pub fn totals(rules: Rules, names: usize, n: usize, tree: &[u8], states: &[u8]) -> Counting
     ensures { λ r. ⌜ RowTotals rules names n (now (tree .entry)) (now (states .entry)) r ⌝ }
 {
-    let v = check_rows(names, n, true, tree, Sort::Vector, states);
+    let v = check_rows(rules, names, n, true, tree, Sort::Vector, states);
     match v {
         Verdict::Refused(r) => Counting::Refused(r),
         Verdict::Good => Counting::Counted(total_tree(rules, names, n, tree, states)),

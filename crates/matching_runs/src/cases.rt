@@ -82,12 +82,12 @@ fn show_read(rules: Rules, kind: u8, line: &[u8], tree: &[u8; 256], len: usize) 
 }
 
 // A text over the names A, B, C.
-fn read(text: &[u8], sort: Sort) -> Read {
+fn read(rules: Rules, text: &[u8], sort: Sort) -> Read {
     let mut names = [0u8; 96];
     names[0] = b'A';
     names[32] = b'B';
     names[64] = b'C';
-    read_expression(&names, text, sort)
+    read_expression(rules, &names, text, sort)
 }
 
 fn sort_of(kind: u8) -> Sort {
@@ -99,7 +99,7 @@ fn sort_of(kind: u8) -> Sort {
 
 // An expression as a text.
 fn show_text(rules: Rules, kind: u8, line: &[u8], text: &[u8]) {
-    let r = read(text, sort_of(kind));
+    let r = read(rules, text, sort_of(kind));
     let refused = r.refused;
     if refused {
         character(b'\n');
@@ -120,19 +120,23 @@ fn show_rest(rules: Rules, kind: u8, line: &[u8], rest: &[u8]) {
     }
 }
 
-// Whether a line's kind stands behind `=`: such a case is under the rule of equal branches.
-fn is_new(line: &[u8]) -> bool {
+// Whether a line's kind stands behind a mark: behind `=` a case is under the rule of equal branches, behind `~` its
+// pins are steady.
+fn is_behind(line: &[u8], mark: u8) -> bool {
     if line.len() < 2 {
         return false;
     }
-    line[0] == b'='
+    line[0] == mark
 }
 
 fn kind_of(line: &[u8]) -> u8 {
     if line.len() < 2 {
         return b'#';
     }
-    if line[0] == b'=' { line[1] } else { line[0] }
+    match line[0] {
+        b'=' | b'~' => line[1],
+        _ => line[0],
+    }
 }
 
 // A line that is empty or starts with `#` is a remark.
@@ -142,7 +146,8 @@ fn show_line(line: &[u8]) {
         return;
     }
     let mut rules = old_rules();
-    rules.equal_branches = is_new(line);
+    rules.equal_branches = is_behind(line, b'=');
+    rules.steady_pins = is_behind(line, b'~');
     let at = start_of(line, 9, b' ');
     let end = line.len();
     show_rest(rules, kind, line, &line[at..end]);

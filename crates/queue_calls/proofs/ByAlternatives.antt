@@ -16,8 +16,8 @@ use Rattle.matching_calls.specs.Matching.{expression}
 use Rattle.matching_calls.proofs.ByAlternatives.{xs, steps-are, tree-matches}
 use Rattle.queue_calls.specs.Pushing.{PushesTree}
 
-module _ {names : ℕ} {tree : List ℕ} {a : Alternatives} (h : Holds tree names a) where
-  pub tree-pushes : {ρ : Rules} {q q′ : Queue} {row : List ℕ} {t : ℕ} {answer : Answer}
+module _ {ρ : Rules} {names : ℕ} {tree : List ℕ} {a : Alternatives} (h : Holds ρ tree names a) where
+  pub tree-pushes : {q q′ : Queue} {row : List ℕ} {t : ℕ} {answer : Answer}
       → Pushes ρ names (xs h) q row answer t q′
       → PushesTree ρ names tree q row answer t q′
   tree-pushes p =
@@ -30,14 +30,14 @@ module _ {names : ℕ} {tree : List ℕ} {a : Alternatives} (h : Holds tree name
 -- and the other way: what is pushed for a tree is pushed for its alternatives
 pub tree-pushed : {ρ : Rules} {names : ℕ} {tree : List ℕ} {q q′ : Queue} {row : List ℕ} {t : ℕ} {answer : Answer}
     → PushesTree ρ names tree q row answer t q′
-    → Pushes ρ names (alternatives (expression tree names)) q row answer t q′
+    → Pushes ρ names (alternatives (expression ρ tree names)) q row answer t q′
 unfolding stepsOf
 tree-pushed {ρ} {names} {tree} {q} {q′} {row} p =
     let st = stateAt ρ names (traceOf names q row) in
     record {
       matched =
           record {
-            is = p .matched .is ∙ same-answer st (expression tree names) (q .kept .0);
+            is = p .matched .is ∙ same-answer st (expression ρ tree names) (q .kept .0);
             count = p .matched .count;
           };
       kept = p .kept;

@@ -95,32 +95,32 @@ unfolding overLimit stepsOf
 few-steps p h = ltb-false 16 _ (or-left _ _ (or-right (ltb 64 (length (alternatives p))) _ h))
 
 -- whether a queue may be handed in with a tree
-module _ (names : ℕ) (tree : List ℕ) (q : Queue) where
-  pub queue-many : 32 < names → DecidesQueue names tree q false
+module _ (ρ : Rules) (names : ℕ) (tree : List ℕ) (q : Queue) where
+  pub queue-many : 32 < names → DecidesQueue ρ names tree q false
   queue-many h = record { is = λ l. absurd (omega (arith, h, l)) }
 
-  pub queue-tree : (Accepted names Vector tree → ⊥) → DecidesQueue names tree q false
+  pub queue-tree : (Accepted ρ names Vector tree → ⊥) → DecidesQueue ρ names tree q false
   unfolding Decides
   queue-tree n = record { is = λ l s. n (s .accepted) }
 
-  pub queue-kept : {k : ℕ} (r : Bool) → Accepted names Vector tree → k ≡ stepsOf (expression tree names)
-      → Decides r (Keeps names k q) → DecidesQueue names tree q r
+  pub queue-kept : {k : ℕ} (r : Bool) → Accepted ρ names Vector tree → k ≡ stepsOf (expression ρ tree names)
+      → Decides r (Keeps names k q) → DecidesQueue ρ names tree q r
   queue-kept {k} r a e d =
       record {
         is = λ l.
-            same-decided (Keeps names k q) (Handed names tree q) r
+            same-decided (Keeps names k q) (Handed ρ names tree q) r
             (λ s. record { accepted = a; kept = rw e at s }) (λ s. rw e (s .kept)) d;
       }
 
 -- a tree, a queue and a row that fit, as the queue asks for them
-pub push-asked : {names : ℕ} {tree : List ℕ} {q : Queue} {row : List ℕ} {a : Alternatives}
-    → TreePush names tree q row
-    → Holds tree names a
+pub push-asked : {ρ : Rules} {names : ℕ} {tree : List ℕ} {q : Queue} {row : List ℕ} {a : Alternatives}
+    → TreePush ρ names tree q row
+    → Holds ρ tree names a
     → PushAsked tree names (take (a .count) (a .steps)) (take (a .«step_count») (a .tests))
     (take (a .«test_count») (a .edges)) (take (a .«test_count») (a .operands)) q row
-push-asked {names} {tree} {q} t h =
+push-asked {ρ} {names} {tree} {q} t h =
     let k = longest-steps h in
-    let few = few-steps (expression tree names) (accepted-limited tree names (t .handed .accepted)) in
+    let few = few-steps (expression ρ tree names) (accepted-limited tree names (t .handed .accepted)) in
     record {
       shape = h .shape;
       room =
@@ -135,21 +135,21 @@ push-asked {names} {tree} {q} t h =
       codes = t .codes;
     }
 
-module _ {names : ℕ} {tree : List ℕ} {q : Queue} {row : List ℕ} {fits good : Bool} {v : Verdict}
-    (f : Decides fits (RowFits names (length row))) (g : DecidesQueue names tree q good)
+module _ {ρ : Rules} {names : ℕ} {tree : List ℕ} {q : Queue} {row : List ℕ} {fits good : Bool} {v : Verdict}
+    (f : Decides fits (RowFits names (length row))) (g : DecidesQueue ρ names tree q good)
     (j : JudgesTrace fits good row v) where
-  as-push : Judged (pushOrder names tree q row)
-      (RowFits names (length row) × Handed names tree q × Codes row) v
+  as-push : Judged (pushOrder ρ names tree q row)
+      (RowFits names (length row) × Handed ρ names tree q × Codes row) v
   as-push = judged-as fits good _ _ f (λ x. g .is (x .name-count .1)) _ (j .is)
 
-  pub push-good : v ≡ Good → TreePush names tree q row
+  pub push-good : v ≡ Good → TreePush ρ names tree q row
   push-good e = let (l, h, s) = judged-good as-push e .1 in record { handed = h; fits = l; codes = s }
 
-  pub push-refused : {ρ : Rules} {r : Refusal} → v ≡ Refused r → Push ρ names tree q row (matching.Refused r) q
+  pub push-refused : {r : Refusal} → v ≡ Refused r → Push ρ names tree q row (matching.Refused r) q
   unfolding Takes
   push-refused e = record { comes = (judged-not as-push e, refl) }
 
-  pub push-told : {ρ : Rules} {m : Matched} {q′ : Queue} → v ≡ Good
+  pub push-told : {m : Matched} {q′ : Queue} → v ≡ Good
       → PushesTree ρ names tree q row (m .answer) (m .tries) q′
       → Push ρ names tree q row (matching.Found m) q′
   unfolding Takes

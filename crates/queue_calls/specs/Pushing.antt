@@ -34,13 +34,13 @@ pub record Keeps (names k : ℕ) (queue : Queue) : Type 0 where
   pub codes : Codes (heldOf names queue)
 
 -- a tree that is accepted, and a queue that keeps at most K rows
-pub record Handed (names : ℕ) (tree : List ℕ) (queue : Queue) : Type 0 where
-  pub accepted : Accepted names Vector tree
-  pub kept : Keeps names (stepsOf (expression tree names)) queue
+pub record Handed (ρ : Rules) (names : ℕ) (tree : List ℕ) (queue : Queue) : Type 0 where
+  pub accepted : Accepted ρ names Vector tree
+  pub kept : Keeps names (stepsOf (expression ρ tree names)) queue
 
 -- 18, 10, 15 of the new row
-abbrev pub pushOrder : ℕ → List ℕ → Queue → List ℕ → Order
-pushOrder names tree queue row = order (RowFits names (length row)) (Handed names tree queue) (codes row)
+abbrev pub pushOrder : Rules → ℕ → List ℕ → Queue → List ℕ → Order
+pushOrder ρ names tree queue row = order (RowFits names (length row)) (Handed ρ names tree queue) (codes row)
 
 -- the answer on windows and the number tried at the last row of what is kept and pushed; of that the last K rows are
 -- kept
@@ -48,15 +48,15 @@ pub record PushesTree (ρ : Rules) (names : ℕ) (tree : List ℕ) (queue : Queu
     (tried : ℕ)
     (queue′ : Queue) : Type 0 where
   pub matched : MatchesTree ρ names tree (traceOf names queue row) (queue .kept .0) answer tried
-  pub kept : queue′ .kept .0 ≡ min (queue .kept .0 + 1) (stepsOf (expression tree names))
+  pub kept : queue′ .kept .0 ≡ min (queue .kept .0 + 1) (stepsOf (expression ρ tree names))
   pub states : queue′ .states
-      ≡ stored (lastRows names (stepsOf (expression tree names)) (queue .kept .0 + 1) (traceOf names queue row))
+      ≡ stored (lastRows names (stepsOf (expression ρ tree names)) (queue .kept .0 + 1) (traceOf names queue row))
 
 unfoldable pub Takes : Rules → ℕ → List ℕ → Queue → List ℕ → Matching → Queue → Type 0
 Takes ρ names tree queue row (Found m) queue′ =
-    Passed (pushOrder names tree queue row) × PushesTree ρ names tree queue row (m .answer) (m .tries) queue′
+    Passed (pushOrder ρ names tree queue row) × PushesTree ρ names tree queue row (m .answer) (m .tries) queue′
 Takes ρ names tree queue row (Refused r) queue′ =
-    RefusedBy (pushOrder names tree queue row) r × (queue′ ≡ queue)
+    RefusedBy (pushOrder ρ names tree queue row) r × (queue′ ≡ queue)
 
 pub record Push (ρ : Rules) (names : ℕ) (tree : List ℕ) (queue : Queue) (row : List ℕ) (told : Matching)
     (queue′ : Queue)
@@ -69,10 +69,10 @@ pub record Small (names k : ℕ) : Type 0 where
   pub most : names ≤ 32
   pub few : k ≤ 16
 
-pub record DecidesQueue (names : ℕ) (tree : List ℕ) (queue : Queue) (r : Bool) : Type 0 where
-  pub is : names ≤ 32 → Decides r (Handed names tree queue)
+pub record DecidesQueue (ρ : Rules) (names : ℕ) (tree : List ℕ) (queue : Queue) (r : Bool) : Type 0 where
+  pub is : names ≤ 32 → Decides r (Handed ρ names tree queue)
 
-pub record TreePush (names : ℕ) (tree : List ℕ) (queue : Queue) (row : List ℕ) : Type 0 where
-  pub handed : Handed names tree queue
+pub record TreePush (ρ : Rules) (names : ℕ) (tree : List ℕ) (queue : Queue) (row : List ℕ) : Type 0 where
+  pub handed : Handed ρ names tree queue
   pub fits : RowFits names (length row)
   pub codes : Codes row

@@ -55,11 +55,11 @@ pub fn keeps(names: usize, k: usize, queue: Queue) -> bool
 }
 
 // K: the steps of the longest alternative of an accepted tree.
-fn steps_of(names: usize, tree: &[u8]) -> usize
-    requires { ⌜ Accepted names Vector (now tree) ⌝ }
-    ensures { λ r. ⌜ r ≡ stepsOf (expression (now (tree .entry)) names) ⌝ }
+fn steps_of(rules: Rules, names: usize, tree: &[u8]) -> usize
+    requires { ⌜ Accepted rules names Vector (now tree) ⌝ }
+    ensures { λ r. ⌜ r ≡ stepsOf (expression rules (now (tree .entry)) names) ⌝ }
 {
-    let size = measure(tree, tree.len(), names);
+    let size = measure(rules, tree, tree.len(), names);
     match size {
         Measured::Over => 0,
         Measured::Within(s) => s.steps,
@@ -67,25 +67,25 @@ fn steps_of(names: usize, tree: &[u8]) -> usize
 }
 
 // Whether the tree is accepted and the queue may be handed in with it, where there are at most 32 names.
-fn queue_good(names: usize, tree: &[u8], queue: Queue) -> bool
-    ensures { λ r. ⌜ DecidesQueue names (now (tree .entry)) queue r ⌝ }
+fn queue_good(rules: Rules, names: usize, tree: &[u8], queue: Queue) -> bool
+    ensures { λ r. ⌜ DecidesQueue rules names (now (tree .entry)) queue r ⌝ }
 {
     if 32 < names {
         return false;
     }
-    if !accepts(tree, names, Sort::Vector) {
+    if !accepts(rules, tree, names, Sort::Vector) {
         return false;
     }
-    keeps(names, steps_of(names, tree), queue)
+    keeps(names, steps_of(rules, names, tree), queue)
 }
 
 // An accepted tree, a queue and a row that fit.
 fn push_tree(rules: Rules, names: usize, tree: &[u8], queue: Queue, row: &[u8]) -> Pushed
-    requires { ⌜ TreePush names (now tree) queue (now row) ⌝ }
+    requires { ⌜ TreePush rules names (now tree) queue (now row) ⌝ }
     ensures { λ r. ⌜ PushesTree rules names (now (tree .entry)) queue (now (row .entry)) (r .answer) (r .tries)
         (r .queue) ⌝ }
 {
-    let a = alternatives_of(tree, names);
+    let a = alternatives_of(rules, tree, names);
     let count = a.count;
     let step_count = a.step_count;
     let test_count = a.test_count;
@@ -111,7 +111,7 @@ pub fn push(rules: Rules, names: usize, tree: &[u8], queue: Queue, row: &[u8]) -
     ensures { λ r. ⌜ Push rules names (now (tree .entry)) queue (now (row .entry)) (r .told) (r .queue) ⌝ }
 {
     let fits = row_fits(names, row.len());
-    let good = queue_good(names, tree, queue);
+    let good = queue_good(rules, names, tree, queue);
     let v = judge(fits, good, row);
     match v {
         Verdict::Refused(r) => {

@@ -8,7 +8,9 @@ use native.Mathlib.Omega.{arith}
 use lib.ListN.{length}
 use Rattle.alf.specs.Names.{namesIn}
 use Rattle.basics.specs.Words.{if_then_else_}
+use Rattle.alf.specs.declared.Rules.{Rules}
 use Rattle.alf.specs.declared.Sort.{Sort}
+use Rattle.alf.specs.Steady.{meant}
 use Rattle.alf.specs.declared.Sort.the-variants as the-sort
 use Rattle.alf.specs.Expressions.{Vector, Expression, boolean, vector, ExpressionOver}
 use Rattle.alf.specs.Alternatives.{alternatives, overLimit, numberOfAlternatives, stepsOf, testsOf}
@@ -17,6 +19,7 @@ use Rattle.basics.proofs.Bools.{never}
 use Rattle.grammar.specs.Answers.{padded}
 use Rattle.grammar.proofs.Written.{expression-formed}
 use Rattle.trees.specs.Parts.{EndsVector, vectorAt}
+use Rattle.steady_pins.specs.Finding.{Tree}
 use Rattle.acceptance.specs.declared.sizes.Measured.{Measured}
 use Rattle.acceptance.specs.declared.sizes.Measured.the-variants as size
 use Rattle.acceptance.specs.declared.sizes.Size.{Size}
@@ -72,12 +75,12 @@ unfolding given
 given-sort o b (is x) y e = asked-sort o b x y e
 given-sort o b (faulty p) y e = let z : _≡_ {A = ℕ} 0 1 = cc in absurd (omega arith)
 
-never-large : (o : Sort) (x : Expression) → hasSort o false ≡ true → hasSort o (isVector x) ≡ true → (p : ℕ)
-    → tooLarge (is x) p → ⊥
+never-large : (ρ : Rules) (o : Sort) (x : Expression) → hasSort o false ≡ true → hasSort o (isVector x) ≡ true → (p : ℕ)
+    → tooLarge ρ (is x) p → ⊥
 unfolding hasSort isVector tooLarge
-never-large the-sort.Boolean (boolean c) e f p h = h
-never-large the-sort.Boolean (vector v) e f p h = never f
-never-large the-sort.Vector x e f p h = never e
+never-large ρ the-sort.Boolean (boolean c) e f p h = h
+never-large ρ the-sort.Boolean (vector v) e f p h = never f
+never-large ρ the-sort.Vector x e f p h = never e
 
 record VectorOf (x : Expression) : Type 0 where
   it : Vector
@@ -100,11 +103,11 @@ module _ {names text : List ℕ} {sort : Sort} {x : Expression} (k : Clear names
       call-over (namesIn names) (numberAt names text) sort (length text) (expression-formed (k .whole))
       (nodes-inside (k .whole) (names-numbered names text (k .tokens) (k .known))) (k .sorts)
 
-  small-read : ((p : ℕ) → tooLarge (is x) p → ⊥) → ReadsText names text sort (made x)
-  small-read h = read-clear names text sort (k .good) (k .clear) (k .read) (k .whole) (k .known) (k .sorts) h
+  small-read : (ρ : Rules) → ((p : ℕ) → tooLarge ρ (is x) p → ⊥) → ReadsText ρ names text sort (made x)
+  small-read ρ h = read-clear ρ names text sort (k .good) (k .clear) (k .read) (k .whole) (k .known) (k .sorts) h
 
-  large : (p : ℕ) → tooLarge (is x) p → ReadsText names text sort (refusedWith 8 p)
-  large p h = eight names text sort (k .good) (k .clear) (k .read) (k .whole) (k .known) (k .sorts) p h
+  large : (ρ : Rules) (p : ℕ) → tooLarge ρ (is x) p → ReadsText ρ names text sort (refusedWith 8 p)
+  large ρ p h = eight ρ names text sort (k .good) (k .clear) (k .read) (k .whole) (k .known) (k .sorts) p h
 
   module _ (v : VectorOf x) where
     few : namesIn names ≤ 32
@@ -119,18 +122,18 @@ module _ {names text : List ℕ} {sort : Sort} {x : Expression} (k : Clear names
     it-is : vectorAt (padded (bytesOf x)) (namesIn names) (length (bytesOf x)) ≡ v .it
     it-is = rw (v .is-it) (vector-is (namesIn names) (v .it) few over-vector)
 
-    too-large : true ≡ overLimit (alternatives (v .it)) → tooLarge (is x) 0
+    too-large : (ρ : Rules) → true ≡ overLimit (alternatives (meant ρ (v .it))) → tooLarge ρ (is x) 0
     unfolding tooLarge
-    too-large e = rw (v .is-it) (record { given = sym e; there = refl })
+    too-large ρ e = rw (v .is-it) (record { given = sym e; there = refl })
 
-    not-large : false ≡ overLimit (alternatives (v .it)) → (p : ℕ) → tooLarge (is x) p → ⊥
+    not-large : (ρ : Rules) → false ≡ overLimit (alternatives (meant ρ (v .it))) → (p : ℕ) → tooLarge ρ (is x) p → ⊥
     unfolding tooLarge
-    not-large e p h = let g = rw (v .is-it) at h in never (e ∙ g .given)
+    not-large ρ e p h = let g = rw (v .is-it) at h in never (e ∙ g .given)
 
 -- the ways of `limit`
-pub limit-refused : {names text : List ℕ} {sort : Sort} {r : Read} → Unlimited names text sort r
+pub limit-refused : {ρ : Rules} {names text : List ℕ} {sort : Sort} {r : Read} → Unlimited ρ names text sort r
     → r .refused ≡ true
-    → ReadsText names text sort r
+    → ReadsText ρ names text sort r
 unfolding made refusedBy
 limit-refused (refused f h) e = h
 limit-refused (unlimited k) e = never e
@@ -140,44 +143,53 @@ pub record Left (names text : List ℕ) (sort : Sort) (r : Read) : Type 0 where
   pub clear : Clear names text sort it
   pub is-made : r ≡ made it
 
-pub left-over : {names text : List ℕ} {sort : Sort} {r : Read} → Unlimited names text sort r
+pub left-over : {ρ : Rules} {names text : List ℕ} {sort : Sort} {r : Read} → Unlimited ρ names text sort r
     → r .refused ≡ false
     → Left names text sort r
 unfolding made refusedBy
 left-over (refused f h) e = never (sym e)
 left-over (unlimited {x = x} k) e = record { it = x; clear = k; is-made = refl }
 
-module _ {names text : List ℕ} {sort : Sort} {r : Read} (l : Left names text sort r) where
-  pub limit-boolean : hasSort sort false ≡ true → ReadsText names text sort r
+module _ (ρ : Rules) {names text : List ℕ} {sort : Sort} {r : Read} (l : Left names text sort r) where
+  pub limit-boolean : hasSort sort false ≡ true → ReadsText ρ names text sort r
   limit-boolean e =
-      subst (ReadsText names text sort) (sym (l .is-made))
-      (small-read (l .clear) (never-large sort (l .it) e (sort-is (l .clear))))
+      subst (ReadsText ρ names text sort) (sym (l .is-made))
+      (small-read (l .clear) ρ (never-large ρ sort (l .it) e (sort-is (l .clear))))
 
   module _ (e : hasSort sort false ≡ false) where
     it-vector : VectorOf (l .it)
     it-vector = vector-of sort (l .it) e (sort-is (l .clear))
 
-    pub limit-asks : EndsVector (r .tree) (namesIn names) (r .len)
+    there : EndsVector (r .tree) (namesIn names) (r .len)
     unfolding made
-    limit-asks =
+    there =
         subst (λ (y : Read). EndsVector (y .tree) (namesIn names) (y .len)) (sym (l .is-made))
         (ends (l .clear) it-vector)
+
+    pub limit-asks : {tree : List ℕ} → tree ≡ r .tree → length tree ≡ 256 → Tree tree (namesIn names) (r .len)
+    limit-asks copied g =
+        let few = ap length copied in
+        subst (λ (t : List ℕ). Tree t (namesIn names) (r .len)) (sym copied)
+        (record { ends = there; few = omega (arith, there .within) })
 
     measured-is : vectorAt (r .tree) (namesIn names) (r .len) ≡ it-vector .it
     unfolding made
     measured-is =
         ap (λ (y : Read). vectorAt (y .tree) (namesIn names) (y .len)) (l .is-made) ∙ it-is (l .clear) it-vector
 
-    module _ {b : Bool} (f : b ≡ overLimit (alternatives (vectorAt (r .tree) (namesIn names) (r .len)))) where
-      by-limit : b ≡ overLimit (alternatives (it-vector .it))
-      by-limit = f ∙ ap (λ (v : Vector). overLimit (alternatives v)) measured-is
+    module _ {tree : List ℕ} (copied : tree ≡ r .tree) {b : Bool}
+        (f : b ≡ overLimit (alternatives (meant ρ (vectorAt tree (namesIn names) (r .len))))) where
+      by-limit : b ≡ overLimit (alternatives (meant ρ (it-vector .it)))
+      by-limit =
+          f ∙ ap (λ (t : List ℕ). overLimit (alternatives (meant ρ (vectorAt t (namesIn names) (r .len))))) copied
+          ∙ ap (λ (v : Vector). overLimit (alternatives (meant ρ v))) measured-is
 
-      pub limit-over : b ≡ true → {s : Read} → s ≡ refusedWith 8 0 → ReadsText names text sort s
+      pub limit-over : b ≡ true → {s : Read} → s ≡ refusedWith 8 0 → ReadsText ρ names text sort s
       limit-over o g =
-          subst (ReadsText names text sort) (sym g)
-          (large (l .clear) 0 (too-large (l .clear) it-vector (sym o ∙ by-limit)))
+          subst (ReadsText ρ names text sort) (sym g)
+          (large (l .clear) ρ 0 (too-large (l .clear) it-vector ρ (sym o ∙ by-limit)))
 
-      pub limit-within : b ≡ false → ReadsText names text sort r
+      pub limit-within : b ≡ false → ReadsText ρ names text sort r
       limit-within o =
-          subst (ReadsText names text sort) (sym (l .is-made))
-          (small-read (l .clear) (not-large (l .clear) it-vector (sym o ∙ by-limit)))
+          subst (ReadsText ρ names text sort) (sym (l .is-made))
+          (small-read (l .clear) ρ (not-large (l .clear) it-vector ρ (sym o ∙ by-limit)))

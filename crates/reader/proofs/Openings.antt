@@ -5,6 +5,7 @@ use mathlib.Core.Path.{_≡_, refl, sym, subst}
 use mathlib.Core.Bool.{true, false}
 use mathlib.Core.List.{List}
 use Prim.Native.Nat.{ℕ}
+use Rattle.alf.specs.declared.Rules.{Rules}
 use Rattle.alf.specs.declared.Sort.{Sort}
 use Rattle.basics.specs.declared.Outcome.{Outcome}
 use Rattle.basics.specs.declared.Outcome.the-variants as call
@@ -22,14 +23,14 @@ use Rattle.reader.proofs.Readings.{names-refused, tokens-refused}
 
 -- the tokens' reading: refused, or read
 pub text-refused :
-    {names bytes : List ℕ} (sort : Sort) {t : Tokens} {r : Read} →
+    {ρ : Rules} {names bytes : List ℕ} (sort : Sort) {t : Tokens} {r : Read} →
     Passed (namesOrder names) →
     reading.Tokenized bytes t →
     t .refused ≡ true →
     r ≡ refusedBy (t .refusal) →
-    Unlimited names bytes sort r
+    Unlimited ρ names bytes sort r
 unfolding reading.made reading.refusedBy
-text-refused sort g (reading.refused f h) o e = rw e (refused f (tokens-refused _ _ sort g f h))
+text-refused sort g (reading.refused f h) o e = rw e (refused f (tokens-refused _ _ _ sort g f h))
 text-refused sort g (reading.read h r) o e = never o
 
 pub tokened :
@@ -44,15 +45,15 @@ tokened g (reading.read {ts = ts} h r) o = record { good = g; clear = h; tokens 
 
 -- the list of names: refused, or good
 pub names-wrong :
-    (names bytes : List ℕ) (made : ℕ → Type 0) (sort : Sort) {o : Outcome} {f : Refusal} {r : Read} →
+    (ρ : Rules) (names bytes : List ℕ) (made : ℕ → Type 0) (sort : Sort) {o : Outcome} {f : Refusal} {r : Read} →
     Comes (namesOrder names) made o →
     o ≡ call.Refused f →
     r ≡ refusedBy f →
-    ReadsText names bytes sort r
+    ReadsText ρ names bytes sort r
 unfolding Comes
-names-wrong names bytes made sort {f = f} h e g =
-    let k = rw e at h in subst (ReadsText names bytes sort) (sym g)
-    (names-refused names bytes sort f k)
+names-wrong ρ names bytes made sort {f = f} h e g =
+    let k = rw e at h in subst (ReadsText ρ names bytes sort) (sym g)
+    (names-refused ρ names bytes sort f k)
 
 pub names-done :
     (names : List ℕ) (made : ℕ → Type 0) {o : Outcome} {n : ℕ} → Comes (namesOrder names) made o →

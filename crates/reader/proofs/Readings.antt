@@ -6,6 +6,7 @@ use mathlib.Core.List.{List, _++_}
 use mathlib.Core.Logic.{inl, inr}
 use Prim.Native.Nat.{ℕ}
 use lib.ListN.{length}
+use Rattle.alf.specs.declared.Rules.{Rules}
 use Rattle.alf.specs.declared.Sort.{Sort}
 use Rattle.alf.specs.Expressions.{Expression}
 use Rattle.alf.specs.Refusals.{RefusedWith, RefusedBy, Passed, numbersOf}
@@ -35,19 +36,19 @@ use Rattle.reader.proofs.Texts.{nodes-inside}
 use Rattle.reader.proofs.ShownTokens.{At, Held, tokens-held, end-held, stuck-place, unknown-place}
 use Rattle.reader.proofs.ShownTokens.{call-within, within-at}
 
-module _ (names text : List ℕ) (sort : Sort) where
-  pub names-refused : (r : Refusal) → RefusedBy (namesOrder names) r → ReadsText names text sort (refusedBy r)
+module _ (ρ : Rules) (names text : List ℕ) (sort : Sort) where
+  pub names-refused : (r : Refusal) → RefusedBy (namesOrder names) r → ReadsText ρ names text sort (refusedBy r)
   unfolding all numbersOf among
   names-refused r h = refused r (in-first text (namesOrder names) _ (in-silent text (namesOrder names) refl h))
 
   module _ (good : Passed (namesOrder names)) where
-    pub tokens-refused : (r : Refusal) → RefusedIn text (order text) r → ReadsText names text sort (refusedBy r)
+    pub tokens-refused : (r : Refusal) → RefusedIn text (order text) r → ReadsText ρ names text sort (refusedBy r)
     tokens-refused r h =
         refused r (in-then text (namesOrder names) _ good (in-first text (order text) _ h))
 
     module _ {ts : List Token} (clear : Passed (order text)) (r : Reads 0 text ts) where
-      in-tree : (n p k : ℕ) → Extent text n p k → RefusedWith (treeOrder names text sort) n p
-          → ReadsText names text sort (refusedBy (refusalOver n p k))
+      in-tree : (n p k : ℕ) → Extent text n p k → RefusedWith (treeOrder ρ names text sort) n p
+          → ReadsText ρ names text sort (refusedBy (refusalOver n p k))
       in-tree n p k x h =
           refused _
           (in-then text (namesOrder names) _ good (in-then text (order text) _ clear (record { by = h; shows = x })))
@@ -56,7 +57,7 @@ module _ (names text : List ℕ) (sort : Sort) where
       held : At (Held text) (tokensOf ts)
       held = tokens-held text r refl
 
-      pub five : (p : ℕ) → stuck text ts p → ReadsText names text sort (refusedAt text 5 p)
+      pub five : (p : ℕ) → stuck text ts p → ReadsText ρ names text sort (refusedAt text 5 p)
       unfolding RefusedWith treeOrder among
       five p h =
           in-tree 5 p _ (stuck-place (Held text) held (end-held text) (h .given) 5 refl)
@@ -67,7 +68,7 @@ module _ (names text : List ℕ) (sort : Sort) where
         no-five p o =
             row-never {r = accepted (nodes e)} (tree w refl) refl (rw (reads-unique (o .read) r) at (o .holds))
 
-        pub six : (p : ℕ) → unknown names text ts p → ReadsText names text sort (refusedAt text 6 p)
+        pub six : (p : ℕ) → unknown names text ts p → ReadsText ρ names text sort (refusedAt text 6 p)
         unfolding RefusedWith treeOrder among
         six p h =
             in-tree 6 p _ (unknown-place (Held text) (h .given .stands) held 6 refl)
@@ -88,7 +89,7 @@ module _ (names text : List ℕ) (sort : Sort) where
               (end-held text)) q
 
           pub seven : (p : ℕ) → sortedIn names text sort e ≡ faulty p
-              → ReadsText names text sort (refusedAt text 7 p)
+              → ReadsText ρ names text sort (refusedAt text 7 p)
           unfolding RefusedWith treeOrder among
           seven p q =
               in-tree 7 p _ (faulty-held p q 7 refl)
@@ -115,7 +116,7 @@ module _ (names text : List ℕ) (sort : Sort) where
                 seven-never (call-agree (numberAt names text) sort (length text) e) s
                 (rw (same-tree o) at (o .holds))
 
-            pub eight : (p : ℕ) → tooLarge (is x) p → ReadsText names text sort (refusedWith 8 p)
+            pub eight : (p : ℕ) → tooLarge ρ (is x) p → ReadsText ρ names text sort (refusedWith 8 p)
             unfolding RefusedWith treeOrder among
             eight p h =
                 in-tree 8 p 0 (other refl refl)
@@ -130,11 +131,11 @@ module _ (names text : List ℕ) (sort : Sort) where
                   ),
                 ))
 
-            module _ (small : (p : ℕ) → tooLarge (is x) p → ⊥) where
-              no-eight : (p : ℕ) → OfTree text (λ f. tooLarge (sortedIn names text sort f)) p → ⊥
+            module _ (small : (p : ℕ) → tooLarge ρ (is x) p → ⊥) where
+              no-eight : (p : ℕ) → OfTree text (λ f. tooLarge ρ (sortedIn names text sort f)) p → ⊥
               no-eight p o = small p (rw s at (rw (same-tree o) at (o .holds)))
 
-              gives : Gives names text sort x
+              gives : Gives ρ names text sort x
               unfolding Passed order
               gives =
                   record {
@@ -149,11 +150,11 @@ module _ (names text : List ℕ) (sort : Sort) where
                     small = small;
                   }
 
-              pub read-clear : ReadsText names text sort (made x)
+              pub read-clear : ReadsText ρ names text sort (made x)
               unfolding Passed treeOrder
               read-clear =
                   read
-                  (passed-both (namesOrder names) (order text ++ treeOrder names text sort) good
-                  (passed-both (order text) (treeOrder names text sort) clear
+                  (passed-both (namesOrder names) (order text ++ treeOrder ρ names text sort) good
+                  (passed-both (order text) (treeOrder ρ names text sort) clear
                   (no-five, (no-six, (no-seven, (no-eight, tt))))))
                   gives

@@ -10,6 +10,7 @@ use Prim.Native.Nat.{ℕ, _-_, _≤_, _<_}
 use native.Mathlib.Omega.{arith}
 use lib.ListN.{length, getD}
 use Rattle.alf.specs.Names.{namesIn}
+use Rattle.alf.specs.declared.Rules.{Rules}
 use Rattle.alf.specs.declared.Sort.{Sort}
 use Rattle.alf.specs.Expressions.{Expression}
 use Rattle.alf.specs.Refusals.{Passed, no-grammar}
@@ -149,22 +150,23 @@ module _ {names bytes : List ℕ} {t : Tokens} (k : Tokened names bytes t) where
         stuck-place (λ q. q ≤ length bytes) (reads-inside (length bytes) (k .read) (omega arith)) (omega arith)
         (stuck-there o .given)
 
-    pub whole-five : p .ok ≡ false → {r : Read} → r ≡ refusedAt bytes 5 (p .place) → Unlimited names bytes sort r
-    whole-five o e =
+    pub whole-five : (ρ : Rules) → p .ok ≡ false → {r : Read} → r ≡ refusedAt bytes 5 (p .place)
+        → Unlimited ρ names bytes sort r
+    whole-five ρ o e =
         rw e
         (refused _
-        (five names bytes sort (k .good) (k .clear) (k .read) (p .place) (stuck-there o)))
+        (five ρ names bytes sort (k .good) (k .clear) (k .read) (p .place) (stuck-there o)))
 
     module _ (o : p .ok ≡ true) {u : ℕ} (f : u ≡ unknownAt names bytes (t .codes) (t .places) (t .count)) where
-      pub whole-six : u < t .count → {r : Read} → r ≡ refusedAt bytes 6 (getD (t .places) u 0)
-          → Unlimited names bytes sort r
-      whole-six l e =
+      pub whole-six : (ρ : Rules) → u < t .count → {r : Read} → r ≡ refusedAt bytes 6 (getD (t .places) u 0)
+          → Unlimited ρ names bytes sort r
+      whole-six ρ l e =
           let (tree, w, q) = parse-sound answer o in
           let g = found-at f in
           let h : u < length ts = omega (arith, count-is) in
           rw (e, place-at u l)
           (refused _
-          (six names bytes sort (k .good) (k .clear) (k .read) w _
+          (six ρ names bytes sort (k .good) (k .clear) (k .read) w _
           (rw (sym g) at (unknown-here names bytes ts (reads-rising (k .read)) (rw g at h)))))
 
       pub grown : Grown names bytes p
@@ -179,10 +181,10 @@ module _ {names bytes : List ℕ} {t : Tokens} (k : Tokened names bytes t) where
             is-tree = q;
           }
 
-      pub whole-sorted : t .count ≤ u → {r : Read} → Answered names bytes p sort r
-          → Unlimited names bytes sort r
+      pub whole-sorted : (ρ : Rules) → t .count ≤ u → {r : Read} → Answered names bytes p sort r
+          → Unlimited ρ names bytes sort r
       unfolding answered
-      whole-sorted l {r} h =
+      whole-sorted ρ l {r} h =
           let (e, w, q) = parse-sound answer o in
           let known = unknown-never names bytes ts (reads-rising (k .read)) (omega (arith, found-at f, count-is)) in
           by-sort e w known (sortedIn names bytes sort e) refl (h .given e (expression-formed w) q)
@@ -194,7 +196,7 @@ module _ {names bytes : List ℕ} {t : Tokens} (k : Tokened names bytes t) where
               (q : Sorted) →
               sortedIn names bytes sort e ≡ q →
               r ≡ answered bytes q →
-              Unlimited names bytes sort r
+              Unlimited ρ names bytes sort r
           by-sort e w known (is x) s d =
               rw d
               (unlimited
@@ -209,4 +211,4 @@ module _ {names bytes : List ℕ} {t : Tokens} (k : Tokened names bytes t) where
                 sorts = s;
               }))
           by-sort e w known (faulty v) s d =
-              rw d (refused _ (seven names bytes sort (k .good) (k .clear) (k .read) w known v s))
+              rw d (refused _ (seven ρ names bytes sort (k .good) (k .clear) (k .read) w known v s))

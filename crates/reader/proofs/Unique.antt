@@ -11,6 +11,7 @@ use mathlib.Core.List.{List, _++_}
 use Prim.Native.Nat.{ℕ, _≤_}
 use native.Mathlib.Omega.{arith}
 use lib.ListN.{length}
+use Rattle.alf.specs.declared.Rules.{Rules}
 use Rattle.alf.specs.declared.Sort.{Sort}
 use Rattle.alf.specs.Expressions.{Expression, boolean, vector}
 use Rattle.alf.specs.Refusals.{Row, Passed}
@@ -40,62 +41,62 @@ same-tree a b = parses-unique (rw (reads-unique (b .read) (a .read)) at (b .whol
 of-tree-fixes : (text : List ℕ) (row : Tree → Row) → ((e : Tree) → Fixed (row e)) → Fixed (OfTree text row)
 of-tree-fixes text row f p q a b = f (a .tree) p q (a .holds) (rw (same-tree a b) at (b .holds))
 
-large-fixes : (q : Sorted) → Fixed (tooLarge q)
+large-fixes : (ρ : Rules) (q : Sorted) → Fixed (tooLarge ρ q)
 unfolding tooLarge
-large-fixes (is (boolean c)) p r a b = absurd a
-large-fixes (is (vector v)) p r a b = at-fixed _ _ p r a b
-large-fixes (faulty s) p r a b = absurd a
+large-fixes ρ (is (boolean c)) p r a b = absurd a
+large-fixes ρ (is (vector v)) p r a b = at-fixed _ _ p r a b
+large-fixes ρ (faulty s) p r a b = absurd a
 
-tree-fixed : (names text : List ℕ) (sort : Sort) → AllFixed (treeOrder names text sort)
+tree-fixed : (ρ : Rules) (names text : List ℕ) (sort : Sort) → AllFixed (treeOrder ρ names text sort)
 unfolding treeOrder
-tree-fixed names text sort = (
+tree-fixed ρ names text sort = (
   of-tokens-fixes text (stuck text) (λ ts. first-fixed _),
   (
     of-tokens-fixes text (unknown names text) (λ ts. first-fixed _),
     (
       of-tree-fixes text _ (λ e. first-of-fixed _ _),
-      (of-tree-fixes text _ (λ e. large-fixes (sortedIn names text sort e)), tt),
+      (of-tree-fixes text _ (λ e. large-fixes ρ (sortedIn names text sort e)), tt),
     ),
   ),
 )
 
-pub read-fixed : (names text : List ℕ) (sort : Sort) → AllFixed (readOrder names text sort)
-read-fixed names text sort =
-    fixed-both (namesOrder names) (order text ++ treeOrder names text sort) (at-fixed _ _, (first-fixed _, tt))
-    (fixed-both (order text) (treeOrder names text sort) (order-fixes text) (tree-fixed names text sort))
+pub read-fixed : (ρ : Rules) (names text : List ℕ) (sort : Sort) → AllFixed (readOrder ρ names text sort)
+read-fixed ρ names text sort =
+    fixed-both (namesOrder names) (order text ++ treeOrder ρ names text sort) (at-fixed _ _, (first-fixed _, tt))
+    (fixed-both (order text) (treeOrder ρ names text sort) (order-fixes text) (tree-fixed ρ names text sort))
 
 -- a text gives one expression
-pub gives-unique : {names text : List ℕ} {sort : Sort} {x y : Expression} → Gives names text sort x
-    → Gives names text sort y → x ≡ y
-gives-unique {names} {text} {sort} a b =
+pub gives-unique : {ρ : Rules} {names text : List ℕ} {sort : Sort} {x y : Expression} → Gives ρ names text sort x
+    → Gives ρ names text sort y → x ≡ y
+gives-unique {ρ} {names} {text} {sort} a b =
     let e = parses-unique (rw (reads-unique (b .read) (a .read)) at (b .whole)) (a .whole) in
     let s = rw e at (b .sorts) in
     let t = sym (a .sorts) ∙ s in cc
 
-pub read-unique : {names text : List ℕ} {sort : Sort} {r s : Read} → ReadsText names text sort r
-    → ReadsText names text sort s → r ≡ s
-read-unique {names} {text} {sort} (refused r a) (refused s b) =
-    let o = readOrder names text sort in
-    ap refusedBy (refused-in-unique text o (sole-fixed o (read-fixed names text sort)) a b)
-read-unique {names} {text} {sort} (refused r a) (read b g) =
-    absurd (refused-passed (readOrder names text sort) _ _ b (a .by))
-read-unique {names} {text} {sort} (read a g) (refused r b) =
-    absurd (refused-passed (readOrder names text sort) _ _ a (b .by))
+pub read-unique : {ρ : Rules} {names text : List ℕ} {sort : Sort} {r s : Read} → ReadsText ρ names text sort r
+    → ReadsText ρ names text sort s → r ≡ s
+read-unique {ρ} {names} {text} {sort} (refused r a) (refused s b) =
+    let o = readOrder ρ names text sort in
+    ap refusedBy (refused-in-unique text o (sole-fixed o (read-fixed ρ names text sort)) a b)
+read-unique {ρ} {names} {text} {sort} (refused r a) (read b g) =
+    absurd (refused-passed (readOrder ρ names text sort) _ _ b (a .by))
+read-unique {ρ} {names} {text} {sort} (read a g) (refused r b) =
+    absurd (refused-passed (readOrder ρ names text sort) _ _ a (b .by))
 read-unique (read a g) (read b h) = ap made (gives-unique g h)
 
 -- what is read is what the text gives
-pub record Read-as (names text : List ℕ) (sort : Sort) (r : Read) : Type 0 where
+pub record Read-as (ρ : Rules) (names text : List ℕ) (sort : Sort) (r : Read) : Type 0 where
   pub good : Passed (namesOrder names)
   pub short : length text ≤ 4096
   pub it : Expression
-  pub gives : Gives names text sort it
+  pub gives : Gives ρ names text sort it
   pub is-it : r ≡ made it
 
-pub read-sound : {names text : List ℕ} {sort : Sort} {r : Read} → ReadsText names text sort r → r .refused ≡ false
-    → Read-as names text sort r
+pub read-sound : {ρ : Rules} {names text : List ℕ} {sort : Sort} {r : Read} → ReadsText ρ names text sort r
+    → r .refused ≡ false → Read-as ρ names text sort r
 unfolding made refusedBy
 read-sound (refused r a) e = never (sym e)
-read-sound {names} {text} {sort} (read {x = x} a g) e =
+read-sound {ρ} {names} {text} {sort} (read {x = x} a g) e =
     record {
       good = passed-left (namesOrder names) _ a;
       short = text-short text (passed-left (order text) _ (passed-right (namesOrder names) _ a));
@@ -119,20 +120,20 @@ text-clear text l r d m = (
 )
 
 pub gives-read :
-    {names text : List ℕ} {sort : Sort} {x : Expression} →
+    {ρ : Rules} {names text : List ℕ} {sort : Sort} {x : Expression} →
     Passed (namesOrder names) →
     length text ≤ 4096 →
-    Gives names text sort x →
-    ReadsText names text sort (made x)
-gives-read {names} {text} {sort} n l g =
-    read-clear names text sort n (text-clear text l (g .read) (g .shallow) (g .few)) (g .read) (g .whole) (g .known)
+    Gives ρ names text sort x →
+    ReadsText ρ names text sort (made x)
+gives-read {ρ} {names} {text} {sort} n l g =
+    read-clear ρ names text sort n (text-clear text l (g .read) (g .shallow) (g .few)) (g .read) (g .whole) (g .known)
     (g .sorts) (g .small)
 
 pub read-complete :
-    {names text : List ℕ} {sort : Sort} {r : Read} {x : Expression} →
+    {ρ : Rules} {names text : List ℕ} {sort : Sort} {r : Read} {x : Expression} →
     Passed (namesOrder names) →
     length text ≤ 4096 →
-    Gives names text sort x →
-    ReadsText names text sort r →
+    Gives ρ names text sort x →
+    ReadsText ρ names text sort r →
     r ≡ made x
 read-complete n l g h = read-unique h (gives-read n l g)

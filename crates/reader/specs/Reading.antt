@@ -12,10 +12,12 @@ use Prim.Native.Nat.{ℕ, _<_}
 use mathlib.Core.Path.{_≡_}
 use mathlib.Core.List.{List, [], _∷_, _++_}
 use lib.ListN.{length, getD}
+use Rattle.alf.specs.declared.Rules.{Rules}
 use Rattle.alf.specs.declared.Sort.{Sort}
 use Rattle.alf.specs.Names.{namesIn, nameAt}
 use Rattle.alf.specs.Expressions.{Expression, boolean, vector}
 use Rattle.alf.specs.Alternatives.{alternatives}
+use Rattle.alf.specs.Steady.{meant}
 use Rattle.basics.specs.declared.Refusal.{Refusal}
 use Rattle.alf.specs.Refusals.{Row, Order, check, no-grammar, unknown-name, wrong-sort, over-limits}
 use Rattle.alf.specs.Refusals as refusals
@@ -71,11 +73,11 @@ faultsFor sort bytes number e = faults number e ++ own (sorted number e) (λ x. 
 abbrev pub unsorted : List ℕ → Row
 unsorted places = wrong-sort (λ i. i < length places) (λ i. getD places i 0)
 
--- 8: of a vector expression
-unfoldable pub tooLarge : Sorted → Row
-tooLarge (is (boolean c)) p = ⊥
-tooLarge (is (vector v)) p = over-limits (alternatives v) p
-tooLarge (faulty q) p = ⊥
+-- 8: of a vector expression, as the rules read it (document 02, [2]: "8 counts the added tests")
+unfoldable pub tooLarge : Rules → Sorted → Row
+tooLarge ρ (is (boolean c)) p = ⊥
+tooLarge ρ (is (vector v)) p = over-limits (alternatives (meant ρ v)) p
+tooLarge ρ (faulty q) p = ⊥
 
 -- a row that speaks of the text's tree
 pub record OfTree (text : List ℕ) (row : Tree → Row) (p : ℕ) : Type 0 where
@@ -98,20 +100,20 @@ abbrev pub faultsIn : List ℕ → List ℕ → Sort → Tree → List ℕ
 faultsIn names text sort e = faultsFor sort (length text) (numberAt names text) e
 
 -- 5 to 8
-unfoldable pub treeOrder : List ℕ → List ℕ → Sort → Order
-treeOrder names text sort =
+unfoldable pub treeOrder : Rules → List ℕ → List ℕ → Sort → Order
+treeOrder ρ names text sort =
     check 5 (OfTokens text (stuck text)) ∷
     check 6 (OfTokens text (unknown names text)) ∷
     check 7 (OfTree text (λ e. unsorted (faultsIn names text sort e))) ∷
-    check 8 (OfTree text (λ e. tooLarge (sortedIn names text sort e))) ∷
+    check 8 (OfTree text (λ e. tooLarge ρ (sortedIn names text sort e))) ∷
     []
 
 -- 18 and 12 for the name list, then 1 to 8, each over the whole text before the next
-abbrev pub readOrder : List ℕ → List ℕ → Sort → Order
-readOrder names text sort = namesOrder names ++ (order text ++ treeOrder names text sort)
+abbrev pub readOrder : Rules → List ℕ → List ℕ → Sort → Order
+readOrder ρ names text sort = namesOrder names ++ (order text ++ treeOrder ρ names text sort)
 
 -- what text, of whatever length, gives an expression: 2 to 8 are given nowhere
-pub record Gives (names text : List ℕ) (sort : Sort) (x : Expression) : Type 0 where
+pub record Gives (ρ : Rules) (names text : List ℕ) (sort : Sort) (x : Expression) : Type 0 where
   pub tokens : List Token
   pub read : Reads 0 text tokens
   pub shallow : (p : ℕ) → deep tokens p → ⊥
@@ -120,13 +122,13 @@ pub record Gives (names text : List ℕ) (sort : Sort) (x : Expression) : Type 0
   pub whole : grammar.Expression (tokensOf tokens) tree
   pub known : (p : ℕ) → Unknown names text tokens p → ⊥
   pub sorts : sortedIn names text sort tree ≡ is x
-  pub small : (p : ℕ) → tooLarge (is x) p → ⊥
+  pub small : (p : ℕ) → tooLarge ρ (is x) p → ⊥
 
 -- what is read
-pub data ReadsText (names text : List ℕ) (sort : Sort) : Read → Type 0 where
-  refused : (r : Refusal) → RefusedIn text (readOrder names text sort) r → ReadsText names text sort (refusedBy r)
-  read : {x : Expression} → refusals.Passed (readOrder names text sort) → Gives names text sort x
-      → ReadsText names text sort (made x)
+pub data ReadsText (ρ : Rules) (names text : List ℕ) (sort : Sort) : Read → Type 0 where
+  refused : (r : Refusal) → RefusedIn text (readOrder ρ names text sort) r → ReadsText ρ names text sort (refusedBy r)
+  read : {x : Expression} → refusals.Passed (readOrder ρ names text sort) → Gives ρ names text sort x
+      → ReadsText ρ names text sort (made x)
 
 -- the same, limit 8 aside: what is left to be asked of a text that 18, 12 and 1 to 7 let through
 pub record Clear (names text : List ℕ) (sort : Sort) (x : Expression) : Type 0 where
@@ -139,6 +141,6 @@ pub record Clear (names text : List ℕ) (sort : Sort) (x : Expression) : Type 0
   pub known : (p : ℕ) → Unknown names text tokens p → ⊥
   pub sorts : sortedIn names text sort tree ≡ is x
 
-pub data Unlimited (names text : List ℕ) (sort : Sort) : Read → Type 0 where
-  refused : (r : Refusal) → ReadsText names text sort (refusedBy r) → Unlimited names text sort (refusedBy r)
-  unlimited : {x : Expression} → Clear names text sort x → Unlimited names text sort (made x)
+pub data Unlimited (ρ : Rules) (names text : List ℕ) (sort : Sort) : Read → Type 0 where
+  refused : (r : Refusal) → ReadsText ρ names text sort (refusedBy r) → Unlimited ρ names text sort (refusedBy r)
+  unlimited : {x : Expression} → Clear names text sort x → Unlimited ρ names text sort (made x)

@@ -1,6 +1,7 @@
 // Reading an expression: from a text to a tree, or refused.
 use acceptance::sizes::Measured;
 use acceptance::sizes::measure;
+use alf::Rules;
 use alf::Sort;
 use basics::Outcome;
 use basics::Refusal;
@@ -21,7 +22,9 @@ ghost use Rattle.alf.specs.Refusals.{Passed};
 ghost use Rattle.names.specs.Check.{namesOrder};
 ghost use Rattle.reader.specs.Reads.{refusedBy, refusedWith, refusedAt, hasSort, Grown, Answered};
 ghost use Rattle.alf.specs.Alternatives.{alternatives, overLimit};
-ghost use Rattle.trees.specs.Parts.{EndsVector, vectorAt};
+ghost use Rattle.alf.specs.Steady.{meant};
+ghost use Rattle.trees.specs.Parts.{vectorAt};
+ghost use Rattle.steady_pins.specs.Finding.{Tree};
 ghost use Rattle.reader.specs.Reading.{Unlimited, ReadsText};
 ghost use Rattle.reader.specs.Tokened.{Tokened};
 
@@ -96,9 +99,9 @@ fn read_nodes(names: &[u8], text: &[u8], parsed: Parsed, sort: Sort) -> Read
 }
 
 // The expression of a text's tokens, or refused with 5, 6 or 7.
-fn read_tokened(names: &[u8], text: &[u8], t: Tokens, sort: Sort) -> Read
+fn read_tokened(rules: Rules, names: &[u8], text: &[u8], t: Tokens, sort: Sort) -> Read
     requires { ⌜ Tokened (now names) (now text) t ⌝ }
-    ensures { λ r. ⌜ Unlimited (now (names .entry)) (now (text .entry)) sort r ⌝ }
+    ensures { λ r. ⌜ Unlimited rules (now (names .entry)) (now (text .entry)) sort r ⌝ }
 {
     let count = t.count;
     let codes = t.codes;
@@ -115,32 +118,40 @@ fn read_tokened(names: &[u8], text: &[u8], t: Tokens, sort: Sort) -> Read
 }
 
 // The expression of a text, limit 8 aside, or refused with 1 to 7.
-fn read_text(names: &[u8], text: &[u8], sort: Sort) -> Read
+fn read_text(rules: Rules, names: &[u8], text: &[u8], sort: Sort) -> Read
     requires { ⌜ Passed (namesOrder (now names)) ⌝ }
-    ensures { λ r. ⌜ Unlimited (now (names .entry)) (now (text .entry)) sort r ⌝ }
+    ensures { λ r. ⌜ Unlimited rules (now (names .entry)) (now (text .entry)) sort r ⌝ }
 {
     let t = read_tokens(text);
     if t.refused {
         return hand_on(t.refusal);
     }
-    read_tokened(names, text, t, sort)
+    read_tokened(rules, names, text, t, sort)
 }
 
-// Whether the vector expression that ends at `end` is over limit 8.
-fn is_over(tree: &[u8], end: usize, names: usize) -> bool
-    requires { ⌜ EndsVector (now tree) names end ⌝ }
-    ensures { λ r. ⌜ r ≡ overLimit (alternatives (vectorAt (now (tree .entry)) names end)) ⌝ }
+// Whether the vector expression that ends at `end`, as the rules read it, is over limit 8.
+fn is_over(rules: Rules, tree: &[u8], end: usize, names: usize) -> bool
+    requires { ⌜ Tree (now tree) names end ⌝ }
+    ensures { λ r. ⌜ r ≡ overLimit (alternatives (meant rules (vectorAt (now (tree .entry)) names end))) ⌝ }
 {
-    match measure(tree, end, names) {
+    match measure(rules, tree, end, names) {
         Measured::Over => true,
         Measured::Within(size) => false,
     }
 }
 
+// The tree of what was read, by itself.
+fn tree_of(r: Read) -> [u8; 256]
+    ensures { λ t. ⌜ t ≡ r .tree ⌝ }
+{
+    let tree = r.tree;
+    tree
+}
+
 // What was read, or refused with 8. A boolean expression has no alternatives.
-fn limit(names: &[u8], text: &[u8], sort: Sort, r: Read) -> Read
-    requires { ⌜ Unlimited (now names) (now text) sort r ⌝ }
-    ensures { λ o. ⌜ ReadsText (now (names .entry)) (now (text .entry)) sort o ⌝ }
+fn limit(rules: Rules, names: &[u8], text: &[u8], sort: Sort, r: Read) -> Read
+    requires { ⌜ Unlimited rules (now names) (now text) sort r ⌝ }
+    ensures { λ o. ⌜ ReadsText rules (now (names .entry)) (now (text .entry)) sort o ⌝ }
 {
     if r.refused {
         return r;
@@ -148,8 +159,8 @@ fn limit(names: &[u8], text: &[u8], sort: Sort, r: Read) -> Read
     if has_sort(sort, false) {
         return r;
     }
-    let tree = r.tree;
-    if is_over(&tree, r.len, names.len() / 32) {
+    let tree = tree_of(r);
+    if is_over(rules, &tree, r.len, names.len() / 32) {
         return refuse_text(8, 0);
     }
     r
@@ -157,11 +168,17 @@ fn limit(names: &[u8], text: &[u8], sort: Sort, r: Read) -> Read
 
 // The expression that a text is, as a tree over a list of names, for the sort asked for; or refused: 18 and 12 for the
 // list of names, then 1 to 8, each over the whole text before the next.
-pub fn read_expression(names: &[u8], text: &[u8], sort: Sort) -> Read
-    ensures { λ r. ⌜ ReadsText (now (names .entry)) (now (text .entry)) sort r ⌝ }
+pub fn read_expression(rules: Rules, names: &[u8], text: &[u8], sort: Sort) -> Read
+    ensures { λ r. ⌜ ReadsText rules (now (names .entry)) (now (text .entry)) sort r ⌝ }
 {
     match check_names(names) {
         Outcome::Refused(r) => hand_on(r),
-        Outcome::Done(count) => limit(names, text, sort, read_text(names, text, sort)),
+        Outcome::Done(count) => limit(
+            rules,
+            names,
+            text,
+            sort,
+            read_text(rules, names, text, sort),
+        ),
     }
 }

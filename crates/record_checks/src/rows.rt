@@ -41,8 +41,8 @@ fn is_row(file: &[u8], s: Cursor, w: usize) -> bool
     }
 }
 
-// The cursor behind the good rows whose time has w bytes. With one w for all of them, where the next row stands is known
-// before the mark of this one is read.
+// The cursor behind the good rows whose time has w bytes. With one w for all of them, where the next row stands is
+// known before the mark of this one is read.
 fn pass_marked(file: &[u8], from: Cursor, w: usize) -> Cursor
     requires { ⌜ Stands (now file) from ⌝ }
     ensures { λ r. ⌜ Onward (now (file .entry)) from r ⌝ }

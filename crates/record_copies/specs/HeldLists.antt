@@ -47,7 +47,8 @@ pub record SlotFits (name out : List ℕ) (at : ℕ) : Type 0 where
   pub few : length name ≤ 32
   pub room : at + 32 ≤ length out
 
--- a row of k codes stands at q with a time of w bytes; there is room for its time as entry r, for its codes from a place
+-- a row of k codes stands at q with a time of w bytes; there is room for its time as entry r, for its codes from a
+-- place
 pub record TimeFits (file : List ℕ) (k q w : ℕ) (out : List ℕ) (r : ℕ) : Type 0 where
   pub time : TimeThere w file (q + 2)
   pub whole : q + 2 + w + k ≤ length file

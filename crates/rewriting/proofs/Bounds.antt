@@ -1,7 +1,7 @@
 -- Limit 8, for the alternatives of an accepted tree with their operands as places: at most 64, of at most 16 steps and
 -- 64 tests each; so the lists have at most 64, 1,024 and 4,096 entries.
--- Main names: accepted-limited, Bounded, accepted-bounded; few-steps, few-tests; shape-exact, count-exact,
--- accepted-chosen.
+-- Main names: accepted-limited, Bounded, few-steps, few-tests; ready-ends, ready-pins, ready-means, ready-bounded,
+-- shape-exact, count-exact, ready-chosen, ready-shaping, ready-short.
 use Prim.Native.Nat.{ℕ, zero, suc, _+_, _*_, _<_, _≤_, min}
 use native.Mathlib.Omega.{arith}
 use native.Mathlib.Nat.{suc-mul}
@@ -12,17 +12,22 @@ use lib.Dec.{ltb}
 use lib.ListN.{length, getD, length-append, length-map}
 use borrow.Author.Tests.{ltb-false}
 use Rattle.basics.specs.Words.{greatestOf, sumOf}
-use Rattle.alf.specs.Expressions.{Vector, Expression, boolean, vector}
+use Rattle.alf.specs.Expressions.{name, Expression, boolean, vector}
 use Rattle.alf.specs.Decoder.{topVector, Decodes}
 use Rattle.alf.specs.Alternatives.{Test, Alternative, alternatives, tests, numberOfAlternatives, stepsOf, overLimit}
 use Rattle.alf.specs.declared.Sort.{Sort}
 use Rattle.alf.specs.declared.Sort.the-variants as sort
 use Rattle.basics.proofs.Bools.{never, or-left, or-right}
-use Rattle.trees.specs.Parts.{vectorAt}
+use Rattle.alf.specs.Steady.{meant}
+use Rattle.alf.specs.declared.Rules.{Rules}
+use Rattle.trees.specs.Parts.{EndsVector, vectorAt, booleanAt}
+use Rattle.steady_pins.specs.Pinned.{byPlaces, Pins}
+use Rattle.steady_pins.proofs.PinnedAlternatives.{placed-number, placed-length}
+use Rattle.steady_pins.proofs.Found.{found-means, found-pins}
 use Rattle.acceptance.specs.Accepted.{sortOf, overSize, Accepted, Limited}
-use Rattle.acceptance.specs.Sizes.{alternativeAt, Chosen, Shaped}
-use Rattle.acceptance.proofs.Acceptance.{accepted-vector, accepted-decodes}
-use Rattle.rewriting.specs.Lists.{joined, alternativesAt, alternativeOf}
+use Rattle.acceptance.specs.Sizes.{Chosen, Shaping, ShapedAt}
+use Rattle.acceptance.proofs.Acceptance.{accepted-vector, accepted-tree, accepted-decodes}
+use Rattle.rewriting.specs.Lists.{joined, alternativesBy, alternativeOf, Ready}
 use Rattle.step_tests.proofs.Exchanging.{testOn}
 use Rattle.rewriting.proofs.Joining.{joined-append, joined-map}
 use Rattle.step_tests.proofs.Places.{edgeBack, operandBack}
@@ -32,12 +37,12 @@ isVectorSort : Sort → Bool
 isVectorSort sort.Boolean = false
 isVectorSort sort.Vector = true
 
-pub accepted-limited : (t : List ℕ) (names : ℕ) → Accepted names sort.Vector t → Limited t names
+pub accepted-limited : {ρ : Rules} (t : List ℕ) (names : ℕ) → Accepted ρ names sort.Vector t → Limited ρ t names
 unfolding Decodes topVector sortOf overSize isVectorSort
-accepted-limited t names a = go (a .expression) (accepted-decodes a) (a .sorted) (a .sized)
+accepted-limited {ρ} t names a = go (a .expression) (accepted-decodes a) (a .sorted) (a .sized)
   where
-    go : (e : Expression) → Decodes names t e → sortOf e ≡ sort.Vector → overSize e ≡ false
-        → Limited t names
+    go : (e : Expression) → Decodes names t e → sortOf e ≡ sort.Vector → overSize ρ e ≡ false
+        → Limited ρ t names
     go (boolean c) d k l = never (ap isVectorSort k)
     go (vector p) d k l = rw d l
 
@@ -125,43 +130,69 @@ few-tested (x ∷ xs) h =
 pub few-tests : {xs : List Alternative} → Bounded xs → length (joined (joined xs)) ≤ 4096
 few-tests {xs} b = let e = few-tested xs (b .light) in omega (arith, b .few)
 
-module _ (tree : List ℕ) (names : ℕ) (a : Accepted names sort.Vector tree) where
+-- the pins that are found, and what is read with them
+module _ {pins tree : List ℕ} {names : ℕ} (a : Ready pins tree names) where
+  pub ready-ends : EndsVector tree names (length tree)
+  ready-ends = accepted-vector tree names (a .accepted)
+
+  pub ready-pins : Pins tree names pins
+  ready-pins = rw (a .found) (found-pins (a .rules) (accepted-tree tree names (a .accepted)))
+
+  pub ready-means : byPlaces (booleanAt tree names) pins (length tree) (vectorAt tree names (length tree))
+      ≡ meant (a .rules) (vectorAt tree names (length tree))
+  ready-means = rw (a .found) (found-means (a .rules) (accepted-tree tree names (a .accepted)))
+
+module _ (pins tree : List ℕ) (names : ℕ) (a : Ready pins tree names) where
   abbrev h : Test → Test
   h = testOn edgeBack (operandBack tree names)
 
-  back : map (map (map h)) (alternativesAt tree names) ≡ alternatives (vectorAt tree names (length tree))
-  back = alternatives-back tree names (accepted-vector tree names a)
+  abbrev own : List Alternative
+  own = alternatives (meant (a .rules) (vectorAt tree names (length tree)))
 
-  pub accepted-bounded : Bounded (alternativesAt tree names)
-  accepted-bounded = exchanged-bounded h (alternativesAt tree names) (rw back (accepted-limited tree names a))
+  back : map (map (map h)) (alternativesBy pins tree names) ≡ own
+  back = alternatives-back tree names (ready-ends a) pins (ready-pins a) ∙ ap alternatives (ready-means a)
+
+  pub ready-bounded : Bounded (alternativesBy pins tree names)
+  ready-bounded =
+      exchanged-bounded h (alternativesBy pins tree names) (rw back (accepted-limited tree names (a .accepted)))
 
   -- so what is counted for an alternative is exact
-  pub shape-exact : (t : ℕ) {s n : ℕ} → Shaped (alternativeAt tree names (length tree) t) s n
-      → (s ≡ length (alternativeOf tree names t)) × (n ≡ length (joined (alternativeOf tree names t)))
+  pub shape-exact : (t : ℕ) {s n : ℕ} → ShapedAt pins tree names (length tree) t s n
+      → (s ≡ length (alternativeOf pins tree names t)) × (n ≡ length (joined (alternativeOf pins tree names t)))
   shape-exact t g =
-      let e =
-      ap (λ (ys : List Alternative). getD ys t []) (sym back) ∙ exchanged-at h (alternativesAt tree names) t in
-      let u = ap length e ∙ length-map (alternativeOf tree names t) (map h) in
-      let v = ap tests e ∙ exchanged-tests h (alternativeOf tree names t) in
-      let k = accepted-bounded in
-      (omega (arith, g .steps-is, k .short t), omega (arith, g .tests-is, k .light t))
+      let k = ready-bounded in
+      let v = tests-joined (alternativeOf pins tree names t) in
+      (omega (arith, g .given name .steps-is, k .short t), omega (arith, g .given name .tests-is, k .light t))
 
-  number : numberOfAlternatives (vectorAt tree names (length tree)) ≡ length (alternativesAt tree names)
+  number : numberOfAlternatives (vectorAt tree names (length tree)) ≡ length (alternativesBy pins tree names)
   unfolding numberOfAlternatives
-  number = ap length (sym back) ∙ length-map (alternativesAt tree names) (map (map h))
+  number = sym (placed-number name pins (length tree) (vectorAt tree names (length tree)))
 
   pub count-exact : {n : ℕ} → n ≡ min 65 (numberOfAlternatives (vectorAt tree names (length tree)))
-      → n ≡ length (alternativesAt tree names)
-  count-exact e = omega (arith, number, accepted-bounded .few)
+      → n ≡ length (alternativesBy pins tree names)
+  count-exact e = omega (arith, number, ready-bounded .few)
 
-  pub accepted-chosen : {t : ℕ} → t < length (alternativesAt tree names) → Chosen tree names (length tree) t
-  accepted-chosen l =
+  pub ready-chosen : {t : ℕ} → t < length (alternativesBy pins tree names) → Chosen tree names (length tree) t
+  ready-chosen l =
       record {
-        ends = accepted-vector tree names a;
+        ends = ready-ends a;
         there = omega (arith, number);
-        few = omega (arith, number, accepted-bounded .few);
+        few = omega (arith, number, ready-bounded .few);
       }
 
-  pub accepted-short : stepsOf (vectorAt tree names (length tree)) ≤ 64
+  pub ready-shaping : {t : ℕ} → t < length (alternativesBy pins tree names) → Shaping pins tree names (length tree) t
+  ready-shaping l = record { chosen = ready-chosen l; small = a .accepted .tokens; long = ready-pins a .long }
+
+  -- a pin adds no step
+  short-all : (xs : List Alternative) → ((t : ℕ) → length (getD xs t []) ≤ 16) → greatestOf length xs ≤ 16
+  unfolding greatestOf
+  short-all [] k = omega arith
+  short-all (x ∷ xs) k = let e = short-all xs (λ t. k (suc t)) in omega (arith, k zero)
+
+  pub ready-short : stepsOf (vectorAt tree names (length tree)) ≤ 64
   unfolding stepsOf
-  accepted-short = let e = short-of _ (accepted-limited tree names a) in omega arith
+  ready-short =
+      let e = short-all (alternatives (vectorAt tree names (length tree)))
+      (λ t. rw (← placed-length name pins (length tree) (vectorAt tree names (length tree)) t) (ready-bounded .short t))
+      in
+      omega arith

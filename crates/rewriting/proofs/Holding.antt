@@ -2,26 +2,39 @@
 -- that the whole value follows from the tree.
 --   step-entries, test-entries, edge-entries, operand-entries    how many entries each list has
 --   front-taken                     the front of a list that is laid over another
+--   found-ready                     a tree with the pins that are found
 --   arrays-fillable                 arrays have room for any tree that is accepted
+--   meant-number, meant-same        places instead of operands
 --   holds                           what is filled, as long as the counts say, holds the alternatives
+--   holds-number                    how many alternatives there are
 --   steps-within, tests-within, edges-within, operands-within    what is in use stands in the arrays
 --   holds-unique                    two such values of a tree are equal
 use Prim.Native.Nat.{ℕ, _≤_}
 use native.Mathlib.Omega.{arith}
-use mathlib.Core.Path.{_≡_, ap, sym, _∙_}
-use mathlib.Core.List.{List}
+use mathlib.Core.Path.{_≡_, refl, ap, sym, _∙_}
+use mathlib.Core.List.{List, map}
 use lib.ListN.{length, take, drop, replicate, length-append, length-map}
 use lib.Seq.{take-at, length-take-le}
-use Rattle.alf.specs.Alternatives.{Alternative}
-use Rattle.alf.specs.declared.Sort.the-variants.{Vector}
+use Rattle.alf.specs.Expressions.{name, literal, Vector}
+use Rattle.alf.specs.Alternatives.{Alternative, alternatives}
+use Rattle.alf.specs.Steady.{meant}
+use Rattle.alf.specs.declared.Rules.{Rules}
+use Rattle.alf.specs.declared.Sort.the-variants as sort
 use Rattle.acceptance.specs.Accepted.{Accepted}
-use Rattle.acceptance.proofs.Acceptance.{accepted-vector}
+use Rattle.acceptance.proofs.Acceptance.{accepted-vector, accepted-tree}
 use Rattle.rewriting.specs.declared.lists.Alternatives.{Alternatives}
+use Rattle.steady_pins.specs.Finding.{pinsOf}
+use Rattle.steady_pins.proofs.Found.{found-means}
+use Rattle.steady_pins.proofs.PinnedAlternatives.{placed-number}
+use Rattle.step_tests.proofs.Exchanging.{alternativeOn, placed-same}
+use Rattle.trees.specs.Parts.{vectorAt, booleanAt}
 use Rattle.step_tests.specs.OperandPlaces.{edgeOf, endOf}
 use Rattle.rewriting.specs.Lists.{joined, alternativesAt, stepList, testList, edgeList, operandList}
-use Rattle.rewriting.specs.Lists.{Long, Filled, Fillable, InUse, Holds}
-use Rattle.rewriting.proofs.Bounds.{accepted-bounded, few-steps, few-tests}
+use Rattle.rewriting.specs.Lists.{Ready, Long, Filled, Fillable, InUse, Holds}
+use Rattle.rewriting.proofs.Bounds.{ready-pins, ready-bounded, few-steps, few-tests}
 use Rattle.rewriting.proofs.Meaning.{lists-stand, lists-shape}
+use Rattle.alternatives.specs.InMemory.{alternativesOf}
+use Rattle.alternatives.proofs.Cuts.{cut-length}
 use Rattle.basics.specs.Memory.{front}
 
 -- how many entries each list has
@@ -53,26 +66,31 @@ in-use w out {l} {n} e k =
     record { within = h; many = sym (length-take-le n l h) }
 
 -- arrays have room
-pub arrays-fillable : {tree : List ℕ} {names : ℕ} {steps tests edges operands : List ℕ}
-    → Accepted names Vector tree
+pub arrays-fillable : {pins tree : List ℕ} {names : ℕ} {steps tests edges operands : List ℕ}
+    → Ready pins tree names
     → length steps ≡ 64 → length tests ≡ 1024 → length edges ≡ 4096 → length operands ≡ 4096
-    → Fillable tree names steps tests edges operands
-arrays-fillable {tree} {names} a e d f g =
-    let b = accepted-bounded tree names a in
+    → Fillable pins tree names steps tests edges operands
+arrays-fillable {pins} {tree} {names} a e d f g =
+    let b = ready-bounded pins tree names a in
     record {
-      accepted = a;
+      ready = a;
       steps-room = omega (arith, b .few);
       tests-room = omega (arith, few-steps b);
       edges-room = omega (arith, few-tests b);
       operands-room = omega (arith, few-tests b);
     }
 
-module _ (tree : List ℕ) (names : ℕ) (a : Accepted names Vector tree) (v : Alternatives)
-    (l : Long (alternativesAt tree names) (v .count) (v .«step_count») (v .«test_count»))
-    (f : Filled (alternativesAt tree names) (replicate 64 0) (replicate 1024 0) (replicate 4096 0) (replicate 4096 0)
+-- with the pins that are found
+pub found-ready : {ρ : Rules} {pins tree : List ℕ} {names : ℕ} → Accepted ρ names sort.Vector tree
+    → pins ≡ pinsOf ρ tree names (length tree) → Ready pins tree names
+found-ready {ρ} a e = record { rules = ρ; accepted = a; found = e }
+
+module _ (ρ : Rules) (tree : List ℕ) (names : ℕ) (a : Accepted ρ names sort.Vector tree) (v : Alternatives)
+    (l : Long (alternativesAt ρ tree names) (v .count) (v .«step_count») (v .«test_count»))
+    (f : Filled (alternativesAt ρ tree names) (replicate 64 0) (replicate 1024 0) (replicate 4096 0) (replicate 4096 0)
     (v .steps) (v .tests) (v .edges) (v .operands)) where
   abbrev xs : List Alternative
-  xs = alternativesAt tree names
+  xs = alternativesAt ρ tree names
 
   count-is : v .count ≡ length (stepList xs)
   count-is = l .alternatives-are ∙ sym (step-entries xs)
@@ -98,10 +116,14 @@ module _ (tree : List ℕ) (names : ℕ) (a : Accepted names Vector tree) (v : A
   operands-front : take (v .«test_count») (v .operands) ≡ operandList xs
   operands-front = front-taken (operandList xs) (replicate 4096 0) (f .operands-are) operand-count-is
 
-  pub holds : Holds tree names v
+  ready : Ready (pinsOf ρ tree names (length tree)) tree names
+  ready = found-ready a refl
+
+  pub holds : Holds ρ tree names v
   holds =
-      let b = accepted-bounded tree names a in
+      let b = ready-bounded _ tree names ready in
       let h = accepted-vector tree names a in
+      let k = ready-pins ready in
       record {
         long = l;
         filled = f;
@@ -109,12 +131,37 @@ module _ (tree : List ℕ) (names : ℕ) (a : Accepted names Vector tree) (v : A
         tests-used = in-use (testList xs) (replicate 1024 0) (f .tests-are) step-count-is;
         edges-used = in-use (edgeList xs) (replicate 4096 0) (f .edges-are) edge-count-is;
         operands-used = in-use (operandList xs) (replicate 4096 0) (f .operands-are) operand-count-is;
-        shape = rw (steps-front, tests-front, edges-front, operands-front) (lists-shape tree names h (b .few));
-        stands = rw (steps-front, tests-front, edges-front, operands-front) (lists-stand tree names h);
+        shape = rw (steps-front, tests-front, edges-front, operands-front) (lists-shape tree names h _ k (b .few));
+        stands = rw (steps-front, tests-front, edges-front, operands-front)
+            (lists-stand tree names h _ k ∙ ap alternatives (found-means ρ (accepted-tree tree names a)));
       }
 
+-- operands as places change neither how many alternatives there are nor anything but the operands
+module _ {ρ : Rules} {tree : List ℕ} {names : ℕ} (a : Accepted ρ names sort.Vector tree) where
+  abbrev meantOnes : List Alternative
+  meantOnes = alternatives (meant ρ (vectorAt tree names (length tree)))
+
+  pub meant-number : length (alternativesAt ρ tree names) ≡ length meantOnes
+  meant-number =
+      placed-number name _ (length tree) _
+      ∙ sym (placed-number (booleanAt tree names) (pinsOf ρ tree names (length tree)) (length tree) _)
+      ∙ ap (λ (p : Vector). length (alternatives p)) (found-means ρ (accepted-tree tree names a))
+
+  pub meant-same : map (alternativeOn (λ e. e) (λ c. literal 0)) (alternativesAt ρ tree names)
+      ≡ map (alternativeOn (λ e. e) (λ c. literal 0)) meantOnes
+  meant-same =
+      placed-same name (booleanAt tree names) (pinsOf ρ tree names (length tree)) (length tree) _
+      ∙ ap (λ (p : Vector). map (alternativeOn (λ e. e) (λ c. literal 0)) (alternatives p))
+      (found-means ρ (accepted-tree tree names a))
+
 -- what is in use stands in the arrays
-module _ {tree : List ℕ} {names : ℕ} {v : Alternatives} (h : Holds tree names v) where
+module _ {ρ : Rules} {tree : List ℕ} {names : ℕ} {v : Alternatives} (h : Holds ρ tree names v) where
+  -- as many as the expression has as the rules read it
+  pub holds-number : v .count ≡ length (alternatives (meant ρ (vectorAt tree names (length tree))))
+  unfolding alternativesOf
+  holds-number =
+      h .steps-used .many ∙ sym (cut-length (take (v .count) (v .steps)) _) ∙ ap length (h .stands)
+
   pub steps-within : v .count ≤ length (v .steps)
   steps-within = h .steps-used .within
 
@@ -127,9 +174,10 @@ module _ {tree : List ℕ} {names : ℕ} {v : Alternatives} (h : Holds tree name
   pub operands-within : v .«test_count» ≤ length (v .operands)
   operands-within = h .operands-used .within
 
-pub holds-unique : (tree : List ℕ) (names : ℕ) (v w : Alternatives) → Holds tree names v → Holds tree names w
+pub holds-unique : (ρ : Rules) (tree : List ℕ) (names : ℕ) (v w : Alternatives) → Holds ρ tree names v
+    → Holds ρ tree names w
     → v ≡ w
-holds-unique tree names v w h k =
+holds-unique ρ tree names v w h k =
     let count = h .long .alternatives-are ∙ sym (k .long .alternatives-are) in
     let step-count = h .long .steps-are ∙ sym (k .long .steps-are) in
     let test-count = h .long .tests-are ∙ sym (k .long .tests-are) in

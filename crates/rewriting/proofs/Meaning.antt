@@ -10,10 +10,11 @@ use Rattle.alf.specs.Bytes.{edgeNumber, halfNumber}
 use Rattle.alf.specs.Decoder.{edgeAt, halfAt}
 use Rattle.alf.specs.Alternatives.{Test, test, Step, Alternative, alternatives}
 use Rattle.basics.proofs.AllEntries.{All, none, more}
-use Rattle.trees.specs.Parts.{EndsBoolean, EndsVector, vectorAt}
+use Rattle.trees.specs.Parts.{EndsBoolean, EndsVector, vectorAt, booleanAt}
+use Rattle.steady_pins.specs.Pinned.{byPlaces, Pins}
 use Rattle.alternatives.specs.InMemory.{cut, testsOf, alternativesOf, Shape}
 use Rattle.step_tests.specs.OperandPlaces.{edgeOf, endOf, numbers, ends}
-use Rattle.rewriting.specs.Lists.{joined, alternativesAt, stepList, testList, edgeList, operandList}
+use Rattle.rewriting.specs.Lists.{joined, alternativesBy, stepList, testList, edgeList, operandList}
 use Rattle.step_tests.proofs.Exchanging.{testOn, alternativeOn, alternatives-on}
 use Rattle.rewriting.proofs.Joining.{joined-map, cut-joined, lengths-map, lengths-sum}
 use Rattle.step_tests.proofs.Places.{edgeBack, operandBack, Known, stands}
@@ -48,18 +49,21 @@ module _ (tree : List ℕ) (names : ℕ) where
   known-at (more (asks h) s) zero l = h
   known-at (more h s) (suc k) l = known-at s k (omega arith)
 
-  module _ (h : EndsVector tree names (length tree)) where
+  module _ (h : EndsVector tree names (length tree)) (pins : List ℕ) (k : Pins tree names pins) where
     abbrev xs : List Alternative
-    xs = alternativesAt tree names
+    xs = alternativesBy pins tree names
 
-    pub alternatives-back : map (alternativeOn edgeBack (operandBack tree names)) xs
-        ≡ alternatives (vectorAt tree names (length tree))
+    -- with the pins, as they are read
+    abbrev own : List Alternative
+    own = alternatives (byPlaces (booleanAt tree names) pins (length tree) (vectorAt tree names (length tree)))
+
+    pub alternatives-back : map (alternativeOn edgeBack (operandBack tree names)) xs ≡ own
     alternatives-back =
         sym (alternatives-on edgeBack (operandBack tree names) held-back _)
-        ∙ ap alternatives (stands tree names (length tree) h .back)
+        ∙ ap alternatives (stands tree names pins k (length tree) h .back)
 
     pub lists-stand : alternativesOf tree names (stepList xs) (testList xs) (edgeList xs) (operandList xs)
-        ≡ alternatives (vectorAt tree names (length tree))
+        ≡ own
     unfolding alternativesOf stepList testList edgeList operandList
     lists-stand =
         ap (λ (ts : List Test). cut (map length xs) (cut (map length (joined xs)) ts))
@@ -71,7 +75,7 @@ module _ (tree : List ℕ) (names : ℕ) where
         → Shape tree names (stepList xs) (testList xs) (edgeList xs) (operandList xs)
     unfolding stepList testList edgeList operandList
     lists-shape l =
-        let e = stands tree names (length tree) h .each in
+        let e = stands tree names pins k (length tree) h .each in
         let a = all-joined (all-joined (alternatives-ask (Known tree names) e)) in
         let n = length-map (joined (joined xs)) edgeOf in
         let m = length-map (joined (joined xs)) endOf in

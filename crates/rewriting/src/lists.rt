@@ -1,10 +1,12 @@
 // All alternatives of a tree, written into four lists: steps of each alternative, tests of each step, and for each test
 // its edge's number and its operand's end.
 use acceptance::sizes;
+use alf::Rules;
+use steady_pins::finding::find;
 use step_tests::steps::put_step;
 ghost use Rattle.alf.specs.declared.Sort.the-variants.{Vector};
 ghost use Rattle.acceptance.specs.Accepted.{Accepted};
-ghost use Rattle.rewriting.specs.Lists.{alternativesAt, Adding, Added, Fillable, Filled, Long, Holds};
+ghost use Rattle.rewriting.specs.Lists.{alternativesBy, Ready, Adding, Added, Fillable, Filled, Long, Holds};
 
 // How many entries the lists have: alternatives, steps of all of them, tests of all those.
 pub struct Lengths {
@@ -25,9 +27,10 @@ pub struct Alternatives {
 }
 
 // How long the lists are.
-pub fn lengths_of(tree: &[u8], names: usize) -> Lengths
-    requires { ⌜ Accepted names Vector (now tree) ⌝ }
-    ensures { λ r. ⌜ Long (alternativesAt (now (tree .entry)) names) (r .alternatives) (r .steps) (r .tests) ⌝ }
+pub fn lengths_of(tree: &[u8], pins: &[u8; 8192], names: usize) -> Lengths
+    requires { ⌜ Ready (now pins) (now tree) names ⌝ }
+    ensures { λ r. ⌜ Long (alternativesBy (now (pins .entry)) (now (tree .entry)) names) (r .alternatives) (r .steps)
+        (r .tests) ⌝ }
 {
     let end = tree.len();
     let n = sizes::count_of(tree, end, names);
@@ -35,7 +38,7 @@ pub fn lengths_of(tree: &[u8], names: usize) -> Lengths
     let mut tests: usize = 0;
     let mut t: usize = 0;
     while t < n {
-        let x = sizes::shape_of(tree, end, names, t);
+        let x = sizes::shape_of(tree, pins, end, names, t);
         steps += x.steps;
         tests += x.tests;
         t += 1;
@@ -51,6 +54,7 @@ pub fn lengths_of(tree: &[u8], names: usize) -> Lengths
 // place behind them.
 fn put_alternative(
     tree: &[u8],
+    pins: &[u8; 8192],
     names: usize,
     t: usize,
     n: usize,
@@ -60,15 +64,16 @@ fn put_alternative(
     operands: &mut [u16],
     from: usize,
 ) -> usize
-    requires { ⌜ Adding (now tree) names t n (now tests) s (now edges) (now operands) from ⌝ }
-    ensures { λ r. ⌜ Added (now (tree .entry)) names t (now (tests .entry)) s (now (edges .entry))
-        (now (operands .entry)) from (now (tests .exit)) (now (edges .exit)) (now (operands .exit)) r ⌝ }
+    requires { ⌜ Adding (now pins) (now tree) names t n (now tests) s (now edges) (now operands) from ⌝ }
+    ensures { λ r. ⌜ Added (now (pins .entry)) (now (tree .entry)) names t (now (tests .entry)) s
+        (now (edges .entry)) (now (operands .entry)) from (now (tests .exit)) (now (edges .exit))
+        (now (operands .exit)) r ⌝ }
 {
     let end = tree.len();
     let mut at = from;
     let mut j: usize = 0;
     while j < n {
-        let next = put_step(tree, end, names, t, j, edges, operands, at);
+        let next = put_step(tree, pins, end, names, t, j, edges, operands, at);
         tests[s + j] = (next - at) as u8;
         at = next;
         j += 1;
@@ -79,16 +84,17 @@ fn put_alternative(
 // All of its alternatives, one after the other, where there is room.
 pub fn fill(
     tree: &[u8],
+    pins: &[u8; 8192],
     names: usize,
     steps: &mut [u8],
     tests: &mut [u8],
     edges: &mut [u8],
     operands: &mut [u16],
 )
-    requires { ⌜ Fillable (now tree) names (now steps) (now tests) (now edges) (now operands) ⌝ }
-    ensures { λ r. ⌜ Filled (alternativesAt (now (tree .entry)) names) (now (steps .entry)) (now (tests .entry))
-        (now (edges .entry)) (now (operands .entry)) (now (steps .exit)) (now (tests .exit)) (now (edges .exit))
-        (now (operands .exit)) ⌝ }
+    requires { ⌜ Fillable (now pins) (now tree) names (now steps) (now tests) (now edges) (now operands) ⌝ }
+    ensures { λ r. ⌜ Filled (alternativesBy (now (pins .entry)) (now (tree .entry)) names) (now (steps .entry))
+        (now (tests .entry)) (now (edges .entry)) (now (operands .entry)) (now (steps .exit)) (now (tests .exit))
+        (now (edges .exit)) (now (operands .exit)) ⌝ }
 {
     let end = tree.len();
     let count = sizes::count_of(tree, end, names);
@@ -96,10 +102,10 @@ pub fn fill(
     let mut from: usize = 0;
     let mut t: usize = 0;
     while t < count {
-        let x = sizes::shape_of(tree, end, names, t);
+        let x = sizes::shape_of(tree, pins, end, names, t);
         let n = x.steps;
         steps[t] = n as u8;
-        from = put_alternative(tree, names, t, n, tests, s, edges, operands, from);
+        from = put_alternative(tree, pins, names, t, n, tests, s, edges, operands, from);
         s += n;
         t += 1;
     }
@@ -108,19 +114,21 @@ pub fn fill(
 // The same into arrays, which have room for any tree that is accepted.
 fn fill_arrays(
     tree: &[u8],
+    pins: &[u8; 8192],
     names: usize,
     steps: &mut [u8; 64],
     tests: &mut [u8; 1024],
     edges: &mut [u8; 4096],
     operands: &mut [u16; 4096],
 )
-    requires { ⌜ Accepted names Vector (now tree) ⌝ }
-    ensures { λ r. ⌜ Filled (alternativesAt (now (tree .entry)) names) (now (steps .entry)) (now (tests .entry))
-        (now (edges .entry)) (now (operands .entry)) (now (steps .exit)) (now (tests .exit)) (now (edges .exit))
-        (now (operands .exit)) ⌝ }
+    requires { ⌜ Ready (now pins) (now tree) names ⌝ }
+    ensures { λ r. ⌜ Filled (alternativesBy (now (pins .entry)) (now (tree .entry)) names) (now (steps .entry))
+        (now (tests .entry)) (now (edges .entry)) (now (operands .entry)) (now (steps .exit)) (now (tests .exit))
+        (now (edges .exit)) (now (operands .exit)) ⌝ }
 {
     fill(
         tree,
+        pins,
         names,
         &mut steps[..],
         &mut tests[..],
@@ -129,18 +137,20 @@ fn fill_arrays(
     );
 }
 
-// The alternatives of an accepted tree.
-pub fn alternatives_of(tree: &[u8], names: usize) -> Alternatives
-    requires { ⌜ Accepted names Vector (now tree) ⌝ }
-    ensures { λ r. ⌜ Holds (now (tree .entry)) names r ⌝ }
+// The alternatives of an accepted tree, as the rules read it.
+pub fn alternatives_of(rules: Rules, tree: &[u8], names: usize) -> Alternatives
+    requires { ⌜ Accepted rules names Vector (now tree) ⌝ }
+    ensures { λ r. ⌜ Holds rules (now (tree .entry)) names r ⌝ }
 {
-    let lengths = lengths_of(tree, names);
+    let pins = find(rules, tree, tree.len(), names);
+    let lengths = lengths_of(tree, &pins, names);
     let mut steps = [0u8; 64];
     let mut tests = [0u8; 1024];
     let mut edges = [0u8; 4096];
     let mut operands = [0u16; 4096];
     fill_arrays(
         tree,
+        &pins,
         names,
         &mut steps,
         &mut tests,

@@ -13,17 +13,17 @@ use borrow.Author.Tests.{leb-true, leb-false}
 use Rattle.basics.specs.Refusing.{refusal}
 use Rattle.basics.specs.declared.Outcome.{Outcome}
 use Rattle.basics.specs.declared.Outcome.the-variants.{Done, Refused}
+use Rattle.alf.specs.declared.Rules.{Rules}
 use Rattle.alf.specs.declared.Sort.the-variants.{Vector}
 use Rattle.alf.specs.Alternatives.{Alternative, numberOfAlternatives}
 use Rattle.alf.specs.Refusals.{Order, check, no-room, NameCount, Never, RefusedWith, Passed, Comes}
 use Rattle.acceptance.specs.Accepted.{Accepted}
 use Rattle.basics.specs.Deciding.{Decides}
-use Rattle.rewriting.specs.Lists.{alternativesAt, stepList, testList, edgeList, operandList}
+use Rattle.rewriting.specs.Lists.{alternativesBy, alternativesAt, Ready, stepList, testList, edgeList, operandList}
 use Rattle.rewriting.specs.Lists.{Long, Filled, Fillable}
 use Rattle.rewriting_calls.specs.Calls.{treeOrder, roomOrder, After, Delivers, Rewrites}
 use Rattle.basics.specs.Memory.{after}
-use Rattle.step_tests.proofs.Exchanging.{placed-number}
-use Rattle.rewriting.proofs.Holding.{step-entries, test-entries, edge-entries, operand-entries}
+use Rattle.rewriting.proofs.Holding.{step-entries, test-entries, edge-entries, operand-entries, meant-number}
 
 -- 1 to 32 names
 pub no-names : {n : ℕ} → n ≡ 0 → Decides false (NameCount n)
@@ -142,13 +142,13 @@ module _ {xs : List Alternative} (steps tests edges operands : List ℕ) {n m k 
               }
 
 -- room for the lists of an accepted tree
-pub enough : {tree : List ℕ} {names : ℕ} {steps tests edges operands : List ℕ} {n m k : ℕ}
-    → Accepted names Vector tree → Long (alternativesAt tree names) n m k → n ≤ length steps
+pub enough : {pins tree : List ℕ} {names : ℕ} {steps tests edges operands : List ℕ} {n m k : ℕ}
+    → Ready pins tree names → Long (alternativesBy pins tree names) n m k → n ≤ length steps
     → m ≤ length tests
-    → k ≤ length edges → k ≤ length operands → Fillable tree names steps tests edges operands
+    → k ≤ length edges → k ≤ length operands → Fillable pins tree names steps tests edges operands
 enough a l b c d e =
     record {
-      accepted = a;
+      ready = a;
       steps-room = omega (arith, l .alternatives-are);
       tests-room = omega (arith, l .steps-are);
       edges-room = omega (arith, l .tests-are);
@@ -156,21 +156,21 @@ enough a l b c d e =
     }
 
 -- 18 and 10 before it
-module _ (names : ℕ) (tree : List ℕ) (others : Order) (made : ℕ → Type 0) where
+module _ (ρ : Rules) (names : ℕ) (tree : List ℕ) (others : Order) (made : ℕ → Type 0) where
   pub comes-18 : (NameCount names → ⊥)
-      → Comes (treeOrder names tree others) made (Refused (refusal 18 0))
+      → Comes (treeOrder ρ names tree others) made (Refused (refusal 18 0))
   unfolding Comes RefusedWith treeOrder
   comes-18 f = record { by = inl (refl, record { given = f; there = refl }); bare = refl }
 
   module _ (n : NameCount names) where
-    pub comes-10 : (Accepted names Vector tree → ⊥)
-        → Comes (treeOrder names tree others) made (Refused (refusal 10 0))
+    pub comes-10 : (Accepted ρ names Vector tree → ⊥)
+        → Comes (treeOrder ρ names tree others) made (Refused (refusal 10 0))
     unfolding Comes RefusedWith treeOrder
     comes-10 f =
         record { by = inr ((λ p r. r .given n), inl (refl, record { given = f; there = refl })); bare = refl }
 
-    pub comes-on : Accepted names Vector tree → (r : Outcome) → Comes others made r
-        → Comes (treeOrder names tree others) made r
+    pub comes-on : Accepted ρ names Vector tree → (r : Outcome) → Comes others made r
+        → Comes (treeOrder ρ names tree others) made r
     unfolding Comes RefusedWith Passed treeOrder
     comes-on a (Done k) x = (((λ p r. r .given n), ((λ p r. r .given a), x .0)), x .1)
     comes-on a (Refused q) x =
@@ -183,26 +183,26 @@ unfolding Comes
 comes-made o f (Done k) x = (x .0, f k (x .1))
 comes-made o f (Refused q) x = x
 
-module _ (names : ℕ) (tree steps tests edges operands : List ℕ) where
+module _ (ρ : Rules) (names : ℕ) (tree steps tests edges operands : List ℕ) where
   abbrev Stays : Outcome → Type 0
-  Stays r = Rewrites names tree steps tests edges operands steps tests edges operands r
+  Stays r = Rewrites ρ names tree steps tests edges operands steps tests edges operands r
 
   pub refused-18 : {r : Outcome} → (NameCount names → ⊥) → r ≡ Refused (refusal 18 0)
       → Stays r
-  refused-18 f e = rw e (record { outcome = comes-18 names tree _ _ f; memory = stay })
+  refused-18 f e = rw e (record { outcome = comes-18 ρ names tree _ _ f; memory = stay })
 
-  pub refused-10 : {r : Outcome} → NameCount names → (Accepted names Vector tree → ⊥)
+  pub refused-10 : {r : Outcome} → NameCount names → (Accepted ρ names Vector tree → ⊥)
       → r ≡ Refused (refusal 10 0) → Stays r
-  refused-10 n f e = rw e (record { outcome = comes-10 names tree _ _ n f; memory = stay })
+  refused-10 n f e = rw e (record { outcome = comes-10 ρ names tree _ _ n f; memory = stay })
 
   pub passed-on : {steps′ tests′ edges′ operands′ : List ℕ} {r : Outcome} → NameCount names
-      → Accepted names Vector tree
-      → Delivers (alternativesAt tree names) steps tests edges operands steps′ tests′ edges′ operands′ r
-      → Rewrites names tree steps tests edges operands steps′ tests′ edges′ operands′ r
+      → Accepted ρ names Vector tree
+      → Delivers (alternativesAt ρ tree names) steps tests edges operands steps′ tests′ edges′ operands′ r
+      → Rewrites ρ names tree steps tests edges operands steps′ tests′ edges′ operands′ r
   unfolding numberOfAlternatives
   passed-on {r = r} n a d =
-      let x = comes-made _ (λ k e. e ∙ placed-number (length tree) _) r (d .outcome) in
+      let x = comes-made _ (λ k e. e ∙ meant-number a) r (d .outcome) in
       record {
-        outcome = comes-on names tree _ _ n a r x;
+        outcome = comes-on ρ names tree _ _ n a r x;
         memory = d .memory;
       }

@@ -1,32 +1,37 @@
 -- The statements that rewriting stands for.
 --   rewrites-unique                     outcome and lists afterwards follow from the input
---   rewritten-stand                     the lists stand for the expression's alternatives, in order, nothing else
---   steps-own, tests-own, edges-own     steps, tests and edges in the lists are those of the expression's alternatives
+--   rewritten-stand                     the lists stand for the alternatives of the expression as it is read, in order,
+--                                       nothing else
+--   steps-own, tests-own, edges-own     steps, tests and edges in the lists are those of these alternatives
 use Prim.Native.Nat.{ℕ}
 use mathlib.Core.Path.{_≡_, refl, ap, sym, _∙_}
 use mathlib.Core.List.{List, [], _∷_, map}
 use lib.ListN.{length}
 use Rattle.basics.specs.declared.Outcome.{Outcome}
+use Rattle.alf.specs.declared.Rules.{Rules}
 use Rattle.alf.specs.declared.Sort.the-variants.{Vector}
+use Rattle.alf.specs.Steady.{meant}
 use Rattle.alf.specs.Expressions.{literal}
 use Rattle.alf.specs.Alternatives.{Test, test, Step, Alternative, alternatives}
 use Rattle.alf.specs.Refusals.{Order}
 use Rattle.alf.proofs.Outcomes.{AllFixed, at-fixed, comes-unique}
 use Rattle.trees.specs.Parts.{vectorAt}
 use Rattle.acceptance.specs.Accepted.{Accepted}
-use Rattle.acceptance.proofs.Acceptance.{accepted-vector}
+use Rattle.acceptance.proofs.Acceptance.{accepted-tree}
+use Rattle.steady_pins.proofs.Found.{found-means, found-pins}
 use Rattle.alternatives.specs.InMemory.{alternativesOf}
 use Rattle.step_tests.specs.OperandPlaces.{edgeOf, numbers}
 use Rattle.rewriting.specs.Lists.{joined, alternativesAt, stepList, testList, edgeList, operandList}
 use Rattle.rewriting_calls.specs.Calls.{treeOrder, roomOrder, Rewrites}
-use Rattle.step_tests.proofs.Exchanging.{testOn, placed-same}
+use Rattle.step_tests.proofs.Exchanging.{testOn}
 use Rattle.rewriting.proofs.Joining.{joined-map, lengths-map}
 use Rattle.rewriting.proofs.Meaning.{lists-stand}
+use Rattle.rewriting.proofs.Holding.{meant-same}
 use Rattle.basics.proofs.Memory.{after-unique}
 
-module _ (names : ℕ) (tree steps tests edges operands : List ℕ) where
+module _ (ρ : Rules) (names : ℕ) (tree steps tests edges operands : List ℕ) where
   abbrev order : Order
-  order = treeOrder names tree (roomOrder (alternativesAt tree names) steps tests edges operands)
+  order = treeOrder ρ names tree (roomOrder (alternativesAt ρ tree names) steps tests edges operands)
 
   order-fixed : AllFixed order
   unfolding treeOrder roomOrder
@@ -37,8 +42,8 @@ module _ (names : ℕ) (tree steps tests edges operands : List ℕ) where
 
   pub rewrites-unique : {steps₁ tests₁ edges₁ operands₁ steps₂ tests₂ edges₂ operands₂ : List ℕ}
       {r q : Outcome}
-      → Rewrites names tree steps tests edges operands steps₁ tests₁ edges₁ operands₁ r
-      → Rewrites names tree steps tests edges operands steps₂ tests₂ edges₂ operands₂ q
+      → Rewrites ρ names tree steps tests edges operands steps₁ tests₁ edges₁ operands₁ r
+      → Rewrites ρ names tree steps tests edges operands steps₂ tests₂ edges₂ operands₂ q
       → (r ≡ q) × (steps₁ ≡ steps₂) × (tests₁ ≡ tests₂) × (edges₁ ≡ edges₂)
       × (operands₁ ≡ operands₂)
   rewrites-unique {r = r} {q = q} a b =
@@ -52,23 +57,24 @@ module _ (names : ℕ) (tree steps tests edges operands : List ℕ) where
         after-unique _ operands e (m .operands-are) (n .operands-are),
       )
 
-module _ (tree : List ℕ) (names : ℕ) where
+module _ (ρ : Rules) (tree : List ℕ) (names : ℕ) (a : Accepted ρ names Vector tree) where
   abbrev placedOnes : List Alternative
-  placedOnes = alternativesAt tree names
+  placedOnes = alternativesAt ρ tree names
 
   abbrev ownOnes : List Alternative
-  ownOnes = alternatives (vectorAt tree names (length tree))
+  ownOnes = alternatives (meant ρ (vectorAt tree names (length tree)))
 
-  pub rewritten-stand : Accepted names Vector tree
-      → alternativesOf tree names (stepList placedOnes) (testList placedOnes) (edgeList placedOnes)
+  pub rewritten-stand : alternativesOf tree names (stepList placedOnes) (testList placedOnes) (edgeList placedOnes)
       (operandList placedOnes) ≡ ownOnes
-  rewritten-stand a = lists-stand tree names (accepted-vector tree names a)
+  rewritten-stand =
+      let h = accepted-tree tree names a in
+      lists-stand tree names (h .ends) _ (found-pins ρ h) ∙ ap alternatives (found-means ρ h)
 
   abbrev bare : Test → Test
   bare = testOn (λ e. e) (λ c. literal 0)
 
   same : map (map (map bare)) placedOnes ≡ map (map (map bare)) ownOnes
-  same = placed-same (length tree) (vectorAt tree names (length tree))
+  same = meant-same a
 
   steps-bare : (xs : List Alternative) → stepList (map (map (map bare)) xs) ≡ stepList xs
   unfolding stepList

@@ -8,8 +8,10 @@ use mathlib.Core.Path.{_≡_}
 use mathlib.Core.List.{List, [], _∷_}
 use lib.ListN.{length}
 use Rattle.basics.specs.declared.Outcome.{Outcome}
+use Rattle.alf.specs.declared.Rules.{Rules}
 use Rattle.alf.specs.declared.Sort.the-variants.{Vector}
 use Rattle.alf.specs.Alternatives.{Alternative, numberOfAlternatives}
+use Rattle.alf.specs.Steady.{meant}
 use Rattle.alf.specs.Refusals.{Order, check, bad-lists, cannot-be, no-room, NameCount, Comes}
 use Rattle.trees.specs.Parts.{vectorAt}
 use Rattle.acceptance.specs.Accepted.{Accepted}
@@ -17,10 +19,10 @@ use Rattle.rewriting.specs.Lists.{alternativesAt, stepList, testList, edgeList,
 use Rattle.basics.specs.Memory.{after, front}
 
 -- 18 and 10, then the others
-unfoldable pub treeOrder : ℕ → List ℕ → Order → Order
-treeOrder names tree others =
+unfoldable pub treeOrder : Rules → ℕ → List ℕ → Order → Order
+treeOrder ρ names tree others =
     check 18 (bad-lists (NameCount names)) ∷
-    check 10 (cannot-be (Accepted names Vector tree → ⊥)) ∷
+    check 10 (cannot-be (Accepted ρ names Vector tree → ⊥)) ∷
     others
 
 -- 9 for steps, tests, edges, operands
@@ -48,8 +50,9 @@ pub record Delivers (xs : List Alternative)
   pub memory : After xs steps tests edges operands steps′ tests′ edges′ operands′ r
 
 -- the call
-pub record Rewrites (names : ℕ) (tree steps tests edges operands steps′ tests′ edges′ operands′ : List ℕ)
+pub record Rewrites (ρ : Rules) (names : ℕ)
+    (tree steps tests edges operands steps′ tests′ edges′ operands′ : List ℕ)
     (r : Outcome) : Type 0 where
-  pub outcome : Comes (treeOrder names tree (roomOrder (alternativesAt tree names) steps tests edges operands))
-      (λ k. k ≡ numberOfAlternatives (vectorAt tree names (length tree))) r
-  pub memory : After (alternativesAt tree names) steps tests edges operands steps′ tests′ edges′ operands′ r
+  pub outcome : Comes (treeOrder ρ names tree (roomOrder (alternativesAt ρ tree names) steps tests edges operands))
+      (λ k. k ≡ numberOfAlternatives (meant ρ (vectorAt tree names (length tree)))) r
+  pub memory : After (alternativesAt ρ tree names) steps tests edges operands steps′ tests′ edges′ operands′ r

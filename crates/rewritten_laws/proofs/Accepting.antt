@@ -8,11 +8,12 @@ use mathlib.Core.Path.{_≡_, ap, sym, _∙_}
 use mathlib.Core.Logic.{_⊎_, inl, inr}
 use mathlib.Core.List.{List, [], _∷_, map}
 use lib.ListN.{length}
+use Rattle.alf.specs.declared.Rules.{Rules}
 use Rattle.alf.specs.declared.Sort.the-variants.{Vector}
-use Rattle.alf.specs.Expressions.{Boolean, stays}
+use Rattle.alf.specs.Expressions.{Boolean, name, stays}
 use Rattle.alf.specs.Bytes.{edgeNumber}
 use Rattle.alf.specs.Decoder.{edgeAt}
-use Rattle.alf.specs.Alternatives.{Test, test, Step, Alternative}
+use Rattle.alf.specs.Alternatives.{Test, test, Step, Alternative, alternatives}
 use Rattle.alf.proofs.EdgeNumbers.{edge-stays}
 use Rattle.alf.proofs.OperatorBytes.{edge-byte}
 use Rattle.alf.proofs.Growth.{some-alternative}
@@ -21,8 +22,11 @@ use Rattle.basics.proofs.AllEntries.{All, none, more}
 use Rattle.basics.proofs.Bools.{below?}
 use Rattle.trees.specs.Parts.{vectorAt}
 use Rattle.acceptance.specs.Accepted.{Accepted}
-use Rattle.acceptance.proofs.Acceptance.{accepted-vector}
-use Rattle.step_tests.specs.OperandPlaces.{byPlaces, placeOf, edgeOf, endOf, numbers}
+use Rattle.acceptance.proofs.Acceptance.{accepted-tree}
+use Rattle.steady_pins.specs.Pinned.{byPlaces}
+use Rattle.steady_pins.specs.Finding.{Tree, pinsOf}
+use Rattle.steady_pins.proofs.Found.{found-pins, found-means}
+use Rattle.step_tests.specs.OperandPlaces.{placeOf, edgeOf, endOf, numbers}
 use Rattle.step_tests.proofs.Exchanging.{testOn}
 use Rattle.step_tests.proofs.Places.{edgeBack, operandBack}
 use Rattle.rewriting.specs.Lists.{joined, alternativesAt, stepList, testList, edgeList, operandList}
@@ -63,15 +67,19 @@ tests-known f [] k l = absurd (omega arith)
 tests-known f (test e c ∷ ts) zero l = edge-known (edgeNumber e)
 tests-known f (test e c ∷ ts) (suc k) l = tests-known f ts k (omega arith)
 
-module _ (names : ℕ) (tree : List ℕ) (a : Accepted names Vector tree) where
+module _ {ρ : Rules} (names : ℕ) (tree : List ℕ) (a : Accepted ρ names Vector tree) where
+  whole : Tree tree names (length tree)
+  whole = accepted-tree tree names a
+
   abbrev xs : List Alternative
-  xs = alternativesAt tree names
+  xs = alternativesAt ρ tree names
 
   edges-back : edgeList xs ≡ numbers (map (testOn edgeBack (operandBack tree names)) (joined (joined xs)))
   unfolding edgeList
   edges-back =
-      edges-own tree names
-      ∙ ap edgeList (sym (alternatives-back tree names (accepted-vector tree names a)))
+      edges-own ρ tree names a
+      ∙ ap edgeList
+      (sym (alternatives-back tree names (whole .ends) _ (found-pins ρ whole) ∙ ap alternatives (found-means ρ whole)))
       ∙ ap (λ (ys : List Step). numbers (joined ys)) (joined-map (map (testOn edgeBack (operandBack tree names))) xs)
       ∙ ap numbers (joined-map (testOn edgeBack (operandBack tree names)) (joined xs))
 
@@ -94,7 +102,8 @@ module _ (names : ℕ) (tree : List ℕ) (a : Accepted names Vector tree) where
 
   some-step : 0 < length (stepList xs)
   some-step =
-      let e = some-alternative (byPlaces (length tree) (vectorAt tree names (length tree))) in
+      let e = some-alternative (byPlaces name (pinsOf ρ tree names (length tree)) (length tree)
+      (vectorAt tree names (length tree))) in
       omega (arith, step-entries xs)
 
   pub lists-accepted : AcceptedAlternatives names tree (stepList xs) (testList xs) (edgeList xs) (operandList xs)
@@ -104,7 +113,7 @@ module _ (names : ℕ) (tree : List ℕ) (a : Accepted names Vector tree) where
         all-steps = lengths-sum xs ∙ sym (test-entries xs);
         all-tests = lengths-sum (joined xs) ∙ sym (edge-entries xs);
         all-operands = operand-entries xs ∙ sym (edge-entries xs);
-        within = rw (rewritten-stand tree names a) (accepted-limited tree names a);
+        within = rw (rewritten-stand ρ tree names a) (accepted-limited tree names a);
         some = some-step;
         stepped = all-stepped;
         known = edges-known;

@@ -53,29 +53,29 @@ module _ (L : Type 0) {P Q : Type 0} (rest : Order) (to : P → Q) (back : Q →
   refused-same : (r : Refusal) → RefusedBy (order L P rest) r → RefusedBy (order L Q rest) r
   refused-same r h = record { by = same-row _ _ (h .by); bare = h .bare }
 
-module _ {names : ℕ} {tree steps tests edges operands : List ℕ} (accepted : Accepted names Vector tree)
+module _ {ρ : Rules} {names : ℕ} {tree steps tests edges operands : List ℕ} (accepted : Accepted ρ names Vector tree)
     (lists : AcceptedAlternatives names tree steps tests edges operands)
-    (stand : alternativesOf tree names steps tests edges operands ≡ alternatives (expression tree names)) where
+    (stand : alternativesOf tree names steps tests edges operands ≡ alternatives (expression ρ tree names)) where
   abbrev xs : List Alternative
   xs = alternativesOf tree names steps tests edges operands
 
-  to-tree : AcceptedAlternatives names tree steps tests edges operands → Accepted names Vector tree
+  to-tree : AcceptedAlternatives names tree steps tests edges operands → Accepted ρ names Vector tree
   to-tree x = accepted
 
-  to-lists : Accepted names Vector tree → AcceptedAlternatives names tree steps tests edges operands
+  to-lists : Accepted ρ names Vector tree → AcceptedAlternatives names tree steps tests edges operands
   to-lists x = lists
 
-  matches-tree : {ρ : Rules} {states : List ℕ} {row t : ℕ} {answer : Answer}
+  matches-tree : {states : List ℕ} {row t : ℕ} {answer : Answer}
       → Matches (stateAt ρ names states) xs row answer t
       → MatchesTree ρ names tree states row answer t
-  matches-tree {ρ} {states} {row} m =
+  matches-tree {states} {row} m =
       record {
-        is = matches-windows (stateAt ρ names states) (expression tree names) stand m;
+        is = matches-windows (stateAt ρ names states) (expression ρ tree names) stand m;
         count = m .count ∙ ap (λ (ys : List Alternative). tries (stateAt ρ names states) ys row) stand;
       }
 
   module _ {n : ℕ} {states : List ℕ} where
-    pub match-same : {ρ : Rules} {row : ℕ} (r : Matching)
+    pub match-same : {row : ℕ} (r : Matching)
         → ListedMatch ρ names n tree steps tests edges operands states row r
         → RowMatch ρ names n tree states row r
     unfolding Finds
@@ -83,23 +83,23 @@ module _ {names : ℕ} {tree steps tests edges operands : List ℕ} (accepted : 
         record { comes = (passed-same _ _ to-tree to-lists (w .comes .0), matches-tree (w .comes .1)) }
     match-same (Refused r) w = record { comes = refused-same _ _ to-tree to-lists r (w .comes) }
 
-    pub totals-same : {ρ : Rules} (r : Counting) → ListedTotals ρ names n tree steps tests edges operands states r
+    pub totals-same : (r : Counting) → ListedTotals ρ names n tree steps tests edges operands states r
         → RowTotals ρ names n tree states r
     unfolding Counts
-    totals-same {ρ} (counting.Counted t) w =
+    totals-same (counting.Counted t) w =
         record {
           comes = (
             passed-same _ _ to-tree to-lists (w .comes .0),
-            totals-windows (stateAt ρ names states) (expression tree names) stand (w .comes .1),
+            totals-windows (stateAt ρ names states) (expression ρ tree names) stand (w .comes .1),
           );
         }
-    totals-same {ρ} (counting.Refused r) w = record { comes = refused-same _ _ to-tree to-lists r (w .comes) }
+    totals-same (counting.Refused r) w = record { comes = refused-same _ _ to-tree to-lists r (w .comes) }
 
-    pub all-same : {ρ : Rules} {answers tried answers′ tried′ : List ℕ} (r : Outcome)
+    pub all-same : {answers tried answers′ tried′ : List ℕ} (r : Outcome)
         → ListedAll ρ names n tree steps tests edges operands states answers tried answers′ tried′ r
         → AllMatched ρ names n tree states answers tried answers′ tried′ r
     unfolding Comes after
-    all-same {ρ} (outcome.Done k) w =
+    all-same (outcome.Done k) w =
         record {
           comes = (passed-same _ _ to-tree to-lists (w .comes .0), w .comes .1);
           answers-memory =
@@ -110,7 +110,7 @@ module _ {names : ℕ} {tree steps tests edges operands : List ℕ} (accepted : 
               w .tried-memory
               ∙ ap (λ (ys : List Alternative). listed 0 n (tries (stateAt ρ names states) ys)) stand;
         }
-    all-same {ρ} (outcome.Refused r) w =
+    all-same (outcome.Refused r) w =
         record {
           comes = refused-same _ _ to-tree to-lists r (w .comes);
           answers-memory = w .answers-memory;
@@ -118,18 +118,18 @@ module _ {names : ℕ} {tree steps tests edges operands : List ℕ} (accepted : 
         }
 
   -- a push
-  longest-same : longestOf xs ≡ stepsOf (expression tree names)
+  longest-same : longestOf xs ≡ stepsOf (expression ρ tree names)
   unfolding stepsOf
   longest-same = ap longestOf stand
 
   module _ {q : Queue} where
-    handed-tree : Handed names tree steps tests edges operands q → pushing.Handed names tree q
+    handed-tree : Handed names tree steps tests edges operands q → pushing.Handed ρ names tree q
     handed-tree h = record { accepted = accepted; kept = rw longest-same at (h .kept) }
 
-    handed-lists : pushing.Handed names tree q → Handed names tree steps tests edges operands q
+    handed-lists : pushing.Handed ρ names tree q → Handed names tree steps tests edges operands q
     handed-lists h = record { accepted = lists; kept = rw longest-same (h .kept) }
 
-    pushes-tree : {ρ : Rules} {q′ : Queue} {row : List ℕ} {t : ℕ} {answer : Answer}
+    pushes-tree : {q′ : Queue} {row : List ℕ} {t : ℕ} {answer : Answer}
         → Pushes ρ names xs q row answer t q′
         → PushesTree ρ names tree q row answer t q′
     pushes-tree p =
@@ -139,7 +139,7 @@ module _ {names : ℕ} {tree steps tests edges operands : List ℕ} (accepted : 
           states = rw longest-same at (p .states);
         }
 
-    pub push-same : {ρ : Rules} {row : List ℕ} {q′ : Queue} (z : Matching)
+    pub push-same : {row : List ℕ} {q′ : Queue} (z : Matching)
         → ListedPush ρ names tree steps tests edges operands q row z q′ → Push ρ names tree q row z q′
     unfolding Takes pushing.Takes
     push-same (Found m) w =

@@ -28,17 +28,17 @@ use Rattle.alf.proofs.Outcomes.{refused-passed}
 use Rattle.acceptance.specs.Accepted.{Accepted}
 use Rattle.states.specs.FirstBadCode.{Codes}
 use Rattle.alternatives.specs.InMemory.{sum, alternativesOf}
-use Rattle.step_tests.proofs.Exchanging.{placed-number}
+use Rattle.steady_pins.specs.Finding.{pinsOf}
 use Rattle.text_laws.proofs.AcceptedStable.{accepted-stable}
 use Rattle.matcher.specs.declared.tables.Total.{Total}
 use Rattle.queue.specs.declared.queues.Queue.{Queue}
 use Rattle.queue.specs.Queues.{fed}
 use Rattle.rewriting.specs.Lists.{joined, alternativesAt, stepList, testList, edgeList, operandList}
 use Rattle.rewriting_calls.specs.Calls.{treeOrder, roomOrder, Rewrites}
-use Rattle.rewriting.proofs.Bounds.{accepted-bounded, few-steps, few-tests}
+use Rattle.rewriting.proofs.Bounds.{ready-bounded, few-steps, few-tests}
 use Rattle.rewriting.proofs.Holding.{step-entries, test-entries, edge-entries, operand-entries, front-taken}
 use Rattle.rewriting.proofs.Joining.{lengths-sum}
-use Rattle.rewriting_calls.proofs.Theorems.{rewritten-stand}
+use Rattle.rewriting_calls.proofs.Theorems.{rewritten-stand, steps-own}
 use Rattle.judging.specs.Orders.{Rows}
 use Rattle.matching_calls.specs.declared.matching.Matching.{Matching}
 use Rattle.matching_calls.specs.declared.matching.Matching.the-variants.{Found}
@@ -55,16 +55,17 @@ use Rattle.rewritten_laws.proofs.Accepting.{lists-accepted}
 use Rattle.rewritten_laws.proofs.SameCalls as same
 
 -- with 1 to 32 names, an accepted tree, and lists as long as limit 8 can ask for, `rewrite` is done
-pub rewrite-done : {names : ℕ} {tree steps tests edges operands steps′ tests′ edges′ operands′ : List ℕ}
-    → NameCount names → Accepted names Vector tree → 64 ≤ length steps → 1024 ≤ length tests
+pub rewrite-done : {ρ : Rules} {names : ℕ} {tree steps tests edges operands steps′ tests′ edges′ operands′ : List ℕ}
+    → NameCount names → Accepted ρ names Vector tree → 64 ≤ length steps → 1024 ≤ length tests
     → 4096 ≤ length edges → 4096 ≤ length operands → (r : Outcome)
-    → Rewrites names tree steps tests edges operands steps′ tests′ edges′ operands′ r
-    → r ≡ outcome.Done (numberOfAlternatives (expression tree names))
+    → Rewrites ρ names tree steps tests edges operands steps′ tests′ edges′ operands′ r
+    → r ≡ outcome.Done (numberOfAlternatives (expression ρ tree names))
 unfolding Comes Passed treeOrder roomOrder
 rewrite-done n a s t e o (outcome.Done k) w = ap outcome.Done (w .outcome .1)
-rewrite-done {names} {tree} n a s t e o (outcome.Refused r) w =
-    let xs = alternativesAt tree names in
-    let b = accepted-bounded tree names a in
+rewrite-done {ρ} {names} {tree} n a s t e o (outcome.Refused r) w =
+    let xs = alternativesAt ρ tree names in
+    let b = ready-bounded (pinsOf ρ tree names (length tree)) tree names
+    (record { rules = ρ; accepted = a; found = refl }) in
     absurd
     (refused-passed _ _ _ (
       λ p x. x .given n,
@@ -84,20 +85,20 @@ rewrite-done {names} {tree} n a s t e o (outcome.Refused r) w =
     )
     (w .outcome .by))
 
-module _ {names : ℕ} {tree steps tests edges operands : List ℕ}
-    (w : WrittenOut names tree steps tests edges operands) where
+module _ {ρ : Rules} {names : ℕ} {tree steps tests edges operands : List ℕ}
+    (w : WrittenOut ρ names tree steps tests edges operands) where
   abbrev xs : List Alternative
-  xs = alternativesAt tree names
+  xs = alternativesAt ρ tree names
 
   passed : Passed
-      (treeOrder names tree
+      (treeOrder ρ names tree
       (roomOrder xs (w .lent .steps) (w .lent .tests) (w .lent .edges) (w .lent .operands)))
   unfolding Comes
   passed = w .done .outcome .0
 
-  pub written-tree : Accepted names Vector tree
+  pub written-tree : Accepted ρ names Vector tree
   unfolding Passed treeOrder
-  written-tree = accepted-stable names Vector tree (λ n. passed .1 .0 0 (record { given = n; there = refl }))
+  written-tree = accepted-stable ρ names Vector tree (λ n. passed .1 .0 0 (record { given = n; there = refl }))
 
   pub written-names : NameCount names
   unfolding Passed treeOrder
@@ -109,7 +110,9 @@ module _ {names : ℕ} {tree steps tests edges operands : List ℕ}
   -- the lists are those of the tree's alternatives
   as-many : w .number ≡ length (stepList xs)
   unfolding Comes numberOfAlternatives
-  as-many = w .done .outcome .1 ∙ sym (placed-number (length tree) _) ∙ sym (step-entries xs)
+  as-many =
+      w .done .outcome .1 ∙ sym (step-entries (alternatives (expression ρ tree names)))
+      ∙ ap length (sym (steps-own ρ tree names written-tree))
 
   steps-written : steps ≡ stepList xs
   unfolding after
@@ -143,38 +146,38 @@ module _ {names : ℕ} {tree steps tests edges operands : List ℕ}
   rewritten-accepted =
       rw (steps-written, tests-written, edges-written, operands-written) (lists-accepted names tree written-tree)
 
-  pub written-are : alternativesOf tree names steps tests edges operands ≡ alternatives (expression tree names)
+  pub written-are : alternativesOf tree names steps tests edges operands ≡ alternatives (expression ρ tree names)
   written-are =
-      rw (steps-written, tests-written, edges-written, operands-written) (rewritten-stand tree names written-tree)
+      rw (steps-written, tests-written, edges-written, operands-written) (rewritten-stand ρ tree names written-tree)
 
   -- each call by the lists comes to what the call by the tree comes to
   module _ {n : ℕ} {states : List ℕ} where
-    pub match-as-tree : {ρ : Rules} {row : ℕ} (y : Matching)
+    pub match-as-tree : {row : ℕ} (y : Matching)
         → ListedMatch ρ names n tree steps tests edges operands states row y
         → RowMatch ρ names n tree states row y
     match-as-tree = same.match-same written-tree rewritten-accepted written-are
 
-    pub all-as-tree : {ρ : Rules} {answers tried answers′ tried′ : List ℕ} (r : Outcome)
+    pub all-as-tree : {answers tried answers′ tried′ : List ℕ} (r : Outcome)
         → ListedAll ρ names n tree steps tests edges operands states answers tried answers′ tried′ r
         → AllMatched ρ names n tree states answers tried answers′ tried′ r
     all-as-tree = same.all-same written-tree rewritten-accepted written-are
 
-    pub totals-as-tree : {ρ : Rules} (z : Counting) → ListedTotals ρ names n tree steps tests edges operands states z
+    pub totals-as-tree : (z : Counting) → ListedTotals ρ names n tree steps tests edges operands states z
         → RowTotals ρ names n tree states z
     totals-as-tree = same.totals-same written-tree rewritten-accepted written-are
 
-  pub push-as-tree : {ρ : Rules} {q q′ : Queue} {row : List ℕ} (z : Matching)
+  pub push-as-tree : {q q′ : Queue} {row : List ℕ} (z : Matching)
       → ListedPush ρ names tree steps tests edges operands q row z q′ → Push ρ names tree q row z q′
   push-as-tree = same.push-same written-tree rewritten-accepted written-are
 
   -- so, for every trace whose rows fit and hold codes, no call is refused, and what it tells is the document's
   module _ {n : ℕ} {states : List ℕ} (fit : Rows names n (length states)) (codes : Codes states) where
-    pub rewritten-found : {ρ : Rules} {row : ℕ} → row < n → (y : Matching)
+    pub rewritten-found : {row : ℕ} → row < n → (y : Matching)
         → ListedMatch ρ names n tree steps tests edges operands states row y
         → FoundAs (answersOn ρ names tree states row) (triesOn ρ names tree states row) y
     rewritten-found l y m = matched fit written-tree codes l y (match-as-tree y m)
 
-    pub rewritten-filled : {ρ : Rules} {answers tried answers′ tried′ : List ℕ} → length answers ≡ n → length tried ≡ n
+    pub rewritten-filled : {answers tried answers′ tried′ : List ℕ} → length answers ≡ n → length tried ≡ n
         → (r : Outcome) → ListedAll ρ names n tree steps tests edges operands states answers tried answers′ tried′ r
         → (r ≡ outcome.Done n) × FillsTree ρ names n tree states answers′ tried′
     unfolding Comes after
@@ -185,7 +188,7 @@ module _ {names : ℕ} {tree steps tests edges operands : List ℕ}
         let x = all-as-tree (outcome.Refused r) m in
         absurd (refused-passed _ _ _ (codes-passed states ((a, t), fit) written-tree codes) (x .comes .by))
 
-    pub rewritten-counted : {ρ : Rules} (z : Counting)
+    pub rewritten-counted : (z : Counting)
         → ListedTotals ρ names n tree steps tests edges operands states z
         → (t : Total) × ((z ≡ counting.Counted t) × TotalsTree ρ names n tree states (t .yes) (t .no) (t .unknown))
     unfolding Counts
@@ -195,7 +198,7 @@ module _ {names : ℕ} {tree steps tests edges operands : List ℕ}
         absurd (refused-passed _ _ _ (codes-passed states fit written-tree codes) (x .comes .by))
 
   -- and for every feed of rows that hold codes, the first pushed into a queue that keeps nothing
-  module _ {ρ : Rules} {n : ℕ} {rows : ℕ → List ℕ} {queues : ℕ → Queue} {results : ℕ → Matching}
+  module _ {n : ℕ} {rows : ℕ → List ℕ} {queues : ℕ → Queue} {results : ℕ → Matching}
       (first : queues 0 .kept .0 ≡ 0) (full : (i : ℕ) → i < n → length (rows i) ≡ names)
       (good : (i : ℕ) → i < n → Codes (rows i))
       (pushed : (i : ℕ) → i < n

@@ -1,6 +1,7 @@
 -- What the calls that answer as the tree is written come to, case by case.
 use mathlib.Core.Path.{_≡_, refl, sym, _∙_}
 use mathlib.Core.List.{List}
+use mathlib.Core.Bool.{Bool, true, false}
 use Prim.Native.Nat.{ℕ}
 use lib.Dec.{eqb}
 use lib.ListN.{length}
@@ -13,6 +14,11 @@ use Rattle.basics.specs.declared.Outcome.the-variants as outcome
 use Rattle.alf.specs.Refusals.{Comes}
 use Rattle.basics.specs.Words.{listed}
 use Rattle.alf.specs.Values.{stateAt}
+use Rattle.alf.specs.Steady.{meant}
+use Rattle.alf.specs.Alternatives.{alternatives, overLimit}
+use Rattle.alf.specs.Expressions as expressions
+use Rattle.basics.proofs.Bools.{never}
+use Rattle.steady_laws.proofs.Meant.{meant-limit}
 use Rattle.alf.specs.Windows.{rowAnswer}
 use Rattle.alf.specs.Answers.{numberOf}
 use Rattle.alf.specs.Decoder.{stackAt}
@@ -36,9 +42,18 @@ use Rattle.basics.proofs.Deciding.{eqb-decides}
 use Rattle.judging.proofs.Verdicts.{judged-good, judged-not}
 use Rattle.judging.proofs.Checked.{lent-as}
 
+-- what is within limit 8 as the rules read it is so as it is written
+as-written : (ρ : Rules) (p : expressions.Vector) → overLimit (alternatives (meant ρ p)) ≡ false
+    → overLimit (alternatives p) ≡ false
+as-written ρ p h = go (overLimit (alternatives p)) refl
+  where
+    go : (q : Bool) → overLimit (alternatives p) ≡ q → overLimit (alternatives p) ≡ false
+    go true e = never (sym h ∙ meant-limit ρ p e)
+    go false e = e
+
 -- an accepted tree is a vector expression within the limits
-module _ (tree : List ℕ) (names : ℕ) (a : Accepted names Vector tree) where
-  limited : Limited tree names
+module _ {ρ : Rules} (tree : List ℕ) (names : ℕ) (a : Accepted ρ names Vector tree) where
+  limited : Limited ρ tree names
   unfolding overSize
   limited =
       let e = decoded names tree (a .expression) (accepted-decodes a) in
@@ -50,67 +65,67 @@ module _ (tree : List ℕ) (names : ℕ) (a : Accepted names Vector tree) where
       record {
         ends = accepted-vector tree names a;
         few = a .tokens;
-        short = longest-limited (vectorAt tree names (length tree)) limited;
+        short = longest-limited (vectorAt tree names (length tree)) (as-written ρ _ limited);
       }
 
-module _ {names n : ℕ} {tree : List ℕ} {sort : Sort} {states : List ℕ} {row : ℕ} {v : Verdict}
-    (c : ChecksRow names n tree sort states row v) (e : v ≡ Good) where
+module _ {ρ : Rules} {names n : ℕ} {tree : List ℕ} {sort : Sort} {states : List ℕ} {row : ℕ} {v : Verdict}
+    (c : ChecksRow ρ names n tree sort states row v) (e : v ≡ Good) where
   pub row-there : Within states names row
   row-there =
       let (l, a, (s, h)) = judged-good (c .is) e .1 in
       trace-row states names n (l .name-count) (l .row-count) (l .all) s row h
 
-  pub row-accepted : Accepted names sort tree
+  pub row-accepted : Accepted ρ names sort tree
   row-accepted = judged-good (c .is) e .1 .1
 
-module _ {names n : ℕ} {tree states : List ℕ} {row : ℕ} {v : Verdict}
-    (c : ChecksRow names n tree Boolean states row v) where
+module _ {ρ : Rules} {names n : ℕ} {tree states : List ℕ} {row : ℕ} {v : Verdict}
+    (c : ChecksRow ρ names n tree Boolean states row v) where
   pub boolean-ends : v ≡ Good → EndsBoolean tree names (length tree)
   boolean-ends e = accepted-boolean tree names (row-accepted c e)
 
-  pub state-refused : {ρ : Rules} {r : Refusal} → v ≡ Refused r
+  pub state-refused : {r : Refusal} → v ≡ Refused r
       → RowState ρ names n tree states row (outcome.Refused r)
   unfolding Comes
   state-refused e = record { comes = judged-not (c .is) e }
 
-  pub value-refused : {ρ : Rules} {r : Refusal} → v ≡ Refused r
+  pub value-refused : {r : Refusal} → v ≡ Refused r
       → RowValue ρ names n tree states row (outcome.Refused r)
   unfolding Comes
   value-refused e = record { comes = judged-not (c .is) e }
 
-  pub state-told : {ρ : Rules} {k : ℕ} → v ≡ Good → IsState (stateOf ρ tree names states (length tree) row) k
+  pub state-told : {k : ℕ} → v ≡ Good → IsState (stateOf ρ tree names states (length tree) row) k
       → RowState ρ names n tree states row (outcome.Done k)
   unfolding Comes
   state-told e s = record { comes = (judged-good (c .is) e .0, s .is) }
 
-  pub value-told : {ρ : Rules} {k : ℕ} → v ≡ Good → IsState (valueOf ρ tree names states (length tree) row) k
+  pub value-told : {k : ℕ} → v ≡ Good → IsState (valueOf ρ tree names states (length tree) row) k
       → RowValue ρ names n tree states row (outcome.Done k)
   unfolding Comes
   value-told e s = record { comes = (judged-good (c .is) e .0, s .is) }
 
-module _ {names n : ℕ} {tree states : List ℕ} {row : ℕ} {v : Verdict}
-    (c : ChecksRow names n tree Vector states row v) where
+module _ {ρ : Rules} {names n : ℕ} {tree states : List ℕ} {row : ℕ} {v : Verdict}
+    (c : ChecksRow ρ names n tree Vector states row v) where
   pub pattern-there : v ≡ Good → Pattern tree names (length tree)
   pattern-there e = accepted-pattern tree names (row-accepted c e)
 
-  pub answer-refused : {ρ : Rules} {r : Refusal} → v ≡ Refused r → RowAnswer ρ names n tree states row (told.Refused r)
+  pub answer-refused : {r : Refusal} → v ≡ Refused r → RowAnswer ρ names n tree states row (told.Refused r)
   unfolding Tells
   answer-refused e = record { comes = judged-not (c .is) e }
 
-  pub answer-told : {ρ : Rules} {a : Answer} → v ≡ Good
-      → numberOf a ≡ rowAnswer (stateAt ρ names states) (vectorAt tree names (length tree)) row
+  pub answer-told : {a : Answer} → v ≡ Good
+      → numberOf a ≡ rowAnswer (stateAt ρ names states) (meant ρ (vectorAt tree names (length tree))) row
       → RowAnswer ρ names n tree states row (told.Answered a)
   unfolding Tells
   answer-told e s = record { comes = (judged-good (c .is) e .0, s) }
 
 -- all rows
-module _ {names n : ℕ} {tree states : List ℕ} (out : List ℕ) {v : Verdict}
-    (c : ChecksRows names n (eqb (length out) n) tree Boolean states v) where
-  as-lists : Judged (rowsOrder names n (length out ≡ n) tree Boolean states)
-      (((length out ≡ n) × Rows names n (length states)) × Accepted names Boolean tree × Codes states) v
-  as-lists = lent-as names n tree Boolean states (eqb (length out) n) (length out ≡ n) (eqb-decides (length out) n) c
+module _ {ρ : Rules} {names n : ℕ} {tree states : List ℕ} (out : List ℕ) {v : Verdict}
+    (c : ChecksRows ρ names n (eqb (length out) n) tree Boolean states v) where
+  as-lists : Judged (rowsOrder ρ names n (length out ≡ n) tree Boolean states)
+      (((length out ≡ n) × Rows names n (length states)) × Accepted ρ names Boolean tree × Codes states) v
+  as-lists = lent-as ρ names n tree Boolean states (eqb (length out) n) (length out ≡ n) (eqb-decides (length out) n) c
 
-  pub values-refused : {ρ : Rules} {r : Refusal} → v ≡ Refused r
+  pub values-refused : {r : Refusal} → v ≡ Refused r
       → AllValues ρ names n tree states out out (outcome.Refused r)
   unfolding Comes after
   values-refused e = record { comes = judged-not as-lists e; memory = refl }
@@ -124,7 +139,7 @@ module _ {names n : ℕ} {tree states : List ℕ} (out : List ℕ) {v : Verdict}
         let ((k, l), a, s) = judged-good as-lists e .1 in
         trace-filling states names n (l .name-count) (l .row-count) (l .all) s out k
 
-    pub values-told : {ρ : Rules} {out′ : List ℕ}
+    pub values-told : {out′ : List ℕ}
         → out′ ≡ front (listed 0 n (valueOf ρ tree names states (length tree))) out
         → AllValues ρ names n tree states out out′ (outcome.Done n)
     unfolding Comes after

@@ -20,20 +20,20 @@ use Rattle.row_calls.specs.Windows.{answerOver, WindowAnswer, TreeWindow
 use Rattle.judging.proofs.Verdicts.{judged-good, judged-not}
 use Rattle.row_calls.proofs.AsWritten.{row-there, pattern-there}
 
-module _ {names n : ℕ} {tree states : List ℕ} (a b : ℕ) {row : ℕ} {v : Verdict} (last : row ≡ max a b)
-    (checked : ChecksRow names n tree Vector states row v) where
-  both : ChecksRow names n tree Vector states (max a b) v
-  both = subst (λ (k : ℕ). ChecksRow names n tree Vector states k v) last checked
+module _ {ρ : Rules} {names n : ℕ} {tree states : List ℕ} (a b : ℕ) {row : ℕ} {v : Verdict} (last : row ≡ max a b)
+    (checked : ChecksRow ρ names n tree Vector states row v) where
+  both : ChecksRow ρ names n tree Vector states (max a b) v
+  both = subst (λ (k : ℕ). ChecksRow ρ names n tree Vector states k v) last checked
 
   pub window-asked : v ≡ Good → TreeWindow names tree states b
   window-asked e = record { ends = pattern-there both e; there = earlier-row b (omega arith) (row-there both e) }
 
-  pub window-refused : {ρ : Rules} {r : Refusal} → v ≡ Refused r
+  pub window-refused : {r : Refusal} → v ≡ Refused r
       → WindowAnswer ρ names n tree states a b (told.Refused r)
   unfolding Tells
   window-refused e = record { comes = judged-not (both .is) e }
 
-  pub window-told : {ρ : Rules} {w : Answer} → v ≡ Good → numberOf w ≡ numbered (answerOver ρ names tree states a b)
+  pub window-told : {w : Answer} → v ≡ Good → numberOf w ≡ numbered (answerOver ρ names tree states a b)
       → WindowAnswer ρ names n tree states a b (told.Answered w)
   unfolding Tells
   window-told e s = record { comes = (judged-good (both .is) e .0, s) }

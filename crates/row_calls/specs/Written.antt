@@ -14,6 +14,7 @@ use Rattle.basics.specs.declared.Outcome.{Outcome}
 use Rattle.basics.specs.declared.Outcome.the-variants as outcome
 use Rattle.basics.specs.Words.{listed}
 use Rattle.alf.specs.Values.{stateAt, valueAt}
+use Rattle.alf.specs.Steady.{meant}
 use Rattle.alf.specs.Windows.{rowAnswer}
 use Rattle.alf.specs.Answers.{numberOf}
 use Rattle.alf.specs.Refusals.{Order, RefusedBy, Passed, Comes}
@@ -25,16 +26,16 @@ use Rattle.basics.specs.Memory.{after}
 
 -- the state of the boolean expression that the tree is, at the row; its value
 pub record RowState (ρ : Rules) (names n : ℕ) (tree states : List ℕ) (row : ℕ) (r : Outcome) : Type 0 where
-  pub comes : Comes (rowOrder names n tree Boolean states row)
+  pub comes : Comes (rowOrder ρ names n tree Boolean states row)
       (λ k. k ≡ stateAt ρ names states (booleanAt tree names (length tree)) row) r
 
 pub record RowValue (ρ : Rules) (names n : ℕ) (tree states : List ℕ) (row : ℕ) (r : Outcome) : Type 0 where
-  pub comes : Comes (rowOrder names n tree Boolean states row)
+  pub comes : Comes (rowOrder ρ names n tree Boolean states row)
       (λ k. k ≡ valueAt ρ names states (booleanAt tree names (length tree)) row) r
 
 -- its values at rows 0 to n-1, in a list of n entries
 pub record AllValues (ρ : Rules) (names n : ℕ) (tree states out out′ : List ℕ) (r : Outcome) : Type 0 where
-  pub comes : Comes (rowsOrder names n (length out ≡ n) tree Boolean states) (λ k. k ≡ n) r
+  pub comes : Comes (rowsOrder ρ names n (length out ≡ n) tree Boolean states) (λ k. k ≡ n) r
   pub memory : out′ ≡ after (listed 0 n (valueAt ρ names states (booleanAt tree names (length tree)))) out r
 
 -- an answer, by document 01's number, or a refusal
@@ -48,7 +49,7 @@ pub record AnsweredAs (number : ℕ) (x : Told) : Type 0 where
   pub is : x ≡ Answered answer
   pub numbered : numberOf answer ≡ number
 
--- the answer of the vector expression that the tree is, at the row
+-- the answer of the vector expression that the tree is, as the rules read it, at the row
 pub record RowAnswer (ρ : Rules) (names n : ℕ) (tree states : List ℕ) (row : ℕ) (r : Told) : Type 0 where
-  pub comes : Tells (rowOrder names n tree Vector states row)
-      (rowAnswer (stateAt ρ names states) (vectorAt tree names (length tree)) row) r
+  pub comes : Tells (rowOrder ρ names n tree Vector states row)
+      (rowAnswer (stateAt ρ names states) (meant ρ (vectorAt tree names (length tree))) row) r

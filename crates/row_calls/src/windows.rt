@@ -43,7 +43,7 @@ pub fn window_answer(
     let from = a.0 as usize;
     let to = b.0 as usize;
     let last = later(from, to);
-    let v = check_row(names, n, tree, Sort::Vector, states, last);
+    let v = check_row(rules, names, n, tree, Sort::Vector, states, last);
     match v {
         Verdict::Refused(r) => Told::Refused(r),
         Verdict::Good => Told::Answered(answer_tree(rules, names, tree, states, from, to)),

@@ -28,7 +28,7 @@ pub fn row_state(
     ensures { λ r. ⌜ RowState rules names n (now (tree .entry)) (now (states .entry)) (row .0) r ⌝ }
 {
     let at = row.0 as usize;
-    let v = check_row(names, n, tree, Sort::Boolean, states, at);
+    let v = check_row(rules, names, n, tree, Sort::Boolean, states, at);
     match v {
         Verdict::Refused(r) => Outcome::Refused(r),
         Verdict::Good => {
@@ -50,7 +50,7 @@ pub fn row_value(
     ensures { λ r. ⌜ RowValue rules names n (now (tree .entry)) (now (states .entry)) (row .0) r ⌝ }
 {
     let at = row.0 as usize;
-    let v = check_row(names, n, tree, Sort::Boolean, states, at);
+    let v = check_row(rules, names, n, tree, Sort::Boolean, states, at);
     match v {
         Verdict::Refused(r) => Outcome::Refused(r),
         Verdict::Good => {
@@ -73,7 +73,7 @@ pub fn values(
         (now (out .exit)) r ⌝ }
 {
     let lent = out.len() == n;
-    let v = check_rows(names, n, lent, tree, Sort::Boolean, states);
+    let v = check_rows(rules, names, n, lent, tree, Sort::Boolean, states);
     match v {
         Verdict::Refused(r) => Outcome::Refused(r),
         Verdict::Good => {
@@ -95,7 +95,7 @@ pub fn row_answer(
     ensures { λ r. ⌜ RowAnswer rules names n (now (tree .entry)) (now (states .entry)) (row .0) r ⌝ }
 {
     let at = row.0 as usize;
-    let v = check_row(names, n, tree, Sort::Vector, states, at);
+    let v = check_row(rules, names, n, tree, Sort::Vector, states, at);
     match v {
         Verdict::Refused(r) => Told::Refused(r),
         Verdict::Good => Told::Answered(window_answers::rows::row_answer(

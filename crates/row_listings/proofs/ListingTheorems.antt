@@ -25,25 +25,25 @@ use Rattle.expression_listings.specs.TreeListings.{rowsOrder}
 use Rattle.row_listings.specs.Listings.{Lists, lists, refuses, ListsPattern, ListsValues}
 use Rattle.row_listings.proofs.TextListings.{vector-one, boolean-one}
 
-module _ {A : Type 0} (into : A → Expression) (one : (a b : A) → into a ≡ into b → a ≡ b) (sort : Sort)
-    (shown : A → List ℕ) (names times states text : List ℕ) where
-  given-one : {a b : A} → Gives names text sort (into a) → Gives names text sort (into b) → a ≡ b
+module _ {A : Type 0} (ρ : Rules) (into : A → Expression) (one : (a b : A) → into a ≡ into b → a ≡ b)
+    (sort : Sort) (shown : A → List ℕ) (names times states text : List ℕ) where
+  given-one : {a b : A} → Gives ρ names text sort (into a) → Gives ρ names text sort (into b) → a ≡ b
   given-one g h = one _ _ (gives-unique g h)
 
-  room-fixed : (room : ℕ) → Fixed (OfGiven into names text sort (λ y. no-room (length (shown y)) room))
+  room-fixed : (room : ℕ) → Fixed (OfGiven ρ into names text sort (λ y. no-room (length (shown y)) room))
   room-fixed room p q a b =
       a .holds .there ∙ ap (λ (x : A). length (shown x)) (given-one (a .given) (b .given)) ∙ sym (b .holds .there)
 
-  order-sole : (room : ℕ) → Sole (listOrder into sort shown names times states text room)
+  order-sole : (room : ℕ) → Sole (listOrder ρ into sort shown names times states text room)
   order-sole room =
-      sole-both (readOrder names text sort) _ (read-sole names text sort)
+      sole-both (readOrder ρ names text sort) _ (read-sole ρ names text sort)
       (sole-fixed
       (rowsOrder (length names / 32) times states
-      (check 9 (OfGiven into names text sort (λ y. no-room (length (shown y)) room)) ∷ []))
+      (check 9 (OfGiven ρ into names text sort (λ y. no-room (length (shown y)) room)) ∷ []))
       (at-fixed _ _, (first-fixed _, (room-fixed room, tt))))
 
-  pub lists-unique : {out x y : List ℕ} {r s : Outcome} → Lists into sort shown names times states text out x r
-      → Lists into sort shown names times states text out y s
+  pub lists-unique : {out x y : List ℕ} {r s : Outcome} → Lists ρ into sort shown names times states text out x r
+      → Lists ρ into sort shown names times states text out y s
       → (r ≡ s) × (x ≡ y)
   unfolding after
   lists-unique {out} (lists a p g k h) (lists b q j l i) =
@@ -60,14 +60,14 @@ module _ {names times states text out x y : List ℕ} {r s : Outcome} where
   pub list-text-unique : (ρ : Rules) → ListsPattern ρ names times states text out x r
       → ListsPattern ρ names times states text out y s
       → (r ≡ s) × (x ≡ y)
-  list-text-unique ρ = lists-unique vector vector-one the-sort.Vector _ names times states text
+  list-text-unique ρ = lists-unique ρ vector vector-one the-sort.Vector _ names times states text
 
   pub values-text-unique : (ρ : Rules) → ListsValues ρ names times states text out x r
       → ListsValues ρ names times states text out y s
       → (r ≡ s) × (x ≡ y)
-  values-text-unique ρ = lists-unique boolean boolean-one the-sort.Boolean _ names times states text
+  values-text-unique ρ = lists-unique ρ boolean boolean-one the-sort.Boolean _ names times states text
 
-pub lists-stays : {A : Type 0} {into : A → Expression} {sort : Sort} {shown : A → List ℕ}
+pub lists-stays : {A : Type 0} {ρ : Rules} {into : A → Expression} {sort : Sort} {shown : A → List ℕ}
     {names times states text out out′ : List ℕ} {r : Refusal}
-    → Lists into sort shown names times states text out out′ (Refused r) → out′ ≡ out
+    → Lists ρ into sort shown names times states text out out′ (Refused r) → out′ ≡ out
 lists-stays (refuses h e) = e

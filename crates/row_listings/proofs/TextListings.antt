@@ -17,6 +17,7 @@ use Rattle.alf.specs.declared.Sort.the-variants as the-sort
 use Rattle.basics.specs.declared.Outcome.{Outcome}
 use Rattle.basics.specs.declared.Outcome.the-variants.{Done, Refused}
 use Rattle.alf.specs.Expressions.{Boolean, Vector, Expression, boolean, vector}
+use Rattle.alf.specs.Steady.{meant}
 use Rattle.basics.specs.Words.{all}
 use Rattle.basics.specs.declared.Refusal.{Refusal}
 use Rattle.alf.specs.States.{among}
@@ -39,7 +40,7 @@ use Rattle.row_listings.specs.Listings.{ListsAs}
 use Rattle.expression_listings.specs.TreeListings.{treeListing}
 use Rattle.expression_listings.proofs.RowListings.{text-as}
 
-found-listing : (ρ : Rules) {names text : List ℕ} {sort : Sort} {r : Read} (f : Found names text sort r)
+found-listing : (ρ : Rules) {names text : List ℕ} {sort : Sort} {r : Read} (f : Found ρ names text sort r)
     (times states : List ℕ)
     → treeListing ρ (length names / 32) times states (take (r .len) (r .tree))
     ≡ listingOf ρ (length names / 32) times states (f .it)
@@ -48,18 +49,18 @@ found-listing ρ {names} {r = r} f times states =
     (decoded (length names / 32) (take (r .len) (r .tree)) (f .it) (found-decodes f))
 
 -- the contract, for what the text gives
-module _ {A : Type 0} (into : A → Expression) (one : (a b : A) → into a ≡ into b → a ≡ b) (sort : Sort)
-    (shown : A → List ℕ) (names times states text : List ℕ) where
-  text-refused : {r : Read} {out : List ℕ} → ReadsText names text sort r → r .refused ≡ true
-      → Lists into sort shown names times states text out out (Refused (r .refusal))
-  text-refused h e = refuses (in-first text (readOrder names text sort) _ (read-refused h e)) refl
+module _ {A : Type 0} (ρ : Rules) (into : A → Expression) (one : (a b : A) → into a ≡ into b → a ≡ b)
+    (sort : Sort) (shown : A → List ℕ) (names times states text : List ℕ) where
+  text-refused : {r : Read} {out : List ℕ} → ReadsText ρ names text sort r → r .refused ≡ true
+      → Lists ρ into sort shown names times states text out out (Refused (r .refusal))
+  text-refused h e = refuses (in-first text (readOrder ρ names text sort) _ (read-refused h e)) refl
 
-  module _ (x : A) (g : Gives names text sort (into x)) where
+  module _ (x : A) (g : Gives ρ names text sort (into x)) where
     room-refused : (room q p : ℕ)
         → RefusedWith (rowsOrder (length names / 32) times states (check 9 (no-room (length (shown x)) room) ∷ []))
         q p
         → RefusedWith (rowsOrder (length names / 32) times states
-        (check 9 (OfGiven into names text sort (λ y. no-room (length (shown y)) room)) ∷ [])) q p
+        (check 9 (OfGiven ρ into names text sort (λ y. no-room (length (shown y)) room)) ∷ [])) q p
     unfolding RefusedWith
     room-refused room q p (inl h) = inl h
     room-refused room q p (inr (n, inl h)) = inr (n, inl h)
@@ -71,7 +72,7 @@ module _ {A : Type 0} (into : A → Expression) (one : (a b : A) → into a ≡ 
     rows-shown : (room : ℕ) {r : Refusal}
         → RefusedBy (rowsOrder (length names / 32) times states (check 9 (no-room (length (shown x)) room) ∷ [])) r
         → RefusedIn text (rowsOrder (length names / 32) times states
-        (check 9 (OfGiven into names text sort (λ y. no-room (length (shown y)) room)) ∷ [])) r
+        (check 9 (OfGiven ρ into names text sort (λ y. no-room (length (shown y)) room)) ∷ [])) r
     unfolding all numbersOf among
     rows-shown room h =
         in-silent text _ refl (record { by = room-refused room _ _ (h .by); bare = h .bare })
@@ -79,27 +80,27 @@ module _ {A : Type 0} (into : A → Expression) (one : (a b : A) → into a ≡ 
     room-passed : (room : ℕ)
         → Passed (rowsOrder (length names / 32) times states (check 9 (no-room (length (shown x)) room) ∷ []))
         → Passed (rowsOrder (length names / 32) times states
-        (check 9 (OfGiven into names text sort (λ y. no-room (length (shown y)) room)) ∷ []))
+        (check 9 (OfGiven ρ into names text sort (λ y. no-room (length (shown y)) room)) ∷ []))
     unfolding Passed
     room-passed room (n, (m, (o, u))) = (
       n,
       (m, (λ p a. o p (rw (one _ _ (gives-unique (a .given) g)) at (a .holds)), tt)),
     )
 
-    comes-listed : (out out′ : List ℕ) → Passed (readOrder names text sort) → (r : Outcome)
+    comes-listed : (out out′ : List ℕ) → Passed (readOrder ρ names text sort) → (r : Outcome)
         → Comes (rowsOrder (length names / 32) times states
         (check 9 (no-room (length (shown x)) (length out)) ∷ [])) (λ m. m ≡ length (shown x)) r
         → out′ ≡ after (front (shown x) out) out r
-        → Lists into sort shown names times states text out out′ r
+        → Lists ρ into sort shown names times states text out out′ r
     unfolding Comes after
     comes-listed out out′ p (Done m) h e =
-        lists x (passed-both (readOrder names text sort) _ p (room-passed (length out) (h .0))) g (h .1) e
+        lists x (passed-both (readOrder ρ names text sort) _ p (room-passed (length out) (h .0))) g (h .1) e
     comes-listed out out′ p (Refused r) h e =
-        refuses (in-then text (readOrder names text sort) _ p (rows-shown (length out) h)) e
+        refuses (in-then text (readOrder ρ names text sort) _ p (rows-shown (length out) h)) e
 
-    pub text-lists : {out out′ : List ℕ} {r : Outcome} → Passed (readOrder names text sort)
+    pub text-lists : {out out′ : List ℕ} {r : Outcome} → Passed (readOrder ρ names text sort)
         → RowsText (length names / 32) times states (shown x) out out′ r
-        → Lists into sort shown names times states text out out′ r
+        → Lists ρ into sort shown names times states text out out′ r
     text-lists {r = r} p h = comes-listed _ _ p r (h .outcome) (h .memory)
 
 -- a pattern, and a boolean expression
@@ -110,40 +111,41 @@ pub boolean-one : (b c : Boolean) → boolean b ≡ boolean c → b ≡ c
 boolean-one b c e = cc
 
 module _ {names times states text out : List ℕ} {rd : Read} where
-  pub pattern-refused : (ρ : Rules) → ReadsText names text the-sort.Vector rd → rd .refused ≡ true
+  pub pattern-refused : (ρ : Rules) → ReadsText ρ names text the-sort.Vector rd → rd .refused ≡ true
       → ListsPattern ρ names times states text out out (Refused (rd .refusal))
-  pattern-refused ρ = text-refused vector vector-one the-sort.Vector _ names times states text
+  pattern-refused ρ = text-refused ρ vector vector-one the-sort.Vector _ names times states text
 
-  pub values-refused : (ρ : Rules) → ReadsText names text the-sort.Boolean rd → rd .refused ≡ true
+  pub values-refused : (ρ : Rules) → ReadsText ρ names text the-sort.Boolean rd → rd .refused ≡ true
       → ListsValues ρ names times states text out out (Refused (rd .refusal))
-  values-refused ρ = text-refused boolean boolean-one the-sort.Boolean _ names times states text
+  values-refused ρ = text-refused ρ boolean boolean-one the-sort.Boolean _ names times states text
 
 module _ {names times states text out out′ : List ℕ} {rd : Read} {r : Outcome} where
-  pub pattern-lists : (ρ : Rules) → Found names text the-sort.Vector rd
+  pub pattern-lists : (ρ : Rules) → Found ρ names text the-sort.Vector rd
       → RowsText (length names / 32) times states
       (treeListing ρ (length names / 32) times states (take (rd .len) (rd .tree))) out out′ r
       → ListsPattern ρ names times states text out out′ r
   unfolding listingOf
   pattern-lists ρ f h =
       let v = found-vector f in
-      text-lists vector vector-one the-sort.Vector (patternListing ρ (length names / 32) times states) names times
-      states text (v .p) (vector-given f) (f .passed)
+      text-lists ρ vector vector-one the-sort.Vector
+      (λ p. patternListing ρ (length names / 32) times states (meant ρ p)) names times states text (v .p)
+      (vector-given f) (f .passed)
       (text-as (found-listing ρ f times states ∙ ap (listingOf ρ (length names / 32) times states) (v .is-vector)) h)
 
-  pub values-lists : (ρ : Rules) → Found names text the-sort.Boolean rd
+  pub values-lists : (ρ : Rules) → Found ρ names text the-sort.Boolean rd
       → RowsText (length names / 32) times states
       (treeListing ρ (length names / 32) times states (take (rd .len) (rd .tree))) out out′ r
       → ListsValues ρ names times states text out out′ r
   unfolding listingOf
   values-lists ρ f h =
       let b = found-boolean f in
-      text-lists boolean boolean-one the-sort.Boolean (valueListing ρ (length names / 32) times states) names times
+      text-lists ρ boolean boolean-one the-sort.Boolean (valueListing ρ (length names / 32) times states) names times
       states text (b .c) (rw (b .is-boolean) at (f .gives)) (f .passed)
       (text-as (found-listing ρ f times states ∙ ap (listingOf ρ (length names / 32) times states) (b .is-boolean)) h)
 
 -- by the sort
 pub sort-refused : (ρ : Rules) (sort : Sort) {names text : List ℕ} (times states out : List ℕ) {rd : Read}
-    → ReadsText names text sort rd
+    → ReadsText ρ names text sort rd
     → rd .refused ≡ true
     → ListsAs ρ sort names times states text out out (Refused (rd .refusal))
 unfolding ListsAs
@@ -153,7 +155,7 @@ sort-refused ρ the-sort.Boolean times states out h e = values-refused _ h e
 pub sort-lists : (ρ : Rules) (sort : Sort) {names text : List ℕ} {out out′ : List ℕ} (times states : List ℕ)
     {rd : Read}
     {r : Outcome}
-    → Found names text sort rd
+    → Found ρ names text sort rd
     → RowsText (length names / 32) times states
     (treeListing ρ (length names / 32) times states (take (rd .len) (rd .tree))) out out′ r
     → ListsAs ρ sort names times states text out out′ r

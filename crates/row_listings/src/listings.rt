@@ -1,5 +1,5 @@
-// Listings of what a text gives, on a trace, into a lent buffer: of a pattern its answers, of a boolean expression its
-// values.
+// Listings of what a text gives, on a trace, into a lent buffer: of a pattern, as the rules read it, its answers, of a
+// boolean expression its values.
 ghost use Rattle.row_listings.specs.Listings.{ListsPattern, ListsValues, ListsAs};
 use alf::Rules;
 use alf::Sort;
@@ -20,7 +20,7 @@ fn list_given(
     ensures { λ r. ⌜ ListsAs rules sort (now (names .entry)) (now (times .entry)) (now (states .entry))
         (now (text .entry)) (now (out .entry)) (now (out .exit)) r ⌝ }
 {
-    let read = read_expression(names, text, sort);
+    let read = read_expression(rules, names, text, sort);
     let no = read.refused;
     if no {
         let refusal = read.refusal;

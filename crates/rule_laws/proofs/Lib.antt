@@ -1,4 +1,5 @@
 -- The laws of this crate.
 pub mod EqualBranches
+pub mod EventReport
 pub mod Sharper
 pub mod SharperTries

@@ -60,7 +60,7 @@ module _ {ρ : Rules} {k n : ℕ} {tree codes : List ℕ} {row : ℕ} (x : Match
       match-row k n tree codes row .no-other (refusal 18 0)
       (plainly _ 18 0 (inl (refl, record { given = λ l. omega (arith, h, l .row-count .1); there = refl }))) x tt w .0
 
-  module _ (a : Accepted k Vector tree) where
+  module _ (a : Accepted ρ k Vector tree) where
     pub row-n : GoodTrace k n codes → n ≤ row → x ≡ matching.Refused (refusal 19 0)
     unfolding RefusedWith
     row-n g h =
@@ -84,25 +84,25 @@ module _ {ρ : Rules} {k n : ℕ} {tree codes answers : List ℕ} {row : ℕ} {n
   pub new-row-short : (length new ≡ k → ⊥) → o ≡ outcome.Refused (refusal 18 0)
   unfolding RefusedWith
   new-row-short h =
-      correct k n tree codes answers row new .no-other (refusal 18 0)
+      correct ρ k n tree codes answers row new .no-other (refusal 18 0)
       (plainly _ 18 0 (inl (refl, record { given = λ l. h (l .full); there = refl }))) o (codes′, answers′) w .0
 
-  pub new-code-8 : {i : ℕ} → GoodTrace k n codes → Accepted k Vector tree → length answers ≡ n → length new ≡ k
+  pub new-code-8 : {i : ℕ} → GoodTrace k n codes → Accepted ρ k Vector tree → length answers ≡ n → length new ≡ k
       → bad-code new i → o ≡ outcome.Refused (refusal 15 i)
   unfolding RefusedWith
   new-code-8 {i} g a room full b =
-      correct k n tree codes answers row new .no-other (refusal 15 i)
+      correct ρ k n tree codes answers row new .no-other (refusal 15 i)
       (plainly _ 15 i (inr (
         λ p z. z .given (record { room = room; full = full; rows = g .lists }),
         inr (λ p z. z .given a, inr (codes-never codes (g .codes), inl (refl, b))),
       ))) o (codes′, answers′) w .0
 
 pub queue-over-K : {ρ : Rules} {k : ℕ} {tree : List ℕ} {queue : Queue} {row : List ℕ} {queue′ : Queue} (x : Matching)
-    → Push ρ k tree queue row x queue′ → RowFits k (length row) → stepsOf (expression tree k) < queue .kept .0
+    → Push ρ k tree queue row x queue′ → RowFits k (length row) → stepsOf (expression ρ tree k) < queue .kept .0
     → x ≡ matching.Refused (refusal 10 0)
 unfolding RefusedWith
 queue-over-K {ρ} {k} {tree} {queue} {row} {queue′} x w f h =
-    push k tree queue row .no-other (refusal 10 0)
+    push ρ k tree queue row .no-other (refusal 10 0)
     (plainly _ 10 0 (inr (
       λ p z. z .given f,
       inl (refl, record { given = λ g. omega (arith, h, g .kept .few); there = refl }),
@@ -116,13 +116,13 @@ short-tried {ρ} {k} {n} {tree} {codes} {answers} {tried} {answers′} {tried′
     match-all k n tree codes answers tried .no-other (refusal 18 0)
     (plainly _ 18 0 (inl (refl, record { given = λ l. h (l .0 .1); there = refl }))) o (answers′, tried′) w .0
 
-pub text-4097 : {names text : List ℕ} {sort : Sort} (x : Read) → GoodNames names → 4096 < length text
-    → ReadsText names text sort x → x ≡ refusedWith 1 4096
+pub text-4097 : {ρ : Rules} {names text : List ℕ} {sort : Sort} (x : Read) → GoodNames names → 4096 < length text
+    → ReadsText ρ names text sort x → x ≡ refusedWith 1 4096
 unfolding RefusedWith order among
-text-4097 {names} {text} {sort} x g h w =
-    read-expression names text sort .no-other (refusal 1 4096)
+text-4097 {ρ} {names} {text} {sort} x g h w =
+    read-expression ρ names text sort .no-other (refusal 1 4096)
     (record {
-      by = refused-then (namesOrder names) (order text ++ treeOrder names text sort) 1 4096 (names-pass names g)
+      by = refused-then (namesOrder names) (order text ++ treeOrder ρ names text sort) 1 4096 (names-pass names g)
           (inl (refl, record { given = h; there = refl }));
       shows = other refl refl;
     }) x tt w .0

@@ -21,9 +21,8 @@ use Rattle.alf.specs.States.{reduce}
 use Rattle.alf.specs.Expressions.{Vector}
 use Rattle.alf.specs.Values.{value, recordedOr, state, stateAt, valueAt}
 use Rattle.states.specs.declared.changes.Changes.{Changes}
-use Rattle.alf.specs.Bytes.{halfNumber, edgeNumber, booleanBytes, vectorBytes, bytesOf}
-use Rattle.alf.specs.Decoder.{halfAt, edgeAt, leafAt, oneAt}
-use Rattle.alf.specs.Decoder.{operationAt, isBoolean, topBoolean, topVector, under, ifSo, run, stackAt}
+use Rattle.alf.specs.Bytes.{booleanBytes, bytesOf}
+use Rattle.alf.specs.Decoder.{leafAt, operationAt, topBoolean, run, stackAt}
 use Rattle.trees.specs.Parts.{booleanAt}
 use Rattle.alf.specs.Windows.{asked, digitAsked, letterAsked, edgeOn, answer, best, numbered, rowAnswer}
 use Rattle.alf.specs.Answers.{numberOf}
@@ -89,14 +88,14 @@ row-number : {ρ : Rules} (i : ℕ) → i < rows → (x : Told) → RowAnswer ρ
 unfolding number
 row-number {ρ} i l x w =
     let a = answered (trace-good .lists) rises-accepted (trace-good .codes) l x w in
-    ap number (a .is) ∙ (rw rises-is at (a .numbered))
+    ap number (a .is) ∙ (rw (rises-is ρ) at (a .numbered))
 
 row-found : {ρ : Rules} (i : ℕ) → i < rows → (x : Matching) → RowMatch ρ names rows (T.asked rises) states i x
     → numberFound x ≡ at ρ rises i
 unfolding numberFound
 row-found {ρ} i l x w =
     let a = matched (trace-good .lists) rises-accepted (trace-good .codes) l x w in
-    ap numberFound (a .is) ∙ (rw rises-is at (a .numbered))
+    ap numberFound (a .is) ∙ (rw (rises-is ρ) at (a .numbered))
 
 -- "one answer for all rows"
 pub one-answer-for-all : {ρ : Rules} (x : Told)
@@ -129,7 +128,7 @@ at-front l m e i = ap (λ (x : List ℕ). getD x i 0) e
 module _ {answers tried answers′ tried′ : List ℕ} (room : length answers ≡ rows) (space : length tried ≡ rows) where
   list-right : {ρ : Rules} (o : Outcome)
       → AllMatched ρ names rows (T.asked rises) states answers tried answers′ tried′ o
-      → answers′ ≡ listed 0 rows (at ρ (expression (T.asked rises) names))
+      → answers′ ≡ listed 0 rows (at ρ (expression ρ (T.asked rises) names))
   unfolding Comes after
   list-right (outcome.Done k) w = w .answers-memory
   list-right (outcome.Refused r) w =
@@ -141,7 +140,7 @@ module _ {answers tried answers′ tried′ : List ℕ} (room : length answers �
       → (getD answers′ 0 0 ≡ 3) × (getD answers′ 1 0 ≡ 1) × (getD answers′ 4 0 ≡ 2)
   unfolding listed
   entry {ρ} o w =
-      let e = list-right o w ∙ ap (λ (p : Vector). listed 0 rows (at ρ p)) rises-is in
+      let e = list-right o w ∙ ap (λ (p : Vector). listed 0 rows (at ρ p)) (rises-is ρ) in
       (at-front _ _ e 0 ∙ rises-0 ρ, at-front _ _ e 1 ∙ rises-1 ρ, at-front _ _ e 4 ∙ rises-4 ρ)
 
   pub one-number-for-all : {ρ : Rules} (o : Outcome) (k : ℕ)
@@ -198,16 +197,20 @@ one-value-for-all {ρ} v m w e =
     omega (arith, a, b, A-0 ρ, A-1 ρ)
 
 -- the report of contradictory alternatives turned round
-flag-0 : flagList names (ownAt (T.asked rises) names) ≡ 0 ∷ []
+own-one : (ρ : Rules) → ownAt ρ (T.asked rises) names ≡ alternatives rises
+own-one ρ = ap alternatives (rises-is ρ)
+
+flag-0 : flagList names (alternatives rises) ≡ 0 ∷ []
 unfolding
-    edgeNumber halfNumber booleanBytes vectorBytes bytesOf halfAt edgeAt leafAt oneAt operationAt isBoolean topBoolean
-    topVector under ifSo run stackAt alternatives flagList flagOf contradictory possible literalsAt halves isName some
-    all asked digitAsked letterAsked reduce
+    alternatives flagList flagOf contradictory possible literalsAt halves isName some all asked digitAsked letterAsked
+    reduce
 flag-0 = refl
 
-pub flag-turned : {flags flags′ : List ℕ} (m : ℕ) → Contradicts names (T.asked rises) flags flags′ (outcome.Done m)
+pub flag-turned : {ρ : Rules} {flags flags′ : List ℕ} (m : ℕ)
+    → Contradicts ρ names (T.asked rises) flags flags′ (outcome.Done m)
     → getD flags′ 0 0 ≡ 1 → ⊥
 unfolding after
-flag-turned {flags} {flags′} m w e =
-    let a = at-front _ _ (w .memory ∙ ap (λ (l : List ℕ). l ++ drop (length l) flags) flag-0) 0 in
+flag-turned {ρ} {flags} {flags′} m w e =
+    let o = ap (flagList names) (own-one ρ) ∙ flag-0 in
+    let a = at-front _ _ (w .memory ∙ ap (λ (l : List ℕ). l ++ drop (length l) flags) o) 0 in
     omega (arith, a, e)

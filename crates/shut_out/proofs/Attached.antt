@@ -75,7 +75,7 @@ check-names κs a = (tt, λ r e p. p)
 
 pub read-expression : (κs : Lfts 2) (a : Dens κs read-expression-kinds.ps) → read-expression-says.Pre κs a
     × ((r : Read) (e : Dens κs read-expression-kinds.ps) → read-expression-says.Post κs a r e
-    → ReadsText (now (a .0)) (now (a .1 .0)) (a .1 .1 .0) r)
+    → ReadsText (a .0) (now (a .1 .0)) (now (a .1 .1 .0)) (a .1 .1 .1 .0) r)
 read-expression κs a = (tt, λ r e p. p)
 
 pub write-expression : (κs : Lfts 3) (a : Dens κs write-expression-kinds.ps) → write-expression-says.Pre κs a
@@ -102,14 +102,14 @@ changes-at κs a = (tt, λ r e p. p)
 
 pub rewrite : (κs : Lfts 5) (a : Dens κs rewrite-kinds.ps) → rewrite-says.Pre κs a
     × ((r : Outcome) (e : Dens κs rewrite-kinds.ps) → rewrite-says.Post κs a r e
-    → Rewrites (a .0) (now (a .1 .0)) (now (a .1 .1 .0)) (now (a .1 .1 .1 .0)) (now (a .1 .1 .1 .1 .0)) (now (a .1
-    .1 .1 .1 .1 .0)) (now (e .1 .1 .0)) (now (e .1 .1 .1 .0)) (now (e .1 .1 .1 .1 .0)) (now (e .1 .1 .1 .1 .1 .0))
-    r)
+    → Rewrites (a .0) (a .1 .0) (now (a .1 .1 .0)) (now (a .1 .1 .1 .0)) (now (a .1 .1 .1 .1 .0))
+    (now (a .1 .1 .1 .1 .1 .0)) (now (a .1 .1 .1 .1 .1 .1 .0)) (now (e .1 .1 .1 .0)) (now (e .1 .1 .1 .1 .0))
+    (now (e .1 .1 .1 .1 .1 .0)) (now (e .1 .1 .1 .1 .1 .1 .0)) r)
 rewrite κs a = (tt, λ r e p. p)
 
 pub contradictions : (κs : Lfts 2) (a : Dens κs contradictions-kinds.ps) → contradictions-says.Pre κs a
     × ((r : Outcome) (e : Dens κs contradictions-kinds.ps) → contradictions-says.Post κs a r e
-    → Contradicts (a .0) (now (a .1 .0)) (now (a .1 .1 .0)) (now (e .1 .1 .0)) r)
+    → Contradicts (a .0) (a .1 .0) (now (a .1 .1 .0)) (now (a .1 .1 .1 .0)) (now (e .1 .1 .1 .0)) r)
 contradictions κs a = (tt, λ r e p. p)
 
 pub row-state : (κs : Lfts 2) (a : Dens κs row-state-kinds.ps) → row-state-says.Pre κs a

@@ -84,7 +84,7 @@ check-names κs a = (tt, λ r e p. p)
 
 pub read-expression : (κs : Lfts 2) (a : Dens κs read-expression-kinds.ps) → read-expression-says.Pre κs a
     × ((r : Expression) (e : Dens κs read-expression-kinds.ps) → read-expression-says.Post κs a r e
-    → Hands (ReadsText (now (a .0)) (now (a .1 .0)) (sortOf (a .1 .1 .0))) toldExpression r)
+    → Hands (ReadsText (a .0) (now (a .1 .0)) (now (a .1 .1 .0)) (sortOf (a .1 .1 .1 .0))) toldExpression r)
 read-expression κs a = (tt, λ r e p. p)
 
 pub write-expression : (κs : Lfts 3) (a : Dens κs write-expression-kinds.ps) → write-expression-says.Pre κs a
@@ -162,14 +162,14 @@ totals κs a = (tt, λ r e p. p)
 
 pub rewrite : (κs : Lfts 5) (a : Dens κs rewrite-kinds.ps) → rewrite-says.Pre κs a
     × ((r : Told) (e : Dens κs rewrite-kinds.ps) → rewrite-says.Post κs a r e
-    → Hands (Rewrites (a .0) (now (a .1 .0)) (now (a .1 .1 .0)) (now (a .1 .1 .1 .0))
-    (now (a .1 .1 .1 .1 .0)) (now (a .1 .1 .1 .1 .1 .0)) (now (e .1 .1 .0)) (now (e .1 .1 .1 .0))
-    (now (e .1 .1 .1 .1 .0)) (now (e .1 .1 .1 .1 .1 .0))) told r)
+    → Hands (Rewrites (a .0) (a .1 .0) (now (a .1 .1 .0)) (now (a .1 .1 .1 .0)) (now (a .1 .1 .1 .1 .0))
+    (now (a .1 .1 .1 .1 .1 .0)) (now (a .1 .1 .1 .1 .1 .1 .0)) (now (e .1 .1 .1 .0)) (now (e .1 .1 .1 .1 .0))
+    (now (e .1 .1 .1 .1 .1 .0)) (now (e .1 .1 .1 .1 .1 .1 .0))) told r)
 rewrite κs a = (tt, λ r e p. p)
 
 pub contradictions : (κs : Lfts 2) (a : Dens κs contradictions-kinds.ps) → contradictions-says.Pre κs a
     × ((r : Told) (e : Dens κs contradictions-kinds.ps) → contradictions-says.Post κs a r e
-    → Hands (Contradicts (a .0) (now (a .1 .0)) (now (a .1 .1 .0)) (now (e .1 .1 .0))) told r)
+    → Hands (Contradicts (a .0) (a .1 .0) (now (a .1 .1 .0)) (now (a .1 .1 .1 .0)) (now (e .1 .1 .1 .0))) told r)
 contradictions κs a = (tt, λ r e p. p)
 
 pub correct : (κs : Lfts 4) (a : Dens κs correct-kinds.ps) → correct-says.Pre κs a
@@ -180,7 +180,7 @@ pub correct : (κs : Lfts 4) (a : Dens κs correct-kinds.ps) → correct-says.Pr
 correct κs a = (tt, λ r e p. p)
 
 pub version : (κs : Lfts 0) (a : Dens κs version-kinds.ps) → version-says.Pre κs a
-    × ((r : ℕ) (e : Dens κs version-kinds.ps) → version-says.Post κs a r e → r ≡ 131072)
+    × ((r : ℕ) (e : Dens κs version-kinds.ps) → version-says.Post κs a r e → r ≡ 196608)
 version κs a = (tt, λ r e p. p)
 
 pub old-rules : (κs : Lfts 0) (a : Dens κs old-rules-kinds.ps) → old-rules-says.Pre κs a

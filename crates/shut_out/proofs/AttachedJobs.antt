@@ -81,12 +81,12 @@ row-number κs a = (tt, λ r e p. p)
 
 pub alternatives-text : (κs : Lfts 3) (a : Dens κs alternatives-text-kinds.ps) → alternatives-text-says.Pre κs a
     × ((r : Lines) (e : Dens κs alternatives-text-kinds.ps) → alternatives-text-says.Post κs a r e
-    → RewritesText (now (a .0)) (now (a .1 .0)) (now (a .1 .1 .0)) (now (e .1 .1 .0)) r)
+    → RewritesText (a .0) (now (a .1 .0)) (now (a .1 .1 .0)) (now (a .1 .1 .1 .0)) (now (e .1 .1 .1 .0)) r)
 alternatives-text κs a = (tt, λ r e p. p)
 
 pub write-alternatives : (κs : Lfts 3) (a : Dens κs write-alternatives-kinds.ps) → write-alternatives-says.Pre κs a
     × ((r : Lines) (e : Dens κs write-alternatives-kinds.ps) → write-alternatives-says.Post κs a r e
-    → WritesAlternatives (now (a .0)) (now (a .1 .0)) (now (a .1 .1 .0)) (now (e .1 .1 .0)) r)
+    → WritesAlternatives (a .0) (now (a .1 .0)) (now (a .1 .1 .0)) (now (a .1 .1 .1 .0)) (now (e .1 .1 .1 .0)) r)
 write-alternatives κs a = (tt, λ r e p. p)
 
 pub list-text : (κs : Lfts 5) (a : Dens κs list-text-kinds.ps) → list-text-says.Pre κs a

@@ -38,12 +38,12 @@ use Rattle.shut_out.proofs.RefusingUpdates.{Correctable, correct}
 use Rattle.shut_out.proofs.OnT.{trace-good, rises-accepted, rises-is, codes-below, below}
 
 -- the last row whose answer is rewritten
-abbrev last : ℕ → ℕ → List ℕ → ℕ → ℕ
-last k n tree r = lastRewritten (stepsOf (expression tree k)) n r
+abbrev last : Rules → ℕ → ℕ → List ℕ → ℕ → ℕ
+last ρ k n tree r = lastRewritten (stepsOf (expression ρ tree k)) n r
 
-module _ {k n : ℕ} {tree codes answers : List ℕ} {r : ℕ} {new codes′ answers′ : List ℕ}
-    (g : Correctable k n tree codes answers r new) where
-  module _ {ρ : Rules} (o : Outcome) (w : Correction ρ k n tree codes answers r new codes′ answers′ o) where
+module _ {ρ : Rules} {k n : ℕ} {tree codes answers : List ℕ} {r : ℕ} {new codes′ answers′ : List ℕ}
+    (g : Correctable ρ k n tree codes answers r new) where
+  module _ (o : Outcome) (w : Correction ρ k n tree codes answers r new codes′ answers′ o) where
     done : Correction ρ k n tree codes answers r new codes′ answers′ (Done 1)
     unfolding Comes
     done = go o w
@@ -52,9 +52,9 @@ module _ {k n : ℕ} {tree codes answers : List ℕ} {r : ℕ} {new codes′ ans
             → Correction ρ k n tree codes answers r new codes′ answers′ (Done 1)
         go (Done m) v =
             subst (λ (j : ℕ). Correction ρ k n tree codes answers r new codes′ answers′ (Done j)) (v .comes .1) v
-        go (Refused e) v = absurd (correct k n tree codes answers r new .no-refusal g e (codes′, answers′) v)
+        go (Refused e) v = absurd (correct ρ k n tree codes answers r new .no-refusal g e (codes′, answers′) v)
 
-    pub leaves-junk : (i : ℕ) → r ≤ i → i ≤ last k n tree r → 3 < getD answers i 0
+    pub leaves-junk : (i : ℕ) → r ≤ i → i ≤ last ρ k n tree r → 3 < getD answers i 0
         → getD answers′ i 0 ≡ getD answers i 0 → ⊥
     leaves-junk i a b junk-there same =
         omega (
@@ -62,16 +62,16 @@ module _ {k n : ℕ} {tree codes answers : List ℕ} {r : ℕ} {new codes′ ans
           junk-there,
           same,
           correction-reaches (g .accepted) done i a b,
-          row-answer-small (stateAt ρ k codes′) (expression tree k) i,
+          row-answer-small (stateAt ρ k codes′) (expression ρ tree k) i,
         )
 
-    reached : r ≤ last k n tree r
+    reached : r ≤ last ρ k n tree r
     unfolding lastRewritten
     reached = omega (arith, g .there)
 
-    next-reached : r + 1 < n → r + 1 ≤ last k n tree r
+    next-reached : r + 1 < n → r + 1 ≤ last ρ k n tree r
     unfolding lastRewritten
-    next-reached h = omega (arith, h, steps-pos (expression tree k))
+    next-reached h = omega (arith, h, steps-pos (expression ρ tree k))
 
     pub changes-nothing : 3 < getD answers r 0 → answers′ ≡ answers → ⊥
     changes-nothing j same = leaves-junk r (omega arith) reached j (ap (λ (l : List ℕ). getD l r 0) same)
@@ -80,7 +80,7 @@ module _ {k n : ℕ} {tree codes answers : List ℕ} {r : ℕ} {new codes′ ans
         → getD answers′ (r + 1) 0 ≡ getD answers (r + 1) 0 → ⊥
     stops-at-row-r h j same = leaves-junk (r + 1) (omega arith) (next-reached h) j same
 
-    pub writes-elsewhere : (i : ℕ) → (i < r) ⊎ (last k n tree r < i) → (getD answers′ i 0 ≡ getD answers i 0 → ⊥) → ⊥
+    pub writes-elsewhere : (i : ℕ) → (i < r) ⊎ (last ρ k n tree r < i) → (getD answers′ i 0 ≡ getD answers i 0 → ⊥) → ⊥
     writes-elsewhere i h differ = differ (correction-stays (g .accepted) done i h)
 
     pub stored : codes′ ≡ corrected k codes r new
@@ -94,8 +94,8 @@ module _ {k n : ℕ} {tree codes answers : List ℕ} {r : ℕ} {new codes′ ans
 abbrev new-row : List ℕ
 new-row = 0 ∷ 0 ∷ 1 ∷ []
 
-correctable : (answers : List ℕ) → length answers ≡ rows
-    → Correctable names rows (T.asked rises) states answers 3 new-row
+correctable : {ρ : Rules} (answers : List ℕ) → length answers ≡ rows
+    → Correctable ρ names rows (T.asked rises) states answers 3 new-row
 unfolding below
 correctable answers l =
     record {
@@ -115,12 +115,12 @@ yes-then ρ = refl
 pub stops-at-row-3 : {ρ : Rules} {answers states′ answers′ : List ℕ} (o : Outcome) → length answers ≡ rows
     → Correction ρ names rows (T.asked rises) states answers 3 new-row states′ answers′ o → getD answers′ 4 0 ≡ 2 → ⊥
 stops-at-row-3 {ρ} {answers} {states′} o l w same =
-    let g = correctable answers l in
+    let g = correctable {ρ = ρ} answers l in
     let e = correction-reaches rises-accepted (done g o w) 4 (omega arith) (next-reached g o w (omega arith)) in
-    let s = ap (λ (z : List ℕ). rowAnswer (stateAt ρ names z) (expression (T.asked rises) names) 4)
+    let s = ap (λ (z : List ℕ). rowAnswer (stateAt ρ names z) (expression ρ (T.asked rises) names) 4)
     (stored g o w) in
     let p = ap (λ (p : Vector). rowAnswer (stateAt ρ names (corrected names states 3 new-row)) p 4)
-    rises-is in
+    (rises-is ρ) in
     omega (arith, same, e ∙ (s ∙ (p ∙ yes-then ρ)))
 
 pub changes-nothing-on-T : {ρ : Rules} {states′ answers′ : List ℕ} (o : Outcome)

@@ -59,7 +59,7 @@ row-tries : {ρ : Rules} (i : ℕ) → i < rows → (x : Matching) → RowMatch 
 unfolding triesFound
 row-tries {ρ} i l x w =
     ap triesFound (matched (trace-good .lists) one-of-accepted (trace-good .codes) l x w .is)
-    ∙ ap (λ (p : Vector). tries (stateAt ρ names states) (alternatives p) i) one-of-is
+    ∙ ap (λ (p : Vector). tries (stateAt ρ names states) (alternatives p) i) (one-of-is ρ)
 
 pub one-number-of-tries : {ρ : Rules} (t : ℕ) (answers : ℕ → Answer)
     → ((i : ℕ) → 0 < i → i < rows
@@ -97,7 +97,7 @@ pub invented-total : {ρ : Rules} (t : Total) → RowTotals ρ names rows (T.ask
     → (t .yes ≡ 1) × (t .no ≡ 3) × (t .unknown ≡ 1)
 unfolding Counts
 invented-total {ρ} t w =
-    let c = rw rises-is at (w .comes .1) in
+    let c = rw (rises-is ρ) at (w .comes .1) in
     (c .yeses ∙ total-yes ρ, c .noes ∙ total-no ρ, c .unknowns ∙ total-unknown ρ)
 
 pub totals-nothing : {ρ : Rules} (t : Total) → RowTotals ρ names rows (T.asked rises) states (counting.Counted t)
@@ -130,7 +130,7 @@ module _ {ρ : Rules} {queues : ℕ → Queue} {results : ℕ → Matching} (fir
   unfolding numberFound
   queue-number i l =
       let r = pushed-found (trace-good .lists .name-count) rises-accepted first row-full row-codes pushed i l in
-      ap numberFound (r .is) ∙ (rw (fed-is, rises-is) at (r .numbered))
+      ap numberFound (r .is) ∙ (rw (fed-is, rises-is ρ) at (r .numbered))
 
   pub first-event-only : ((i : ℕ) → 0 < i → i < rows → results i ≡ results 1) → ⊥
   first-event-only same =
@@ -140,15 +140,15 @@ module _ {ρ : Rules} {queues : ℕ → Queue} {results : ℕ → Matching} (fir
 
 -- whatever the tree: what is pushed is kept, as long as K rows are not kept yet
 pub stands-still : {ρ : Rules} {k : ℕ} {tree : List ℕ} {queue : Queue} {row : List ℕ} {queue′ : Queue}
-    → Pushable k tree queue row → queue .kept .0 < stepsOf (expression tree k) → (x : Matching)
+    → Pushable ρ k tree queue row → queue .kept .0 < stepsOf (expression ρ tree k) → (x : Matching)
     → Push ρ k tree queue row x queue′ → queue′ .kept .0 ≡ queue .kept .0 → ⊥
 unfolding Takes stepsOf
 stands-still {ρ} {k} {tree} {queue} {row} {queue′} g l (matching.Found m) w e = omega (arith, l, e, w .comes .1 .kept)
 stands-still {ρ} {k} {tree} {queue} {row} {queue′} g l (matching.Refused r) w e =
-    push k tree queue row .no-refusal g r queue′ w
+    push ρ k tree queue row .no-refusal g r queue′ w
 
 pub keeps-nothing : {ρ : Rules} {k : ℕ} {tree : List ℕ} {queue : Queue} {row : List ℕ} {queue′ : Queue}
-    → Pushable k tree queue row → (x : Matching) → Push ρ k tree queue row x queue′
+    → Pushable ρ k tree queue row → (x : Matching) → Push ρ k tree queue row x queue′
     → queue .kept .0 ≡ 0 → queue′ .kept .0 ≡ 0 → ⊥
 keeps-nothing {ρ} {k} {tree} g x w a b =
-    stands-still g (omega (arith, a, steps-pos (expression tree k))) x w (b ∙ sym a)
+    stands-still g (omega (arith, a, steps-pos (expression ρ tree k))) x w (b ∙ sym a)

@@ -7,6 +7,7 @@ use mathlib.Core.Path.{_≡_, refl, ap}
 use mathlib.Core.List.{List}
 use lib.ListN.{length}
 use Rattle.basics.specs.declared.Refusal.{Refusal}
+use Rattle.alf.specs.declared.Rules.{Rules}
 use Rattle.basics.specs.Words.{some, all}
 use Rattle.alf.specs.States.{reduce}
 use Rattle.alf.specs.Names.{slot, untilZero, slotOf}
@@ -31,7 +32,7 @@ use Rattle.row_listings.proofs.TextListings.{vector-one}
 use Rattle.alternative_listings.specs.AlternativesText.{RewritesText}
 use Rattle.shut_out.specs.Asked.{asked, letters, rises}
 use Rattle.shut_out.proofs.RefusingAlternatives as showing
-use Rattle.shut_out.proofs.OnT.{rises-accepted, rises-is, letters-good, letters-count}
+use Rattle.shut_out.proofs.OnT.{rises-accepted, rises-meant, rises-is, letters-good, letters-count}
 use Rattle.shut_out.proofs.EveryJob.{rises-gives, rises-readable}
 
 lines-are : listing letters (alternatives rises) ≡ bytes "number\tnote\talternative\n1\t-\t01 A\n"
@@ -47,25 +48,26 @@ lines-length : length (listing letters (alternatives rises)) ≡ 33
 unfolding bytes
 lines-length = ap length lines-are
 
-pub alternatives-text : {out out′ : List ℕ} (r : Refusal) → 33 ≤ length out
-    → RewritesText letters (bytes "01 A") out out′ (showing.no-lines r) → ⊥
-alternatives-text {out} {out′} r room w =
-    showing.alternatives-text letters (bytes "01 A") out .no-refusal
+pub alternatives-text : {ρ : Rules} {out out′ : List ℕ} (r : Refusal) → 33 ≤ length out
+    → RewritesText ρ letters (bytes "01 A") out out′ (showing.no-lines r) → ⊥
+alternatives-text {ρ} {out} {out′} r room w =
+    showing.alternatives-text ρ letters (bytes "01 A") out .no-refusal
     (record {
       readable = rises-readable;
-      room = λ p g. rw (vector-one p rises (gives-unique g rises-gives)) (omega (arith, room, lines-length));
+      room = λ p g.
+          rw (vector-one p rises (gives-unique g rises-gives), rises-meant ρ) (omega (arith, room, lines-length));
     }) r out′ w
 
-same-lines : listingAt letters (asked rises) ≡ listing letters (alternatives rises)
+same-lines : (ρ : Rules) → listingAt ρ letters (asked rises) ≡ listing letters (alternatives rises)
 unfolding listingAt
-same-lines = rw (letters-count, rises-is) refl
+same-lines ρ = rw (letters-count, rises-is ρ) refl
 
-pub write-alternatives : {out out′ : List ℕ} (r : Refusal) → 33 ≤ length out
-    → WritesAlternatives letters (asked rises) out out′ (showing.no-lines r) → ⊥
-write-alternatives {out} {out′} r room w =
-    showing.write-alternatives letters (asked rises) out .no-refusal
+pub write-alternatives : {ρ : Rules} {out out′ : List ℕ} (r : Refusal) → 33 ≤ length out
+    → WritesAlternatives ρ letters (asked rises) out out′ (showing.no-lines r) → ⊥
+write-alternatives {ρ} {out} {out′} r room w =
+    showing.write-alternatives ρ letters (asked rises) out .no-refusal
     (record {
       names-good = letters-good;
       accepted = rw letters-count rises-accepted;
-      room = rw same-lines (omega (arith, room, lines-length));
+      room = rw (same-lines ρ) (omega (arith, room, lines-length));
     }) r out′ w

@@ -3,17 +3,16 @@
 -- RefusingRows and RefusingUpdates. The calls over texts stand in EveryText, those over lists in EveryList.
 use Prim.Native.Nat.{ℕ, _-_, _<_, _≤_, max}
 use native.Mathlib.Omega.{arith}
-use mathlib.Core.Path.{_≡_, refl}
+use mathlib.Core.Path.{_≡_, refl, sym, ap, _∙_}
 use mathlib.Core.List.{List}
 use lib.ListN.{length}
 use Rattle.basics.specs.declared.Refusal.{Refusal}
 use Rattle.alf.specs.declared.Rules.{Rules}
 use Rattle.alf.specs.declared.Sort.the-variants as sort
 use Rattle.basics.specs.declared.Outcome.the-variants as outcome
-use Rattle.alf.specs.Expressions.{boolean}
-use Rattle.alf.specs.Bytes.{halfNumber, edgeNumber, booleanBytes, vectorBytes, bytesOf}
-use Rattle.alf.specs.Decoder.{halfAt, edgeAt, leafAt, oneAt, operationAt}
-use Rattle.alf.specs.Decoder.{isBoolean, topBoolean, topVector, under, ifSo, run, stackAt, Decodes}
+use Rattle.alf.specs.Expressions.{Vector, boolean}
+use Rattle.alf.specs.Bytes.{booleanBytes, bytesOf}
+use Rattle.alf.specs.Decoder.{leafAt, operationAt, run, stackAt, Decodes}
 use Rattle.alf.specs.Alternatives.{alternatives}
 use Rattle.alf.specs.Refusals.{NameCount}
 use Rattle.alf.specs.TableT.{names, rows, states, A}
@@ -22,10 +21,11 @@ use Rattle.trees.specs.Brackets.{booleanDepth, depthOf}
 use Rattle.alf.proofs.FewNames.{decodes-encoded}
 use Rattle.acceptance.specs.Accepted.{sortOf, overSize, Accepted}
 use Rattle.writer.specs.Trees.{text}
-use Rattle.step_tests.specs.OperandPlaces.{byPlaces}
 use Rattle.rewriting.specs.Lists.{joined, alternativesAt, stepList, testList, edgeList, operandList}
+use Rattle.rewriting.proofs.Holding.{edge-entries, operand-entries}
 use Rattle.contradictions.specs.Possible.{flagList}
 use Rattle.rewriting_calls.specs.Calls.{Rewrites}
+use Rattle.rewriting_calls.proofs.Theorems.{steps-own, tests-own, edges-own}
 use Rattle.contradictions.specs.Calls.{ownAt, Contradicts}
 use Rattle.queue.specs.declared.queues.Queue.{Queue}
 use Rattle.states.specs.FirstBadCode.{Codes}
@@ -44,48 +44,61 @@ use Rattle.shut_out.proofs.Reasons.{Four}
 use Rattle.shut_out.proofs.Refusing as texts
 use Rattle.shut_out.proofs.RefusingRows as over-rows
 use Rattle.shut_out.proofs.RefusingUpdates as updating
-use Rattle.shut_out.proofs.OnT.{trace-good, rises-accepted}
+use Rattle.shut_out.proofs.OnT.{trace-good, rises-accepted, rises-is}
 
 -- Rewriting.
-lists-one : (length (stepList (alternativesAt (asked rises) names)) ≡ 1)
-    × (length (testList (alternativesAt (asked rises) names)) ≡ 1)
-    × (length (edgeList (alternativesAt (asked rises) names)) ≡ 1)
-    × (length (operandList (alternativesAt (asked rises) names)) ≡ 1)
-unfolding
-    edgeNumber halfNumber booleanBytes vectorBytes bytesOf halfAt edgeAt leafAt oneAt operationAt isBoolean topBoolean
-    topVector under ifSo run stackAt byPlaces joined alternatives stepList testList edgeList operandList
-lists-one = (refl, refl, refl, refl)
+module _ (ρ : Rules) where
+  steps-one : length (stepList (alternativesAt ρ (asked rises) names)) ≡ 1
+  unfolding alternatives stepList
+  steps-one =
+      ap length (steps-own ρ (asked rises) names rises-accepted)
+      ∙ ap (λ (p : Vector). length (stepList (alternatives p))) (rises-is ρ)
 
-flags-one : length (flagList names (ownAt (asked rises) names)) ≡ 1
-unfolding
-    edgeNumber halfNumber booleanBytes vectorBytes bytesOf halfAt edgeAt leafAt oneAt operationAt isBoolean topBoolean
-    topVector under ifSo run stackAt alternatives flagList
-flags-one = refl
+  tests-one : length (testList (alternativesAt ρ (asked rises) names)) ≡ 1
+  unfolding alternatives joined testList
+  tests-one =
+      ap length (tests-own ρ (asked rises) names rises-accepted)
+      ∙ ap (λ (p : Vector). length (testList (alternatives p))) (rises-is ρ)
+
+  edges-one : length (edgeList (alternativesAt ρ (asked rises) names)) ≡ 1
+  unfolding alternatives joined edgeList
+  edges-one =
+      ap length (edges-own ρ (asked rises) names rises-accepted)
+      ∙ ap (λ (p : Vector). length (edgeList (alternatives p))) (rises-is ρ)
+
+  operands-one : length (operandList (alternativesAt ρ (asked rises) names)) ≡ 1
+  operands-one =
+      operand-entries (alternativesAt ρ (asked rises) names)
+      ∙ sym (edge-entries (alternativesAt ρ (asked rises) names)) ∙ edges-one
+
+flags-one : (ρ : Rules) → length (flagList names (ownAt ρ (asked rises) names)) ≡ 1
+unfolding alternatives flagList
+flags-one ρ = ap (λ (p : Vector). length (flagList names (alternatives p))) (rises-is ρ)
 
 pub three : NameCount names
 three = (omega arith, omega arith)
 
-pub rewrite : (s t e o : List ℕ) (r : Refusal) (m : Four) → 1 ≤ length s → 1 ≤ length t → 1 ≤ length e
-    → 1 ≤ length o → Rewrites names (asked rises) s t e o (m .0) (m .1) (m .2) (m .3) (outcome.Refused r) → ⊥
-rewrite s t e o r m a b c d w =
-    texts.rewrite names (asked rises) s t e o .no-refusal
+pub rewrite : {ρ : Rules} (s t e o : List ℕ) (r : Refusal) (m : Four) → 1 ≤ length s → 1 ≤ length t → 1 ≤ length e
+    → 1 ≤ length o → Rewrites ρ names (asked rises) s t e o (m .0) (m .1) (m .2) (m .3) (outcome.Refused r) → ⊥
+rewrite {ρ} s t e o r m a b c d w =
+    texts.rewrite ρ names (asked rises) s t e o .no-refusal
     (record {
       name-count = three;
       accepted = rises-accepted;
-      steps-room = omega (arith, a, lists-one .0);
-      tests-room = omega (arith, b, lists-one .1);
-      edges-room = omega (arith, c, lists-one .2);
-      operands-room = omega (arith, d, lists-one .3);
+      steps-room = omega (arith, a, steps-one ρ);
+      tests-room = omega (arith, b, tests-one ρ);
+      edges-room = omega (arith, c, edges-one ρ);
+      operands-room = omega (arith, d, operands-one ρ);
     }) r m w
 
-pub contradictions : {flags flags′ : List ℕ} (r : Refusal) → 1 ≤ length flags
-    → Contradicts names (asked rises) flags flags′ (outcome.Refused r) → ⊥
-contradictions {flags} {flags′} r room w =
-    texts.contradictions names (asked rises) flags .no-refusal
-    (record { name-count = three; accepted = rises-accepted; room = omega (arith, room, flags-one) }) r flags′ w
+pub contradictions : {ρ : Rules} {flags flags′ : List ℕ} (r : Refusal) → 1 ≤ length flags
+    → Contradicts ρ names (asked rises) flags flags′ (outcome.Refused r) → ⊥
+contradictions {ρ} {flags} {flags′} r room w =
+    texts.contradictions ρ names (asked rises) flags .no-refusal
+    (record { name-count = three; accepted = rises-accepted; room = omega (arith, room, flags-one ρ) }) r flags′ w
 
 -- Rows: of the boolean expression A, and of 01 A.
-pub A-accepted : Accepted names sort.Boolean just-A
+pub A-accepted : {ρ : Rules} → Accepted ρ names sort.Boolean just-A
 unfolding
     booleanBytes bytesOf leafAt operationAt run stackAt Decodes sortOf overSize booleanDepth depthOf
 A-accepted =
@@ -100,10 +113,10 @@ A-accepted =
 
 module _ (r : Refusal) where
   module _ (i : ℕ) (l : i < rows) where
-    good-A : over-rows.GoodRow names rows just-A sort.Boolean states i
+    good-A : {ρ : Rules} → over-rows.GoodRow ρ names rows just-A sort.Boolean states i
     good-A = record { trace = trace-good; accepted = A-accepted; there = l }
 
-    good-rises : over-rows.GoodRow names rows (asked rises) sort.Vector states i
+    good-rises : {ρ : Rules} → over-rows.GoodRow ρ names rows (asked rises) sort.Vector states i
     good-rises = record { trace = trace-good; accepted = rises-accepted; there = l }
 
     pub row-state : {ρ : Rules} → RowState ρ names rows just-A states i (outcome.Refused r) → ⊥
@@ -146,7 +159,7 @@ module _ (r : Refusal) where
       → Codes new → i < rows
       → Correction ρ names rows (asked rises) states answers i new states′ answers′ (outcome.Refused r) → ⊥
   correct {ρ} {answers} {new} {states′} {answers′} {i} a f c l w =
-      updating.correct names rows (asked rises) states answers i new .no-refusal
+      updating.correct ρ names rows (asked rises) states answers i new .no-refusal
       (record { trace = trace-good; accepted = rises-accepted; room = a; full = f; codes = c; there = l }) r
       (states′, answers′) w
 
@@ -155,14 +168,14 @@ module _ (r : Refusal) where
       → Push ρ names (asked rises) queue row (matching.Refused r) queue′ → ⊥
   push {ρ} {queue} {queue′} {row} e f c w =
       let h = holding-first names 1 queue e in
-      updating.push names (asked rises) queue row .no-refusal
+      updating.push ρ names (asked rises) queue row .no-refusal
       (record {
         handed =
             record {
               accepted = rises-accepted;
               kept =
                   record {
-                    few = omega (arith, e, steps-pos (expression (asked rises) names));
+                    few = omega (arith, e, steps-pos (expression ρ (asked rises) names));
                     codes = h .codes;
                   };
             };

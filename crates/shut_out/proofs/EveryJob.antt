@@ -27,8 +27,11 @@ use Rattle.alf.specs.Bytes.{halfNumber, edgeNumber, booleanBytes, vectorBytes, 
 use Rattle.alf.specs.Windows.{digitAsked, letterAsked, edgeOn, answer, best, numbered, rowAnswer}
 use Rattle.alf.specs.Windows as windows
 use Rattle.alf.specs.Alternatives.{alternatives, rewritten, each, overLimit, tests}
+use Rattle.alf.specs.Steady.{meant}
 use Rattle.alf.specs.Traces.{total, corrected}
 use Rattle.alf.specs.TableT.{names, rows, times, states, A, B}
+use Rattle.steady_laws.specs.Lone.{lone}
+use Rattle.steady_laws.proofs.Meant.{meant-lone}
 use Rattle.trees.specs.Brackets.{levelOf, bracketed, booleanDepth, vectorDepth, depthOf}
 use Rattle.acceptance.specs.Accepted.{sortOf, overSize}
 use Rattle.grammar.specs.Written.{written}
@@ -67,7 +70,7 @@ use Rattle.shut_out.proofs.Refusing as texts
 use Rattle.shut_out.proofs.RefusingTexts.{Readable}
 use Rattle.shut_out.proofs.RefusingRows.{GoodTrace}
 use Rattle.shut_out.proofs.RefusingJobs as jobs
-use Rattle.shut_out.proofs.OnT.{trace-good, letters-good, letters-count, below, codes-below}
+use Rattle.shut_out.proofs.OnT.{trace-good, rises-meant, letters-good, letters-count, below, codes-below}
 use Rattle.shut_out.proofs.Counting.{total-yes, total-no, total-unknown}
 
 abbrev flips : Vector
@@ -77,35 +80,42 @@ flips = edge changes B
 letters-named : Named letters
 letters-named = record { passed = texts.names-pass letters letters-good }
 
-pub rises-gives : Gives letters (bytes "01 A") sort.Vector (vector rises)
+pub rises-gives : {ρ : Rules} → Gives ρ letters (bytes "01 A") sort.Vector (vector rises)
 unfolding
     text textOf following spelled signSpelled pairSpelled halfByte treeOf vectorTree booleanTree written
     edgeNumber halfNumber booleanBytes vectorBytes bytesOf slotOf slot untilZero bytes sortOf overSize overLimit
     alternatives rewritten each tests greatestOf sumOf levelOf bracketed booleanDepth vectorDepth depthOf
     ExpressionOver VectorOver Over EdgeKnown HalfKnown
-rises-gives =
-    text-gives letters-named (vector rises) ((omega arith, omega arith), omega arith) (omega arith) (omega arith) refl
+rises-gives {ρ} =
+    text-gives letters-named (vector rises) ((omega arith, omega arith), omega arith) ρ (omega arith) (omega arith)
+    (ap (λ (p : Vector). overLimit (alternatives p)) (rises-meant ρ))
 
-flips-gives : Gives letters (bytes "?! B") sort.Vector (vector flips)
+flips-meant : (ρ : Rules) → meant ρ flips ≡ flips
+unfolding lone
+flips-meant ρ = meant-lone ρ flips refl
+
+flips-gives : {ρ : Rules} → Gives ρ letters (bytes "?! B") sort.Vector (vector flips)
 unfolding
     text textOf following spelled signSpelled prefixes halfByte treeOf vectorTree booleanTree written
     edgeNumber halfNumber booleanBytes vectorBytes bytesOf slotOf slot untilZero bytes sortOf overSize overLimit
     alternatives rewritten each tests greatestOf sumOf levelOf bracketed booleanDepth vectorDepth depthOf
     ExpressionOver VectorOver Over EdgeKnown
-flips-gives = text-gives letters-named (vector flips) (tt, omega arith) (omega arith) (omega arith) refl
+flips-gives {ρ} =
+    text-gives letters-named (vector flips) (tt, omega arith) ρ (omega arith) (omega arith)
+    (ap (λ (p : Vector). overLimit (alternatives p)) (flips-meant ρ))
 
-A-gives : Gives letters (bytes "A") sort.Boolean (boolean A)
+A-gives : {ρ : Rules} → Gives ρ letters (bytes "A") sort.Boolean (boolean A)
 unfolding
     text textOf following spelled signSpelled pairSpelled halfByte treeOf vectorTree booleanTree written
     booleanBytes bytesOf slotOf slot untilZero bytes sortOf overSize booleanDepth depthOf ExpressionOver Over
-A-gives = text-gives letters-named (boolean A) (omega arith) (omega arith) (omega arith) refl
+A-gives {ρ} = text-gives letters-named (boolean A) (omega arith) ρ (omega arith) (omega arith) refl
 
-pub rises-readable : Readable letters (bytes "01 A") sort.Vector
+pub rises-readable : {ρ : Rules} → Readable ρ letters (bytes "01 A") sort.Vector
 unfolding bytes
 rises-readable =
     record { names-good = letters-good; short = omega arith; expression = vector rises; given = rises-gives }
 
-A-readable : Readable letters (bytes "A") sort.Boolean
+A-readable : {ρ : Rules} → Readable ρ letters (bytes "A") sort.Boolean
 unfolding bytes
 A-readable = record { names-good = letters-good; short = omega arith; expression = boolean A; given = A-gives }
 
@@ -113,20 +123,20 @@ T-good : GoodTrace (namesIn letters) rows states
 T-good = rw letters-count trace-good
 
 -- Totals, and the line with them.
-countable : jobs.Countable letters rows states (bytes "01 A")
+countable : {ρ : Rules} → jobs.Countable ρ letters rows states (bytes "01 A")
 countable = record { readable = rises-readable; trace = T-good }
 
 pub count-text : {ρ : Rules} (r : Refusal) → CountsText ρ letters rows states (bytes "01 A") (counting.Refused r) → ⊥
-count-text r w = jobs.count-text letters rows states (bytes "01 A") .no-refusal countable r tt w
+count-text {ρ} r w = jobs.count-text ρ letters rows states (bytes "01 A") .no-refusal countable r tt w
 
 pub invented-total-of-text : {ρ : Rules} (t : Total)
     → CountsText ρ letters rows states (bytes "01 A") (counting.Counted t)
     → (t .yes ≡ 1) × (t .no ≡ 3) × (t .unknown ≡ 1)
 unfolding CountsIn
-invented-total-of-text t w =
+invented-total-of-text {ρ} t w =
     let c = w .comes .1 in
     let e = vector-one (c .pattern) rises (gives-unique (c .given) rises-gives) in
-    let s = rw (e, letters-count) at (c .totals) in
+    let s = rw (e, rises-meant ρ, letters-count) at (c .totals) in
     (s .yeses ∙ total-yes _, s .noes ∙ total-no _, s .unknowns ∙ total-unknown _)
 
 flips-yes : (ρ : Rules) → total (stateAt ρ names states) flips rows 1 ≡ 3
@@ -140,7 +150,7 @@ unfolding CountsIn
 one-total-for-all {ρ} t v w =
     let c = w .comes .1 in
     let e = vector-one (c .pattern) flips (gives-unique (c .given) flips-gives) in
-    let s = rw (e, letters-count) at (c .totals) in
+    let s = rw (e, flips-meant ρ, letters-count) at (c .totals) in
     omega (arith, invented-total-of-text t v .0, s .yeses, flips-yes ρ)
 
 counted-so : {ρ : Rules} (c : Counting) → CountsText ρ letters rows states (bytes "01 A") c
@@ -159,7 +169,7 @@ pub table-line : {ρ : Rules} {out out′ : List ℕ} {c : Counting} (r : Refusa
     → TableLine ρ letters rows states (bytes "01 A") out out′ (record { counted = c; written = outcome.Refused r })
     → ⊥
 table-line {ρ} {out} {out′} {c} r room w =
-    jobs.table-line letters rows states (bytes "01 A") out c .no-refusal
+    jobs.table-line ρ letters rows states (bytes "01 A") out c .no-refusal
     (rw (counted-so c (w .counts)) (omega (arith, room, line-length))) r out′ w
 
 -- Sums: none but those of the table's patterns.
@@ -180,7 +190,8 @@ list-text ρ {out} {out′} r room w =
     (record {
       readable = rises-readable;
       trace = T-good;
-      room = λ p g. rw (vector-one p rises (gives-unique g rises-gives)) (omega (arith, room, answers-length ρ));
+      room = λ p g.
+          rw (vector-one p rises (gives-unique g rises-gives), rises-meant ρ) (omega (arith, room, answers-length ρ));
     }) r out′ w
 
 values-length : (ρ : Rules) → length (valueListing ρ names times states A) ≡ 40

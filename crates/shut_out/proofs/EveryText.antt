@@ -8,6 +8,7 @@ use mathlib.Core.List.{List}
 use lib.ListN.{length, take}
 use Rattle.basics.specs.Refusing.{refusal}
 use Rattle.basics.specs.declared.Refusal.{Refusal}
+use Rattle.alf.specs.declared.Rules.{Rules}
 use Rattle.alf.specs.declared.Sort.the-variants as sort
 use Rattle.basics.specs.declared.Outcome.the-variants as outcome
 use Rattle.alf.specs.Names.{namesIn, slot, untilZero, slotOf}
@@ -52,7 +53,7 @@ unfolding
     under ifSo run stackAt top slotOf slot untilZero bytes
 text-is = refl
 
-rises-counted : Accepted (namesIn letters) sort.Vector (asked rises)
+rises-counted : {ρ : Rules} → Accepted ρ (namesIn letters) sort.Vector (asked rises)
 rises-counted = rw letters-count rises-accepted
 
 text-short : length (textAt letters (asked rises)) ≡ 4
@@ -63,9 +64,9 @@ pub check-names : (r : Refusal)
     → Comes (namesOrder letters) (λ k. k ≡ namesIn letters) (outcome.Refused r) → ⊥
 check-names r w = texts.check-names letters .no-refusal letters-good r tt w
 
-pub read-expression : (r : Refusal) → ReadsText letters (bytes "01 A") sort.Vector (refusedBy r) → ⊥
-read-expression r w =
-    reading.read-expression letters (textAt letters (asked rises)) sort.Vector .no-refusal
+pub read-expression : {ρ : Rules} (r : Refusal) → ReadsText ρ letters (bytes "01 A") sort.Vector (refusedBy r) → ⊥
+read-expression {ρ} r w =
+    reading.read-expression ρ letters (textAt letters (asked rises)) sort.Vector .no-refusal
     (record {
       names-good = letters-good;
       short = omega (arith, text-short);

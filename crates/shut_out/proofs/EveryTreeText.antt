@@ -20,20 +20,20 @@ use Rattle.shut_out.specs.Asked.{asked, rises}
 use Rattle.shut_out.proofs.RefusingTreeTexts as texts
 use Rattle.shut_out.proofs.OnT.{trace-good, rises-accepted, rises-is}
 
-listing-is : (ρ : Rules) → patternListing ρ names times states (expression (asked rises) names)
+listing-is : (ρ : Rules) → patternListing ρ names times states (expression ρ (asked rises) names)
     ≡ bytes "time answer\n0 none\n10 yes\n20 no\n35 no\n40 unknown\n55 no\nyes 1 no 3 unknown 1\n"
-listing-is ρ = ap (patternListing ρ names times states) rises-is ∙ case-1 ρ
+listing-is ρ = ap (patternListing ρ names times states) (rises-is ρ) ∙ case-1 ρ
 
-line-is : (ρ : Rules) → totalsLine ρ names rows states (bytes "01 A") (expression (asked rises) names)
+line-is : (ρ : Rules) → totalsLine ρ names rows states (bytes "01 A") (expression ρ (asked rises) names)
     ≡ bytes "1\t0.200000\t1\t3\t01 A\n"
-line-is ρ = ap (totalsLine ρ names rows states (bytes "01 A")) rises-is ∙ case-1-line ρ
+line-is ρ = ap (totalsLine ρ names rows states (bytes "01 A")) (rises-is ρ) ∙ case-1-line ρ
 
-listing-length : (ρ : Rules) → length (patternListing ρ names times states (expression (asked rises) names)) ≡ 76
+listing-length : (ρ : Rules) → length (patternListing ρ names times states (expression ρ (asked rises) names)) ≡ 76
 unfolding bytes
 listing-length ρ = ap length (listing-is _)
 
 line-length : (ρ : Rules)
-    → length (totalsLine ρ names rows states (bytes "01 A") (expression (asked rises) names)) ≡ 20
+    → length (totalsLine ρ names rows states (bytes "01 A") (expression ρ (asked rises) names)) ≡ 20
 unfolding bytes
 line-length ρ = ap length (line-is _)
 

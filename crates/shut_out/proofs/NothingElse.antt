@@ -21,7 +21,7 @@ use Rattle.alf.specs.Answers.{numberOf}
 use Rattle.alf.specs.Alternatives.{answerOf, tries}
 use Rattle.alf.specs.Traces.{changeMask, changeCount, corrected}
 use Rattle.alf.specs.Refusals.{Comes}
-use Rattle.trees.specs.Parts.{booleanAt, vectorAt}
+use Rattle.trees.specs.Parts.{booleanAt}
 use Rattle.reader.specs.declared.Read.{Read}
 use Rattle.reader.specs.Reads.{made}
 use Rattle.reader.specs.Reading.{Gives, ReadsText}
@@ -61,9 +61,9 @@ use Rattle.figures.specs.Delivering.{Delivers}
 use Rattle.shut_out.proofs.Refusing.{GoodNames, names-pass}
 
 -- Texts and files.
-pub no-other-expression : {names text : List ℕ} {sort : Sort} {x : Expression} {r : Read} → GoodNames names
-    → length text ≤ 4096 → Gives names text sort x → ReadsText names text sort r → r ≡ made x
-no-other-expression {names} g l v w = read-complete (names-pass names g) l v w
+pub no-other-expression : {ρ : Rules} {names text : List ℕ} {sort : Sort} {x : Expression} {r : Read} → GoodNames names
+    → length text ≤ 4096 → Gives ρ names text sort x → ReadsText ρ names text sort r → r ≡ made x
+no-other-expression {ρ} {names} g l v w = read-complete (names-pass names g) l v w
 
 module _ {out out′ : List ℕ} {m : ℕ} where
   pub no-other-text : {names tree : List ℕ} {sort : Sort} → writing.Writes names tree sort out out′ (Done m)
@@ -79,15 +79,15 @@ module _ {out out′ : List ℕ} {m : ℕ} where
 
   pub no-other-listing : {ρ : Rules} {k n : ℕ} {tree times states : List ℕ}
       → ListsTree ρ k n tree times states out out′ (Done m)
-      → (m ≡ length (patternListing ρ k times states (expression tree k)))
-      × (out′ ≡ front (patternListing ρ k times states (expression tree k)) out)
+      → (m ≡ length (patternListing ρ k times states (expression ρ tree k)))
+      × (out′ ≡ front (patternListing ρ k times states (expression ρ tree k)) out)
   unfolding Comes after
   no-other-listing w = (w .comes .1, w .memory)
 
   pub no-other-totals-line : {ρ : Rules} {k n : ℕ} {tree states pattern : List ℕ}
       → LinesTree ρ k n tree states pattern out out′ (Done m)
-      → (m ≡ length (totalsLine ρ k n states pattern (expression tree k)))
-      × (out′ ≡ front (totalsLine ρ k n states pattern (expression tree k)) out)
+      → (m ≡ length (totalsLine ρ k n states pattern (expression ρ tree k)))
+      × (out′ ≡ front (totalsLine ρ k n states pattern (expression ρ tree k)) out)
   unfolding Comes after
   no-other-totals-line w = (w .comes .1, w .memory)
 
@@ -97,16 +97,16 @@ module _ {out out′ : List ℕ} {m : ℕ} where
   no-other-line w = (w .outcome .1, w .memory)
 
 -- Rewriting.
-module _ {k : ℕ} {tree : List ℕ} {m : ℕ} where
-  pub no-other-lists : {s t e o s′ t′ e′ o′ : List ℕ} → rewriting.Rewrites k tree s t e o s′ t′ e′ o′ (Done m)
-      → (s′ ≡ front (stepList (alternativesAt tree k)) s) × (t′ ≡ front (testList (alternativesAt tree k)) t)
-      × (e′ ≡ front (edgeList (alternativesAt tree k)) e) × (o′ ≡ front (operandList (alternativesAt tree k)) o)
+module _ {ρ : Rules} {k : ℕ} {tree : List ℕ} {m : ℕ} where
+  pub no-other-lists : {s t e o s′ t′ e′ o′ : List ℕ} → rewriting.Rewrites ρ k tree s t e o s′ t′ e′ o′ (Done m)
+      → (s′ ≡ front (stepList (alternativesAt ρ tree k)) s) × (t′ ≡ front (testList (alternativesAt ρ tree k)) t)
+      × (e′ ≡ front (edgeList (alternativesAt ρ tree k)) e) × (o′ ≡ front (operandList (alternativesAt ρ tree k)) o)
   unfolding after
   no-other-lists w =
       let l = w .memory in (l .steps-are, l .tests-are, l .edges-are, l .operands-are)
 
-  pub no-other-flags : {flags flags′ : List ℕ} → flagging.Contradicts k tree flags flags′ (Done m)
-      → flags′ ≡ front (flagList k (flagging.ownAt tree k)) flags
+  pub no-other-flags : {flags flags′ : List ℕ} → flagging.Contradicts ρ k tree flags flags′ (Done m)
+      → flags′ ≡ front (flagList k (flagging.ownAt ρ tree k)) flags
   unfolding after
   no-other-flags w = w .memory
 
@@ -130,7 +130,7 @@ module _ {k n : ℕ} {tree codes : List ℕ} where
     no-other-value w = w .comes .1
 
     pub no-other-answer : {ρ : Rules} {b : Answer} → RowAnswer ρ k n tree codes row (Answered b)
-        → numberOf b ≡ rowAnswer (stateAt ρ k codes) (vectorAt tree k (length tree)) row
+        → numberOf b ≡ rowAnswer (stateAt ρ k codes) (expression ρ tree k) row
     unfolding Tells
     no-other-answer w = w .comes .1
 

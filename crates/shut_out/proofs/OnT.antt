@@ -1,31 +1,38 @@
--- Table T is good input: its lists fit, its codes are codes, the patterns are accepted; and the trees are the
--- patterns.
+-- Table T is good input: its lists fit, its codes are codes, the patterns are accepted under any rules; and the trees
+-- are the patterns, as the rules read them.
 --   trace-good, rises-accepted, one-of-accepted, pulse-accepted
 --   rises-is, one-of-is, pulse-is
 use Prim.Native.Nat.{ℕ, zero, suc, _+_, _^_, _<_}
 use native.Mathlib.Omega.{arith}
 use borrow.Author.Tests.{ltb-true}
 use mathlib.Core.Path.{_≡_, refl, sym, ap, _∙_}
-use mathlib.Core.Bool.{Bool, true, _&&_}
+use mathlib.Core.Bool.{Bool, true, false, _&&_}
 use mathlib.Core.List.{List, [], _∷_}
 use lib.Dec.{ltb}
 use lib.ListN.{length, getD}
+use Rattle.alf.specs.declared.Rules.{Rules}
 use Rattle.alf.specs.declared.Sort.the-variants as sort
 use Rattle.basics.specs.Words.{greatestOf, sumOf, all}
 use Rattle.alf.specs.Names.{namesIn, isLetter, isDecimal, startsName, goesOnName, isName}
 use Rattle.alf.specs.Names.{slot, untilZero, nameAt, slotOf}
 use Rattle.alf.specs.Names.{GoodSlot}
-use Rattle.alf.specs.Expressions.{vector}
+use Rattle.alf.specs.Expressions.{Vector, vector}
 use Rattle.alf.specs.Bytes.{joinByte, halfNumber, edgeNumber, booleanBytes, vectorBytes, bytesOf}
 use Rattle.alf.specs.Decoder.{joinAt, halfAt, edgeAt, leafAt, pairAt, oneAt, operationAt}
 use Rattle.alf.specs.Decoder.{isBoolean, isVector, topBoolean, topVector, under, ifSo, run, stackAt, Decodes}
-use Rattle.alf.specs.Alternatives.{alternatives, rewritten, each, overLimit, tests}
+use Rattle.alf.specs.Alternatives.{alternatives, rewritten, each, overlaid, padded, zipped, overLimit, tests}
+use Rattle.alf.specs.Alternatives.{isName as isEdgeOn}
+use Rattle.alf.specs.Steady as steady
+use Rattle.alf.specs.Steady.{isThen, isWith, isStep, isChanging, moves, hasEdgeOn, someOf, operands, row, isSteady}
+use Rattle.alf.specs.Steady.{kept, steadied, filledIn, meant}
 use Rattle.alf.specs.TableT.{names, rows, times, states, pulse}
 use Rattle.basics.proofs.Bools.{and-left, and-right}
 use Rattle.names.specs.Check.{Slots}
 use Rattle.trace_format.specs.Format.{Trace}
 use Rattle.trees.specs.Brackets.{joinLevel, levelOf, bracketed, booleanDepth, vectorDepth, depthOf}
 use Rattle.alf.proofs.FewNames.{decodes-encoded}
+use Rattle.steady_laws.specs.Lone.{spaced, lone}
+use Rattle.steady_laws.proofs.Meant.{meant-cases, meant-lone}
 use Rattle.acceptance.specs.Accepted.{sortOf, overSize, Accepted}
 use Rattle.states.specs.FirstBadCode.{Codes}
 use Rattle.matching_calls.specs.Matching.{expression}
@@ -52,71 +59,86 @@ trace-good =
       codes = codes-below states refl;
     }
 
-pub rises-accepted : Accepted names sort.Vector (asked rises)
+pub rises-meant : (ρ : Rules) → meant ρ rises ≡ rises
+unfolding lone spaced isStep operands isThen
+rises-meant ρ = meant-lone ρ rises refl
+
+pub rises-accepted : {ρ : Rules} → Accepted ρ names sort.Vector (asked rises)
 unfolding
     halfNumber edgeNumber joinByte booleanBytes vectorBytes bytesOf joinAt halfAt edgeAt leafAt pairAt oneAt
     operationAt isBoolean isVector topBoolean topVector under ifSo run stackAt Decodes sortOf overSize overLimit
     alternatives
     rewritten each tests greatestOf sumOf joinLevel levelOf bracketed booleanDepth vectorDepth depthOf
-rises-accepted =
+rises-accepted {ρ} =
     record {
       expression = vector rises;
       encodes = decodes-encoded _ _ _ refl;
       sorted = refl;
       tokens = omega arith;
       brackets = omega arith;
-      sized = refl;
+      sized = ap (λ (p : Vector). overLimit (alternatives p)) (rises-meant ρ);
     }
 
-pub rises-is : expression (asked rises) names ≡ rises
+pub rises-is : (ρ : Rules) → expression ρ (asked rises) names ≡ rises
 unfolding
     halfNumber edgeNumber joinByte booleanBytes vectorBytes bytesOf joinAt halfAt edgeAt leafAt pairAt oneAt
     operationAt isBoolean isVector topBoolean topVector under ifSo run stackAt
-rises-is = refl
+rises-is ρ = rises-meant ρ
 
-pub one-of-accepted : Accepted names sort.Vector (asked one-of)
+one-of-meant : (ρ : Rules) → meant ρ one-of ≡ one-of
+unfolding lone spaced isStep operands isThen
+one-of-meant ρ = meant-lone ρ one-of refl
+
+pub one-of-accepted : {ρ : Rules} → Accepted ρ names sort.Vector (asked one-of)
 unfolding
     halfNumber edgeNumber joinByte booleanBytes vectorBytes bytesOf joinAt halfAt edgeAt leafAt pairAt oneAt
     operationAt isBoolean isVector topBoolean topVector under ifSo run stackAt Decodes sortOf overSize overLimit
     alternatives
     rewritten each tests greatestOf sumOf joinLevel levelOf bracketed booleanDepth vectorDepth depthOf
-one-of-accepted =
+one-of-accepted {ρ} =
     record {
       expression = vector one-of;
       encodes = decodes-encoded _ _ _ refl;
       sorted = refl;
       tokens = omega arith;
       brackets = omega arith;
-      sized = refl;
+      sized = ap (λ (p : Vector). overLimit (alternatives p)) (one-of-meant ρ);
     }
 
-pub one-of-is : expression (asked one-of) names ≡ one-of
+pub one-of-is : (ρ : Rules) → expression ρ (asked one-of) names ≡ one-of
 unfolding
     halfNumber edgeNumber joinByte booleanBytes vectorBytes bytesOf joinAt halfAt edgeAt leafAt pairAt oneAt
     operationAt isBoolean isVector topBoolean topVector under ifSo run stackAt
-one-of-is = refl
+one-of-is ρ = one-of-meant ρ
 
-pub pulse-accepted : Accepted names sort.Vector (asked pulse)
+-- with its steady pins it has four tests in place of two
+pulse-small : (ρ : Rules) → overLimit (alternatives (meant ρ pulse)) ≡ false
+unfolding
+    isThen isWith isStep isChanging moves hasEdgeOn someOf operands row steady.run isSteady kept steadied filledIn all
+    isEdgeOn overLimit alternatives rewritten each overlaid padded zipped tests greatestOf sumOf
+pulse-small ρ = meant-cases ρ pulse (λ p. overLimit (alternatives p) ≡ false) refl refl
+
+pub pulse-accepted : {ρ : Rules} → Accepted ρ names sort.Vector (asked pulse)
 unfolding
     halfNumber edgeNumber joinByte booleanBytes vectorBytes bytesOf joinAt halfAt edgeAt leafAt pairAt oneAt
     operationAt isBoolean isVector topBoolean topVector under ifSo run stackAt Decodes sortOf overSize overLimit
     alternatives
     rewritten each tests greatestOf sumOf joinLevel levelOf bracketed booleanDepth vectorDepth depthOf
-pulse-accepted =
+pulse-accepted {ρ} =
     record {
       expression = vector pulse;
       encodes = decodes-encoded _ _ _ refl;
       sorted = refl;
       tokens = omega arith;
       brackets = omega arith;
-      sized = refl;
+      sized = pulse-small ρ;
     }
 
-pub pulse-is : expression (asked pulse) names ≡ pulse
+pub pulse-is : (ρ : Rules) → expression ρ (asked pulse) names ≡ meant ρ pulse
 unfolding
     halfNumber edgeNumber joinByte booleanBytes vectorBytes bytesOf joinAt halfAt edgeAt leafAt pairAt oneAt
     operationAt isBoolean isVector topBoolean topVector under ifSo run stackAt
-pulse-is = refl
+pulse-is ρ = refl
 
 -- The names, and T as a trace.
 pub letters-length : length letters ≡ 96

@@ -9,6 +9,7 @@ use mathlib.Core.Path.{_≡_, refl}
 use mathlib.Core.List.{List}
 use lib.ListN.{length, getD}
 use Rattle.alf.specs.Values.{oldRules}
+use Rattle.alf.specs.declared.Rules.{Rules}
 use Rattle.alf.specs.declared.Sort.{Sort}
 use Rattle.alf.specs.declared.Sort.the-variants.{Vector}
 use Rattle.basics.specs.declared.Outcome.the-variants as outcome
@@ -58,7 +59,7 @@ module _ (names : List ℕ) where
   module _ (tree : List ℕ) (sort : Sort) (out : List ℕ) where
     pub record Writable : Type 0 where
       pub names-good : GoodNames names
-      pub accepted : Accepted (namesIn names) sort tree
+      pub accepted : Accepted oldRules (namesIn names) sort tree
       pub short : length (writing.textAt names tree) ≤ 4096
       pub room : length (writing.textAt names tree) ≤ length out
 
@@ -106,19 +107,19 @@ module _ (names times states : List ℕ) (n : ℕ) (out : List ℕ) where
       })
 
 -- Rewriting.
-module _ (names : ℕ) (tree : List ℕ) where
+module _ (ρ : Rules) (names : ℕ) (tree : List ℕ) where
   module _ (steps tests edges operands : List ℕ) where
     pub record Rewritable : Type 0 where
       pub name-count : NameCount names
-      pub accepted : Accepted names Vector tree
-      pub steps-room : length (stepList (alternativesAt tree names)) ≤ length steps
-      pub tests-room : length (testList (alternativesAt tree names)) ≤ length tests
-      pub edges-room : length (edgeList (alternativesAt tree names)) ≤ length edges
-      pub operands-room : length (operandList (alternativesAt tree names)) ≤ length operands
+      pub accepted : Accepted ρ names Vector tree
+      pub steps-room : length (stepList (alternativesAt ρ tree names)) ≤ length steps
+      pub tests-room : length (testList (alternativesAt ρ tree names)) ≤ length tests
+      pub edges-room : length (edgeList (alternativesAt ρ tree names)) ≤ length edges
+      pub operands-room : length (operandList (alternativesAt ρ tree names)) ≤ length operands
 
     rewrite-passes : Rewritable
-        → Passed (rewriting.treeOrder names tree
-        (rewriting.roomOrder (alternativesAt tree names) steps tests edges operands))
+        → Passed (rewriting.treeOrder ρ names tree
+        (rewriting.roomOrder (alternativesAt ρ tree names) steps tests edges operands))
     unfolding Passed rewriting.treeOrder rewriting.roomOrder
     rewrite-passes g = (
       λ p a. a .given (g .name-count),
@@ -135,9 +136,9 @@ module _ (names : ℕ) (tree : List ℕ) where
     )
 
     pub rewrite : Exactly {M = Four} Rewritable
-        (rewriting.treeOrder names tree
-        (rewriting.roomOrder (alternativesAt tree names) steps tests edges operands)) outcome.Refused
-        (λ r m. rewriting.Rewrites names tree steps tests edges operands (m .0) (m .1) (m .2) (m .3) r)
+        (rewriting.treeOrder ρ names tree
+        (rewriting.roomOrder (alternativesAt ρ tree names) steps tests edges operands)) outcome.Refused
+        (λ r m. rewriting.Rewrites ρ names tree steps tests edges operands (m .0) (m .1) (m .2) (m .3) r)
         (steps, tests, edges, operands)
     unfolding Comes after
     rewrite =
@@ -150,17 +151,17 @@ module _ (names : ℕ) (tree : List ℕ) where
                 outcome = h;
                 memory = record { steps-are = refl; tests-are = refl; edges-are = refl; operands-are = refl };
               };
-          one = demand-1 {ρ = oldRules} .rewrite names tree steps tests edges operands .one;
+          one = demand-1 {ρ = ρ} .rewrite names tree steps tests edges operands .one;
         })
 
   module _ (flags : List ℕ) where
     pub record Reportable : Type 0 where
       pub name-count : NameCount names
-      pub accepted : Accepted names Vector tree
-      pub room : length (flagList names (flagging.ownAt tree names)) ≤ length flags
+      pub accepted : Accepted ρ names Vector tree
+      pub room : length (flagList names (flagging.ownAt ρ tree names)) ≤ length flags
 
     report-passes : Reportable
-        → Passed (rewriting.treeOrder names tree (flagging.flagOrder names (flagging.ownAt tree names) flags))
+        → Passed (rewriting.treeOrder ρ names tree (flagging.flagOrder names (flagging.ownAt ρ tree names) flags))
     unfolding Passed rewriting.treeOrder flagging.flagOrder
     report-passes g = (
       λ p a. a .given (g .name-count),
@@ -168,8 +169,8 @@ module _ (names : ℕ) (tree : List ℕ) where
     )
 
     pub contradictions : Exactly Reportable
-        (rewriting.treeOrder names tree (flagging.flagOrder names (flagging.ownAt tree names) flags))
-        outcome.Refused (λ r m. flagging.Contradicts names tree flags m r) flags
+        (rewriting.treeOrder ρ names tree (flagging.flagOrder names (flagging.ownAt ρ tree names) flags))
+        outcome.Refused (λ r m. flagging.Contradicts ρ names tree flags m r) flags
     unfolding Comes after
     contradictions =
         exactly report-passes
@@ -177,7 +178,7 @@ module _ (names : ℕ) (tree : List ℕ) where
           reason = λ r m w. w .outcome;
           parts = λ x m w. comes-parts _ _ x (w .outcome);
           refuses = λ r h. record { outcome = h; memory = refl };
-          one = demand-1 {ρ = oldRules} .contradictions names tree flags .one;
+          one = demand-1 {ρ = ρ} .contradictions names tree flags .one;
         })
 
 -- The listing of values, and each line of the table but a pattern's.

@@ -11,11 +11,13 @@ use mathlib.Core.List.{List, [], _∷_, _++_}
 use lib.ListN.{length}
 use Rattle.alf.specs.Names.{namesIn}
 use Rattle.basics.specs.declared.Refusal.{Refusal}
+use Rattle.alf.specs.declared.Rules.{Rules}
 use Rattle.alf.specs.declared.Sort.the-variants as sort
 use Rattle.basics.specs.declared.Outcome.{Outcome}
 use Rattle.basics.specs.declared.Outcome.the-variants as outcome
 use Rattle.alf.specs.Expressions.{Vector, vector}
 use Rattle.alf.specs.Alternatives.{alternatives}
+use Rattle.alf.specs.Steady.{meant}
 use Rattle.basics.specs.Words.{all}
 use Rattle.alf.specs.States.{among}
 use Rattle.alf.specs.Refusals.{Order, check, no-room, RefusedWith, RefusedBy, Passed, Comes, numbersOf}
@@ -52,13 +54,13 @@ lines-parts o made x n (outcome.Done k) e c t = inl (c .0)
 lines-parts o made x n (outcome.Refused r) e c t = inr (r, λ i. record { written = e i; untold = t i })
 
 -- Of a tree.
-module _ (names tree out : List ℕ) where
+module _ (ρ : Rules) (names tree out : List ℕ) where
   pub record Showable : Type 0 where
     pub names-good : GoodNames names
-    pub accepted : Accepted (namesIn names) sort.Vector tree
-    pub room : length (listingAt names tree) ≤ length out
+    pub accepted : Accepted ρ (namesIn names) sort.Vector tree
+    pub room : length (listingAt ρ names tree) ≤ length out
 
-  show-passes : Showable → Passed (order names tree (length out))
+  show-passes : Showable → Passed (order ρ names tree (length out))
   unfolding Passed order
   show-passes g = (
     λ p a. a .given (g .names-good .slots),
@@ -68,8 +70,8 @@ module _ (names tree out : List ℕ) where
     ),
   )
 
-  pub write-alternatives : Exactly Showable (order names tree (length out)) no-lines
-      (λ r m. WritesAlternatives names tree out m r) out
+  pub write-alternatives : Exactly Showable (order ρ names tree (length out)) no-lines
+      (λ r m. WritesAlternatives ρ names tree out m r) out
   unfolding Comes after tally
   write-alternatives =
       exactly show-passes
@@ -81,32 +83,32 @@ module _ (names tree out : List ℕ) where
       })
 
 -- Of a text.
-module _ (names text out : List ℕ) where
+module _ (ρ : Rules) (names text out : List ℕ) where
   abbrev shown : Vector → List ℕ
-  shown p = listing names (alternatives p)
+  shown p = listing names (alternatives (meant ρ p))
 
   abbrev reads : Order
-  reads = readOrder names text sort.Vector
+  reads = readOrder ρ names text sort.Vector
 
   abbrev nine : Order
-  nine = check 9 (OfGiven vector names text sort.Vector (λ p. no-room (length (shown p)) (length out))) ∷ []
+  nine = check 9 (OfGiven ρ vector names text sort.Vector (λ p. no-room (length (shown p)) (length out))) ∷ []
 
   -- as the text is read, then 9
   abbrev pub textOrder : Order
   textOrder = reads ++ nine
 
   pub record TextShowable : Type 0 where
-    pub readable : Readable names text sort.Vector
-    pub room : (p : Vector) → Gives names text sort.Vector (vector p) → length (shown p) ≤ length out
+    pub readable : Readable ρ names text sort.Vector
+    pub room : (p : Vector) → Gives ρ names text sort.Vector (vector p) → length (shown p) ≤ length out
 
   text-passes : TextShowable → Passed textOrder
   unfolding Passed
   text-passes g =
-      passed-both reads nine (read-passes names text sort.Vector (g .readable))
+      passed-both reads nine (read-passes ρ names text sort.Vector (g .readable))
       (λ p a. omega (arith, g .room (a .it) (a .given), a .holds .given), tt)
 
   -- the line's 9, as a row that speaks of what the text gives; it shows no bytes of the text
-  nine-given : {p : Vector} → Gives names text sort.Vector (vector p) → (i j : ℕ)
+  nine-given : {p : Vector} → Gives ρ names text sort.Vector (vector p) → (i j : ℕ)
       → RefusedWith (lineOrder (shown p) (length out)) i j → RefusedWith nine i j
   unfolding RefusedWith
   nine-given {p} g i j (inl x) = inl (x .0, record { it = p; given = g; holds = x .1 })
@@ -116,7 +118,7 @@ module _ (names text out : List ℕ) where
   unfolding all numbersOf among
   nine-shown h = in-silent text nine refl h
 
-  with-text : {p : Vector} → Passed reads → Gives names text sort.Vector (vector p) → (w : Outcome)
+  with-text : {p : Vector} → Passed reads → Gives ρ names text sort.Vector (vector p) → (w : Outcome)
       → Comes (lineOrder (shown p) (length out)) (λ k. k ≡ length (shown p)) w → ComesIn text textOrder w
   unfolding Comes ComesIn Passed
   with-text {p} passed g (outcome.Done k) c =
@@ -125,7 +127,7 @@ module _ (names text out : List ℕ) where
   with-text {p} passed g (outcome.Refused r) c =
       in-then text reads nine passed (nine-shown (record { by = nine-given g _ _ (c .by); bare = c .bare }))
 
-  text-comes : {x : Lines} {m : List ℕ} → RewritesText names text out m x → ComesIn text textOrder (x .written)
+  text-comes : {x : Lines} {m : List ℕ} → RewritesText ρ names text out m x → ComesIn text textOrder (x .written)
   unfolding ComesIn
   text-comes (refused a) = in-first text reads nine a
   text-comes {x} (rewritten passed g d) = with-text passed g (x .written) (d .delivers .outcome)
@@ -136,18 +138,18 @@ module _ (names text out : List ℕ) where
   shown-parts x n (outcome.Done k) e c t = inl c
   shown-parts x n (outcome.Refused r) e c t = inr (r, λ i. record { written = e i; untold = t i })
 
-  text-parts : {x : Lines} {m : List ℕ} → RewritesText names text out m x
+  text-parts : {x : Lines} {m : List ℕ} → RewritesText ρ names text out m x
       → Passed textOrder ⊎ IsRefusal no-lines x
   text-parts (refused {r = r} a) = inr (r, refl)
   text-parts {x} (rewritten passed g d) =
       shown-parts x _ (x .written) refl (with-text passed g (x .written) (d .delivers .outcome)) (d .untold-are)
 
-  text-refuses : (r : Refusal) → RefusedIn text textOrder r → RewritesText names text out out (no-lines r)
+  text-refuses : (r : Refusal) → RefusedIn text textOrder r → RewritesText ρ names text out out (no-lines r)
   unfolding RefusedWith Comes after tally among
   text-refuses r h = go (refused-either reads nine (r .number) (r .place) (h .by))
     where
       go : RefusedWith reads (r .number) (r .place) ⊎ (Passed reads × RefusedWith nine (r .number) (r .place))
-          → RewritesText names text out out (no-lines r)
+          → RewritesText ρ names text out out (no-lines r)
       go (inl a) = refused (record { by = a; shows = h .shows })
       go (inr (passed, inl (e, a))) =
           rewritten {r = no-lines r} passed (a .given)
@@ -165,7 +167,7 @@ module _ (names text out : List ℕ) where
           })
       go (inr (passed, inr x)) = absurd (x .1)
 
-  pub alternatives-text : ExactlyIn text TextShowable textOrder no-lines (λ r m. RewritesText names text out m r) out
+  pub alternatives-text : ExactlyIn text TextShowable textOrder no-lines (λ r m. RewritesText ρ names text out m r) out
   unfolding ComesIn
   alternatives-text =
       exactly-in text text-passes

@@ -19,6 +19,7 @@ use Rattle.alf.specs.declared.Sort.the-variants as sort
 use Rattle.basics.specs.declared.Outcome.{Outcome}
 use Rattle.basics.specs.declared.Outcome.the-variants as outcome
 use Rattle.alf.specs.Expressions.{Boolean, Vector, Expression, boolean, vector}
+use Rattle.alf.specs.Steady.{meant}
 use Rattle.alf.specs.Refusals.{Order, Passed, Comes}
 use Rattle.alf.proofs.Orders.{passed-both}
 use Rattle.reader.specs.Reading.{readOrder, Gives}
@@ -48,50 +49,50 @@ use Rattle.shut_out.proofs.RefusingRows.{GoodTrace}
 use Rattle.shut_out.proofs.RefusingTexts.{Readable, read-passes}
 
 -- The totals of a text, and its line.
-module _ (names : List ℕ) (n : ℕ) (states text : List ℕ) where
+module _ (ρ : Rules) (names : List ℕ) (n : ℕ) (states text : List ℕ) where
   pub record Countable : Type 0 where
-    pub readable : Readable names text sort.Vector
+    pub readable : Readable ρ names text sort.Vector
     pub trace : GoodTrace (length names / 32) n states
 
-  count-passes : Countable → Passed (countOrder names n states text)
+  count-passes : Countable → Passed (countOrder ρ names n states text)
   unfolding Passed
   count-passes g =
-      passed-both (readOrder names text sort.Vector) _ (read-passes names text sort.Vector (g .readable))
+      passed-both (readOrder ρ names text sort.Vector) _ (read-passes ρ names text sort.Vector (g .readable))
       (λ p a. a .given (g .trace .lists), (codes-never states (g .trace .codes), tt))
 
-  text-parts : (ρ : Rules) (x : Counting)
-      → CountsIn text (countOrder names n states text) (TotalsText ρ names n states text) x
-      → Passed (countOrder names n states text) ⊎ IsRefusal counting.Refused x
+  text-parts : (x : Counting)
+      → CountsIn text (countOrder ρ names n states text) (TotalsText ρ names n states text) x
+      → Passed (countOrder ρ names n states text) ⊎ IsRefusal counting.Refused x
   unfolding CountsIn
-  text-parts ρ (counting.Counted t) w = inl (w .0)
-  text-parts ρ (counting.Refused r) w = inr (r, refl)
+  text-parts (counting.Counted t) w = inl (w .0)
+  text-parts (counting.Refused r) w = inr (r, refl)
 
-  pub count-text : {ρ : Rules} → ExactlyIn {M = None} text Countable (countOrder names n states text) counting.Refused
+  pub count-text : ExactlyIn {M = None} text Countable (countOrder ρ names n states text) counting.Refused
       (λ r m. CountsText ρ names n states text r) tt
   unfolding CountsIn
   count-text =
       exactly-in text count-passes
       (record {
         reason = λ r m w. w .comes;
-        parts = λ x m w. text-parts _ x (w .comes);
+        parts = λ x m w. text-parts x (w .comes);
         refuses = λ r h. record { comes = h };
         one = both (λ a b x y. counts-unique x y);
       })
 
   module _ (out : List ℕ) where
     -- c is counted, whatever is written
-    pub record InLine (ρ : Rules) (c : Counting) : Type 0 where
+    pub record InLine (c : Counting) : Type 0 where
       pub written : Outcome
       pub out′ : List ℕ
       pub made : TableLine ρ names n states text out out′ (record { counted = c; written = written })
 
-    pub counted-in-line : {ρ : Rules}
-        → ExactlyIn {M = None} text Countable (countOrder names n states text) counting.Refused
-        (λ r m. InLine ρ r) tt
+    pub counted-in-line :
+        ExactlyIn {M = None} text Countable (countOrder ρ names n states text) counting.Refused
+        (λ r m. InLine r) tt
     counted-in-line = narrowed count-text (λ x m w. w .made .counts)
 
     -- whatever is counted, the line is refused with 9, where there is no room for it
-    pub table-line : {ρ : Rules} (c : Counting)
+    pub table-line : (c : Counting)
         → Exactly (length (lineOf text n c) ≤ length out) (lineOrder (lineOf text n c) (length out)) outcome.Refused
         (λ r m. TableLine ρ names n states text out m (record { counted = c; written = r })) out
     table-line c = narrowed (line out (lineOf text n c)) (λ x m w. w .writes)
@@ -127,20 +128,20 @@ module _ (k n : ℕ) (states : List ℕ) (row : ℕ) (letters : List ℕ) where
       })
 
 -- The listing of what a text gives.
-module _ {A : Type 0} (into : A → Expression) (of : Sort) (shown : A → List ℕ)
+module _ (ρ : Rules) {A : Type 0} (into : A → Expression) (of : Sort) (shown : A → List ℕ)
     (names times states text out : List ℕ) where
   pub record TextListable : Type 0 where
-    pub readable : Readable names text of
+    pub readable : Readable ρ names text of
     pub trace : GoodTrace (length names / 32) (length times) states
-    pub room : (x : A) → Gives names text of (into x) → length (shown x) ≤ length out
+    pub room : (x : A) → Gives ρ names text of (into x) → length (shown x) ≤ length out
 
   abbrev whole : Order
-  whole = listOrder into of shown names times states text (length out)
+  whole = listOrder ρ into of shown names times states text (length out)
 
   texts-pass : TextListable → Passed whole
   unfolding Passed
   texts-pass g =
-      passed-both (readOrder names text of) _ (read-passes names text of (g .readable)) (
+      passed-both (readOrder ρ names text of) _ (read-passes ρ names text of (g .readable)) (
         λ p a. a .given (g .trace .lists),
         (
           codes-never states (g .trace .codes),
@@ -148,13 +149,14 @@ module _ {A : Type 0} (into : A → Expression) (of : Sort) (shown : A → List 
         ),
       )
 
-  lists-comes : {x : Outcome} {m : List ℕ} → Lists into of shown names times states text out m x → ComesIn text whole x
+  lists-comes : {x : Outcome} {m : List ℕ} → Lists ρ into of shown names times states text out m x
+      → ComesIn text whole x
   unfolding ComesIn
   lists-comes (lists x p g e h) = p
   lists-comes (refuses a h) = a
 
   lists-exactly : ((a b : A) → into a ≡ into b → a ≡ b) → ExactlyIn text TextListable whole outcome.Refused
-      (λ r m. Lists into of shown names times states text out m r) out
+      (λ r m. Lists ρ into of shown names times states text out m r) out
   unfolding ComesIn
   lists-exactly one =
       exactly-in text texts-pass
@@ -162,24 +164,24 @@ module _ {A : Type 0} (into : A → Expression) (of : Sort) (shown : A → List 
         reason = λ r m w. lists-comes w;
         parts = λ x m w. comes-in-parts text whole x (lists-comes w);
         refuses = λ r h. refuses h refl;
-        one = λ a b m n x y. lists-unique into one of shown names times states text x y;
+        one = λ a b m n x y. lists-unique ρ into one of shown names times states text x y;
       })
 
 module _ (names times states text out : List ℕ) where
   abbrev pub answers-shown : Rules → Vector → List ℕ
-  answers-shown ρ = patternListing ρ (length names / 32) times states
+  answers-shown ρ p = patternListing ρ (length names / 32) times states (meant ρ p)
 
   abbrev pub values-shown : Rules → Boolean → List ℕ
   values-shown ρ = valueListing ρ (length names / 32) times states
 
   pub list-text : (ρ : Rules)
-      → ExactlyIn text (TextListable vector sort.Vector (answers-shown ρ) names times states text out)
-      (listOrder vector sort.Vector (answers-shown ρ) names times states text (length out)) outcome.Refused
+      → ExactlyIn text (TextListable ρ vector sort.Vector (answers-shown ρ) names times states text out)
+      (listOrder ρ vector sort.Vector (answers-shown ρ) names times states text (length out)) outcome.Refused
       (λ r m. ListsPattern ρ names times states text out m r) out
-  list-text ρ = lists-exactly vector sort.Vector (answers-shown ρ) names times states text out vector-one
+  list-text ρ = lists-exactly ρ vector sort.Vector (answers-shown ρ) names times states text out vector-one
 
   pub values-text : (ρ : Rules)
-      → ExactlyIn text (TextListable boolean sort.Boolean (values-shown ρ) names times states text out)
-      (listOrder boolean sort.Boolean (values-shown ρ) names times states text (length out)) outcome.Refused
+      → ExactlyIn text (TextListable ρ boolean sort.Boolean (values-shown ρ) names times states text out)
+      (listOrder ρ boolean sort.Boolean (values-shown ρ) names times states text (length out)) outcome.Refused
       (λ r m. ListsValues ρ names times states text out m r) out
-  values-text ρ = lists-exactly boolean sort.Boolean (values-shown ρ) names times states text out boolean-one
+  values-text ρ = lists-exactly ρ boolean sort.Boolean (values-shown ρ) names times states text out boolean-one

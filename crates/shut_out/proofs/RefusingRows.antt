@@ -58,15 +58,16 @@ pub record GoodTrace (names n : ℕ) (states : List ℕ) : Type 0 where
   pub lists : Rows names n (length states)
   pub codes : Codes states
 
--- and a tree of the sort that the call asks for, accepted; and a row of the trace
-pub record GoodRow (names n : ℕ) (tree : List ℕ) (sort : Sort) (states : List ℕ) (row : ℕ) : Type 0 where
+-- and a tree of the sort that the call asks for, accepted under the rules; and a row of the trace
+pub record GoodRow (ρ : Rules) (names n : ℕ) (tree : List ℕ) (sort : Sort) (states : List ℕ) (row : ℕ) : Type 0 where
   pub trace : GoodTrace names n states
-  pub accepted : Accepted names sort tree
+  pub accepted : Accepted ρ names sort tree
   pub there : row < n
 
-pub record GoodRows (names n : ℕ) (lent : Type 0) (tree : List ℕ) (sort : Sort) (states : List ℕ) : Type 0 where
+pub record GoodRows (ρ : Rules) (names n : ℕ) (lent : Type 0) (tree : List ℕ) (sort : Sort) (states : List ℕ)
+    : Type 0 where
   pub trace : GoodTrace names n states
-  pub accepted : Accepted names sort tree
+  pub accepted : Accepted ρ names sort tree
   pub room : lent
 
 -- The changes of a row.
@@ -98,18 +99,18 @@ module _ (names n : ℕ) (states : List ℕ) (row : ℕ) where
       })
 
 -- A tree handed in.
-module _ (names n : ℕ) (tree states : List ℕ) where
-  row-passes : (sort : Sort) (row : ℕ) → GoodRow names n tree sort states row
-      → Passed (rowOrder names n tree sort states row)
+module _ {ρ : Rules} (names n : ℕ) (tree states : List ℕ) where
+  row-passes : (sort : Sort) (row : ℕ) → GoodRow ρ names n tree sort states row
+      → Passed (rowOrder ρ names n tree sort states row)
   row-passes sort row g = row-passed states n row (g .trace .lists) (g .accepted) (g .trace .codes) (g .there)
 
-  rows-pass : (sort : Sort) (lent : Type 0) → GoodRows names n lent tree sort states
-      → Passed (rowsOrder names n lent tree sort states)
+  rows-pass : (sort : Sort) (lent : Type 0) → GoodRows ρ names n lent tree sort states
+      → Passed (rowsOrder ρ names n lent tree sort states)
   rows-pass sort lent g = codes-passed states (g .room, g .trace .lists) (g .accepted) (g .trace .codes)
 
   module _ (row : ℕ) where
-    pub row-state : {ρ : Rules} → Exactly {M = None} (GoodRow names n tree Boolean states row)
-        (rowOrder names n tree Boolean states row) outcome.Refused (λ r m. RowState ρ names n tree states row r) tt
+    pub row-state : Exactly {M = None} (GoodRow ρ names n tree Boolean states row)
+        (rowOrder ρ names n tree Boolean states row) outcome.Refused (λ r m. RowState ρ names n tree states row r) tt
     unfolding Comes
     row-state =
         exactly (row-passes Boolean row)
@@ -120,8 +121,8 @@ module _ (names n : ℕ) (tree states : List ℕ) where
           one = both (demand-1 .row-state names n tree states row);
         })
 
-    pub row-value : {ρ : Rules} → Exactly {M = None} (GoodRow names n tree Boolean states row)
-        (rowOrder names n tree Boolean states row) outcome.Refused (λ r m. RowValue ρ names n tree states row r) tt
+    pub row-value : Exactly {M = None} (GoodRow ρ names n tree Boolean states row)
+        (rowOrder ρ names n tree Boolean states row) outcome.Refused (λ r m. RowValue ρ names n tree states row r) tt
     unfolding Comes
     row-value =
         exactly (row-passes Boolean row)
@@ -132,8 +133,8 @@ module _ (names n : ℕ) (tree states : List ℕ) where
           one = both (demand-1 .row-value names n tree states row);
         })
 
-    pub row-answer : {ρ : Rules} → Exactly {M = None} (GoodRow names n tree Vector states row)
-        (rowOrder names n tree Vector states row) told.Refused (λ r m. RowAnswer ρ names n tree states row r) tt
+    pub row-answer : Exactly {M = None} (GoodRow ρ names n tree Vector states row)
+        (rowOrder ρ names n tree Vector states row) told.Refused (λ r m. RowAnswer ρ names n tree states row r) tt
     unfolding Tells
     row-answer =
         exactly (row-passes Vector row)
@@ -144,8 +145,8 @@ module _ (names n : ℕ) (tree states : List ℕ) where
           one = both (demand-1 .row-answer names n tree states row);
         })
 
-    pub match-row : {ρ : Rules} → Exactly {M = None} (GoodRow names n tree Vector states row)
-        (rowOrder names n tree Vector states row) matching.Refused (λ r m. RowMatch ρ names n tree states row r) tt
+    pub match-row : Exactly {M = None} (GoodRow ρ names n tree Vector states row)
+        (rowOrder ρ names n tree Vector states row) matching.Refused (λ r m. RowMatch ρ names n tree states row r) tt
     unfolding Finds
     match-row =
         exactly (row-passes Vector row)
@@ -156,8 +157,8 @@ module _ (names n : ℕ) (tree states : List ℕ) where
           one = both (demand-1 .match-row names n tree states row);
         })
 
-  pub window-answer : {ρ : Rules} (from to : ℕ) → Exactly {M = None} (GoodRow names n tree Vector states (max from to))
-      (rowOrder names n tree Vector states (max from to)) told.Refused
+  pub window-answer : (from to : ℕ) → Exactly {M = None} (GoodRow ρ names n tree Vector states (max from to))
+      (rowOrder ρ names n tree Vector states (max from to)) told.Refused
       (λ r m. WindowAnswer ρ names n tree states from to r) tt
   unfolding Tells
   window-answer from to =
@@ -169,8 +170,8 @@ module _ (names n : ℕ) (tree states : List ℕ) where
         one = both (demand-1 .window-answer names n tree states from to);
       })
 
-  pub values : {ρ : Rules} (out : List ℕ) → Exactly (GoodRows names n (length out ≡ n) tree Boolean states)
-      (rowsOrder names n (length out ≡ n) tree Boolean states) outcome.Refused
+  pub values : (out : List ℕ) → Exactly (GoodRows ρ names n (length out ≡ n) tree Boolean states)
+      (rowsOrder ρ names n (length out ≡ n) tree Boolean states) outcome.Refused
       (λ r m. AllValues ρ names n tree states out m r) out
   unfolding Comes after
   values out =
@@ -182,9 +183,9 @@ module _ (names n : ℕ) (tree states : List ℕ) where
         one = demand-1 .values names n tree states out .one;
       })
 
-  pub match-all : {ρ : Rules} (answers tried : List ℕ)
-      → Exactly {M = Two} (GoodRows names n ((length answers ≡ n) × (length tried ≡ n)) tree Vector states)
-      (rowsOrder names n ((length answers ≡ n) × (length tried ≡ n)) tree Vector states) outcome.Refused
+  pub match-all : (answers tried : List ℕ)
+      → Exactly {M = Two} (GoodRows ρ names n ((length answers ≡ n) × (length tried ≡ n)) tree Vector states)
+      (rowsOrder ρ names n ((length answers ≡ n) × (length tried ≡ n)) tree Vector states) outcome.Refused
       (λ r m. AllMatched ρ names n tree states answers tried (m .0) (m .1) r) (answers, tried)
   unfolding Comes after
   match-all answers tried =
@@ -196,11 +197,11 @@ module _ (names n : ℕ) (tree states : List ℕ) where
         one = demand-1 .match-all names n tree states answers tried .one;
       })
 
-  totals-pass : GoodRows names n (Unit {0}) tree Vector states → Passed (traceOrder names n tree Vector states)
+  totals-pass : GoodRows ρ names n (Unit {0}) tree Vector states → Passed (traceOrder ρ names n tree Vector states)
   totals-pass g = codes-passed states (g .trace .lists) (g .accepted) (g .trace .codes)
 
-  pub totals : {ρ : Rules} → Exactly {M = None} (GoodRows names n (Unit {0}) tree Vector states)
-      (traceOrder names n tree Vector states) counting.Refused (λ r m. RowTotals ρ names n tree states r) tt
+  pub totals : Exactly {M = None} (GoodRows ρ names n (Unit {0}) tree Vector states)
+      (traceOrder ρ names n tree Vector states) counting.Refused (λ r m. RowTotals ρ names n tree states r) tt
   unfolding Counts
   totals =
       exactly totals-pass

@@ -12,6 +12,7 @@ use mathlib.Core.List.{List}
 use lib.ListN.{length}
 use Rattle.alf.specs.Names.{namesIn}
 use Rattle.basics.specs.declared.Refusal.{Refusal}
+use Rattle.alf.specs.declared.Rules.{Rules}
 use Rattle.alf.specs.declared.Sort.{Sort}
 use Rattle.alf.specs.Expressions.{Expression}
 use Rattle.alf.specs.Refusals.{Passed}
@@ -33,33 +34,35 @@ use Rattle.shut_out.proofs.Reasons.{passed-held, None, Three}
 use Rattle.shut_out.proofs.Refusing.{GoodNames, names-pass}
 
 -- A text.
-module _ (names text : List ℕ) (sort : Sort) where
+module _ (ρ : Rules) (names text : List ℕ) (sort : Sort) where
   pub record Readable : Type 0 where
     pub names-good : GoodNames names
     pub short : length text ≤ 4096
     pub expression : Expression
-    pub given : Gives names text sort expression
+    pub given : Gives ρ names text sort expression
 
-  passed-read : {r : Read} → ReadsText names text sort r → r .refused ≡ false → Passed (readOrder names text sort)
+  passed-read : {r : Read} → ReadsText ρ names text sort r → r .refused ≡ false
+      → Passed (readOrder ρ names text sort)
   unfolding refusedBy
   passed-read (texts.refused r a) e = never (sym e)
   passed-read (texts.read a g) e = a
 
-  pub read-passes : Readable → Passed (readOrder names text sort)
+  pub read-passes : Readable → Passed (readOrder ρ names text sort)
   unfolding made
   read-passes g = passed-read (gives-read (names-pass names (g .names-good)) (g .short) (g .given)) refl
 
-  not-refused : (r : Read) → Readable → ReadsText names text sort r → r .refused ≡ false
+  not-refused : (r : Read) → Readable → ReadsText ρ names text sort r → r .refused ≡ false
   unfolding made
   not-refused r g w =
       ap (λ (x : Read). x .refused) (read-complete (names-pass names (g .names-good)) (g .short) (g .given) w)
 
-  only-refused : Held (readOrder names text sort) → (x : Read) → ReadsText names text sort x → IsRefusal refusedBy x
+  only-refused : Held (readOrder ρ names text sort) → (x : Read) → ReadsText ρ names text sort x
+      → IsRefusal refusedBy x
   only-refused h x (texts.refused r a) = (r, refl)
-  only-refused h x (texts.read a g) = absurd (passed-held (readOrder names text sort) a h)
+  only-refused h x (texts.read a g) = absurd (passed-held (readOrder ρ names text sort) a h)
 
-  pub read-expression : ExactlyIn {M = None} text Readable (readOrder names text sort) refusedBy
-      (λ r m. ReadsText names text sort r) tt
+  pub read-expression : ExactlyIn {M = None} text Readable (readOrder ρ names text sort) refusedBy
+      (λ r m. ReadsText ρ names text sort r) tt
   unfolding refusedBy
   read-expression =
       record {

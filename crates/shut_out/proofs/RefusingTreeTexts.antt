@@ -21,14 +21,14 @@ use Rattle.demands.proofs.Demand1.{demand-1}
 use Rattle.shut_out.specs.Reasons.{Exactly}
 use Rattle.shut_out.proofs.Reasons.{exactly, comes-parts}
 
-module _ (lists : Type 0) (names : ℕ) (tree states text out : List ℕ) where
+module _ (ρ : Rules) (lists : Type 0) (names : ℕ) (tree states text out : List ℕ) where
   pub record Textable : Type 0 where
     pub fit : lists
-    pub accepted : Accepted names Vector tree
+    pub accepted : Accepted ρ names Vector tree
     pub codes : Codes states
     pub room : length text ≤ length out
 
-  text-passes : Textable → Passed (textOrder lists names tree states text (length out))
+  text-passes : Textable → Passed (textOrder ρ lists names tree states text (length out))
   unfolding Passed
   text-passes g = (
     λ p a. a .given (g .fit),
@@ -44,14 +44,14 @@ module _ (names n : ℕ) (tree states : List ℕ) where
     Listed = (length times ≡ n) × Rows names n (length states)
 
     abbrev pub listed : Rules → List ℕ
-    listed ρ = patternListing ρ names times states (expression tree names)
+    listed ρ = patternListing ρ names times states (expression ρ tree names)
 
-    pub list : {ρ : Rules} (out : List ℕ) → Exactly (Textable Listed names tree states (listed ρ) out)
-        (textOrder Listed names tree states (listed ρ) (length out)) outcome.Refused
+    pub list : {ρ : Rules} (out : List ℕ) → Exactly (Textable ρ Listed names tree states (listed ρ) out)
+        (textOrder ρ Listed names tree states (listed ρ) (length out)) outcome.Refused
         (λ r m. ListsTree ρ names n tree times states out m r) out
     unfolding Comes after
     list {ρ} out =
-        exactly (text-passes Listed names tree states (listed ρ) out)
+        exactly (text-passes ρ Listed names tree states (listed ρ) out)
         (record {
           reason = λ r m w. w .comes;
           parts = λ x m w. comes-parts _ _ x (w .comes);
@@ -61,15 +61,15 @@ module _ (names n : ℕ) (tree states : List ℕ) where
 
   module _ (pattern : List ℕ) where
     abbrev pub line : Rules → List ℕ
-    line ρ = totalsLine ρ names n states pattern (expression tree names)
+    line ρ = totalsLine ρ names n states pattern (expression ρ tree names)
 
     pub table-line : {ρ : Rules} (out : List ℕ)
-        → Exactly (Textable (Rows names n (length states)) names tree states (line ρ) out)
-        (textOrder (Rows names n (length states)) names tree states (line ρ) (length out)) outcome.Refused
+        → Exactly (Textable ρ (Rows names n (length states)) names tree states (line ρ) out)
+        (textOrder ρ (Rows names n (length states)) names tree states (line ρ) (length out)) outcome.Refused
         (λ r m. LinesTree ρ names n tree states pattern out m r) out
     unfolding Comes after
     table-line {ρ} out =
-        exactly (text-passes (Rows names n (length states)) names tree states (line ρ) out)
+        exactly (text-passes ρ (Rows names n (length states)) names tree states (line ρ) out)
         (record {
           reason = λ r m w. w .comes;
           parts = λ x m w. comes-parts _ _ x (w .comes);

@@ -26,17 +26,17 @@ use Rattle.shut_out.proofs.Reasons.{exactly, comes-parts, Two}
 use Rattle.shut_out.proofs.RefusingRows.{GoodTrace}
 
 -- The correction of a row.
-module _ (names n : ℕ) (tree states : List ℕ) where
+module _ (ρ : Rules) (names n : ℕ) (tree states : List ℕ) where
   module _ (answers : List ℕ) (row : ℕ) (new : List ℕ) where
     pub record Correctable : Type 0 where
       pub trace : GoodTrace names n states
-      pub accepted : Accepted names Vector tree
+      pub accepted : Accepted ρ names Vector tree
       pub room : length answers ≡ n
       pub full : length new ≡ names
       pub codes : Codes new
       pub there : row < n
 
-    correct-passes : Correctable → Passed (correctionOrder names n tree states answers row new)
+    correct-passes : Correctable → Passed (correctionOrder ρ names n tree states answers row new)
     unfolding Passed
     correct-passes g = (
       λ p x. x .given (record { room = g .room; full = g .full; rows = g .trace .lists }),
@@ -49,8 +49,7 @@ module _ (names n : ℕ) (tree states : List ℕ) where
       ),
     )
 
-    pub correct : {ρ : Rules}
-        → Exactly {M = Two} Correctable (correctionOrder names n tree states answers row new) outcome.Refused
+    pub correct : Exactly {M = Two} Correctable (correctionOrder ρ names n tree states answers row new) outcome.Refused
         (λ r m. Correction ρ names n tree states answers row new (m .0) (m .1) r) (states, answers)
     unfolding Comes after
     correct =
@@ -63,26 +62,26 @@ module _ (names n : ℕ) (tree states : List ℕ) where
         })
 
 -- The queue.
-module _ (names : ℕ) (tree : List ℕ) (queue : Queue) (row : List ℕ) where
+module _ (ρ : Rules) (names : ℕ) (tree : List ℕ) (queue : Queue) (row : List ℕ) where
   pub record Pushable : Type 0 where
-    pub handed : Handed names tree queue
+    pub handed : Handed ρ names tree queue
     pub fits : RowFits names (length row)
     pub codes : Codes row
 
-  takes-parts : (ρ : Rules) (x : Matching) (q : Queue) → Takes ρ names tree queue row x q
-      → Passed (pushOrder names tree queue row) ⊎ IsRefusal matching.Refused x
+  takes-parts : (x : Matching) (q : Queue) → Takes ρ names tree queue row x q
+      → Passed (pushOrder ρ names tree queue row) ⊎ IsRefusal matching.Refused x
   unfolding Takes
-  takes-parts ρ (matching.Found m) q w = inl (w .0)
-  takes-parts ρ (matching.Refused r) q w = inr (r, refl)
+  takes-parts (matching.Found m) q w = inl (w .0)
+  takes-parts (matching.Refused r) q w = inr (r, refl)
 
-  pub push : {ρ : Rules} → Exactly Pushable (pushOrder names tree queue row) matching.Refused
+  pub push : Exactly Pushable (pushOrder ρ names tree queue row) matching.Refused
       (λ r q. Push ρ names tree queue row r q) queue
   unfolding Takes
   push =
       exactly (λ g. codes-passed row (g .fits) (g .handed) (g .codes))
       (record {
         reason = λ r q w. w .comes .0;
-        parts = λ x q w. takes-parts _ x q (w .comes);
+        parts = λ x q w. takes-parts x q (w .comes);
         refuses = λ r h. record { comes = (h, refl) };
         one = demand-1 .push names tree queue row .one;
       })

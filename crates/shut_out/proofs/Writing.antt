@@ -111,11 +111,11 @@ pub listed-and-refused : {ρ : Rules} {k n : ℕ} {tree times states out out′ 
 listed-and-refused {ρ} {k} {n} {tree} {times} {states} {out} {out′} {e} w differ =
     differ (demand-1 {ρ = ρ} .list k n tree states times out .stays e out′ w)
 
-pub rewrote-and-refused : {k : ℕ} {tree s t e o s′ t′ e′ o′ : List ℕ} {r : Refusal}
-    → Rewrites k tree s t e o s′ t′ e′ o′ (Refused r)
+pub rewrote-and-refused : {ρ : Rules} {k : ℕ} {tree s t e o s′ t′ e′ o′ : List ℕ} {r : Refusal}
+    → Rewrites ρ k tree s t e o s′ t′ e′ o′ (Refused r)
     → ((s′ ≡ s) × (t′ ≡ t) × (e′ ≡ e) × (o′ ≡ o) → ⊥) → ⊥
-rewrote-and-refused {k} {tree} {s} {t} {e} {o} {s′} {t′} {e′} {o′} {r} w differ =
-    let p = demand-1 {ρ = oldRules} .rewrite k tree s t e o .stays r (s′, t′, e′, o′) w in
+rewrote-and-refused {ρ} {k} {tree} {s} {t} {e} {o} {s′} {t′} {e′} {o′} {r} w differ =
+    let p = demand-1 {ρ = ρ} .rewrite k tree s t e o .stays r (s′, t′, e′, o′) w in
     differ (
       ap (λ (x : Four). x .0) p,
       ap (λ (x : Four). x .1) p,

@@ -1,27 +1,28 @@
 -- An operand named by its place is the expression that ends there: the expression with its operands as places, read
--- back, is the expression, and a boolean expression ends at each of its places.
--- Main names: began, edgeBack, operandBack, Each, Stands, stands.
-use Prim.Native.Nat.{ℕ, zero, suc, _+_, _-_, _<_, _≤_}
+-- back, is the expression by its places, and a boolean expression ends at each of its places.
+-- Main names: edgeBack, operandBack, Each, Known, Stands, stands.
+use Prim.Native.Nat.{ℕ, zero, suc, _+_, _-_, _*_, _<_, _≤_}
 use native.Mathlib.Omega.{arith}
-use mathlib.Core.Path.{_≡_, refl}
-use mathlib.Core.Logic.{_⊎_, inl, inr}
+use mathlib.Core.Path.{_≡_, refl, _∙_}
+use mathlib.Core.Bool.{Bool, true, false}
 use mathlib.Core.List.{List}
-use lib.ListN.{length, getD}
-use Rattle.alf.specs.Expressions.{Boolean, Edge, Vector, edge, join, while, Join, Side}
+use lib.Dec.{eqb}
+use lib.ListN.{getD}
+use borrow.Author.Tests.{eqb-false}
+use Rattle.basics.specs.Words.{if_then_else_}
+use Rattle.alf.specs.Expressions.{Boolean, name, Edge, stays, Vector, edge, join, while, Join, with, Side}
 use Rattle.alf.specs.Bytes.{edgeNumber}
-use Rattle.alf.specs.Decoder.{edgeAt, arityAt}
-use Rattle.basics.proofs.Bools.{equal?, below?}
+use Rattle.alf.specs.Decoder.{edgeAt}
 use Rattle.alf.proofs.OperatorBytes.{edge-byte}
 use Rattle.alf.proofs.StackTops.{edge-top, condition-before-top}
 use Rattle.alf.proofs.Parts.{made-last}
-use Rattle.trees.specs.Parts.{Ends, EndsBoolean, EndsVector, vectorAt, booleanAt, Start}
-use Rattle.trees.proofs.Starts.{Going, going-first, going-on, going-done}
+use Rattle.trees.specs.Parts.{EndsBoolean, EndsVector, vectorAt, booleanAt, Start}
 use Rattle.trees.proofs.Vectors.{Conditioned, Joined, vector-pos, edge-is, before-is, before-ends, boolean-under}
-use Rattle.trees.proofs.Vectors.{condition-is, join-is}
-use Rattle.step_tests.specs.OperandPlaces.{byPlaces, placeOf}
-use Rattle.step_tests.proofs.Exchanging.{testsOn}
-use Rattle.step_tests.proofs.Placing.{vector-start, boolean-start}
-use Rattle.step_tests.proofs.StepTests.{last-ends}
+use Rattle.steady_pins.specs.Pinned.{pinAt, pinned, byPlaces, Pins}
+use Rattle.steady_pins.proofs.Starting.{vector-start, boolean-start}
+use Rattle.steady_pins.proofs.TreeInduction.{by-parts}
+use Rattle.step_tests.specs.OperandPlaces.{placeOf}
+use Rattle.step_tests.proofs.Exchanging.{testsOn, pinned-on}
 
 -- each boolean operand of an expression
 pub data Each (P : Boolean → Type 0) : Vector → Type 0 where
@@ -36,108 +37,96 @@ edgeBack e = edgeAt (edgeNumber e)
 abbrev pub operandBack : List ℕ → ℕ → Boolean → Boolean
 operandBack t names c = booleanAt t names (placeOf c)
 
--- an expression starts somewhere
-pub record Began (t : List ℕ) (names end : ℕ) : Type 0 where
-  pub at : ℕ
-  pub start : Start t names end at
+positive : (n : ℕ) → eqb n 0 ≡ false → 0 < n
+positive n e = let f = eqb-false n 0 e in omega arith
 
-pub began : (t : List ℕ) (names end : ℕ) → Ends t names end → Began t names end
-began t names end h = go end end 1 (omega arith) (going-first h) (below? 0 1)
-  where
-    go : (k at need : ℕ) → at ≤ k → Going t names end at need → (0 < need) ⊎ (need ≤ 0)
-        → Began t names end
-    go zero at need l g (inl p) = absurd (omega (arith, g .few))
-    go zero at need l g (inr z) = record { at = at; start = going-done g z }
-    go (suc k) at need l g (inl p) =
-        go k (at - 1) (need - 1 + arityAt (getD t (at - 1) 0)) (omega (arith, g .few))
-        (going-on t names end at need g p) (below? 0 _)
-    go (suc k) at need l g (inr z) = record { at = at; start = going-done g z }
+-- `?-` by its number
+kept-stays : edgeBack stays ≡ stays
+unfolding edgeNumber edgeAt
+kept-stays = refl
 
 module _ (t : List ℕ) (names : ℕ) where
   abbrev pub Known : Boolean → Type 0
   Known c = EndsBoolean t names (placeOf c)
 
-  pub record Stands (end : ℕ) : Type 0 where
-    pub back : testsOn edgeBack (operandBack t names) (byPlaces end (vectorAt t names end)) ≡ vectorAt t names end
-    pub each : Each Known (byPlaces end (vectorAt t names end))
+  -- read back: edges and operands of the tests with a part's pins are as they were
+  pin-known : (b : Bool) (k : ℕ) (p : Vector) → (b ≡ false → EndsBoolean t names k) → Each Known p
+      → Each Known (if b then p else join with p (edge stays (name k)))
+  unfolding placeOf
+  pin-known true k p f e = e
+  pin-known false k p f e = of-join e (of-edge (f refl))
 
-  module _ (end : ℕ) (h : EndsVector t names end) where
-    inside : end - 1 ≤ length t
-    inside = omega (arith, h .within)
+  module _ (pins : List ℕ) (known : Pins t names pins) where
+    pinned-known : (n end : ℕ) (p : Vector) → Each Known p → Each Known (pinned name pins n end p)
+    unfolding pinned
+    pinned-known zero end p e = e
+    pinned-known (suc n) end p e =
+        pin-known (eqb (pinAt pins end n) 0) (pinAt pins end n) (pinned name pins n end p)
+        (λ f. known .stands ((end - 1) * 32 + n) (positive (pinAt pins end n) f)) (pinned-known n end p e)
 
-    edge-stands : 64 ≤ getD t (end - 1) 0 → Stands end
+    pub record Stands (end : ℕ) : Type 0 where
+      pub back : testsOn edgeBack (operandBack t names) (byPlaces name pins end (vectorAt t names end))
+          ≡ byPlaces (booleanAt t names) pins end (vectorAt t names end)
+      pub each : Each Known (byPlaces name pins end (vectorAt t names end))
+
+    pins-back : (end : ℕ) (p : Vector)
+        → testsOn edgeBack (operandBack t names) (pinned name pins 32 end p)
+        ≡ pinned (booleanAt t names) pins 32 end (testsOn edgeBack (operandBack t names) p)
+    unfolding placeOf
+    pins-back end p = pinned-on edgeBack (operandBack t names) kept-stays name pins 32 end p
+
+    edge-stands : (end : ℕ) → EndsVector t names end → 64 ≤ getD t (end - 1) 0 → Stands end
     unfolding byPlaces testsOn placeOf
-    edge-stands k =
+    edge-stands end h k =
         let u = edge-top names _ (made-last t names end (vector-pos t names end h)) (h .whole) k in
         let e = edge-byte k (u .small) in
         let d : edgeNumber (edgeAt (getD t (end - 1) 0 - 64)) ≡ getD t (end - 1) 0 - 64 = omega arith in
+        let w : EndsBoolean t names (end - 1) = record { within = omega (arith, h .within); whole = u .right } in
         record {
-          back = rw (edge-is t names end h k, d) refl;
-          each = rw (edge-is t names end h k) (of-edge (record { within = inside; whole = u .right }));
+          back = rw (edge-is t names end h k) (pins-back end _ ∙ rw d refl);
+          each = rw (edge-is t names end h k) (pinned-known 32 end _ (of-edge w));
         }
 
-    module _ {m : ℕ} (s : Start t names (end - 1) m) where
-      before-stands : getD t (end - 1) 0 ≡ 57 → Stands (end - 1) → Stands end
-      unfolding byPlaces testsOn placeOf
-      before-stands k r =
-          let u = condition-before-top names _ (made-last t names end (vector-pos t names end h)) (h .whole) k in
-          let b = before-is t names end h k in
-          let v = vector-start t names (end - 1) (before-ends t names end h k) s in
-          record {
-            back = rw (b, v, r .back, s .left) refl;
-            each = rw (b, v) (of-while (r .each) (boolean-under s inside (u .left)));
-          }
+    before-stands : (end m : ℕ) → EndsVector t names end → getD t (end - 1) 0 ≡ 57 → Start t names (end - 1) m
+        → Stands (end - 1)
+        → Stands end
+    unfolding byPlaces testsOn placeOf
+    before-stands end m h k s r =
+        let u = condition-before-top names _ (made-last t names end (vector-pos t names end h)) (h .whole) k in
+        let b = before-is t names end h k in
+        let v = vector-start t names (end - 1) (before-ends t names end h k) s in
+        record {
+          back = rw (b, v, r .back) refl;
+          each = rw (b, v) (of-while (r .each) (boolean-under s (omega (arith, h .within)) (u .left)));
+        }
 
-      condition-stands : Conditioned t names end m → Stands m → Stands end
-      unfolding byPlaces testsOn placeOf
-      condition-stands c r =
-          let v = boolean-start t names (end - 1) (c .right) s in
-          record {
-            back = rw (c .is, v, r .back) refl;
-            each = rw (c .is, v) (of-while (r .each) (c .right));
-          }
+    condition-stands : (end m : ℕ) → EndsVector t names end → Conditioned t names end m
+        → Start t names (end - 1) m
+        → Stands m
+        → Stands end
+    unfolding byPlaces testsOn placeOf
+    condition-stands end m h c s r =
+        let v = boolean-start t names (end - 1) (c .right) s in
+        record {
+          back = rw (c .is, v, r .back) refl;
+          each = rw (c .is, v) (of-while (r .each) (c .right));
+        }
 
-      join-stands : Joined t names end m → Stands m → Stands (end - 1) → Stands end
-      unfolding byPlaces testsOn
-      join-stands j r q =
-          let v = vector-start t names (end - 1) (j .right) s in
-          record {
-            back = rw (j .is, v, r .back, q .back) refl;
-            each = rw (j .is, v) (of-join (r .each) (q .each));
-          }
+    join-stands : (end m : ℕ) → EndsVector t names end → Joined t names end m → Start t names (end - 1) m
+        → Stands m → Stands (end - 1) → Stands end
+    unfolding byPlaces testsOn
+    join-stands end m h j s r q =
+        let v = vector-start t names (end - 1) (j .right) s in
+        record {
+          back = rw (j .is, v) (pins-back end _ ∙ rw (r .back, q .back) refl);
+          each = rw (j .is, v) (pinned-known 32 end _ (of-join (r .each) (q .each)));
+        }
 
-  -- from all earlier ends
-  module _ (end : ℕ) (h : EndsVector t names end)
-      (r : (m : ℕ) → m < end → EndsVector t names m → Stands m) where
-    pos : end - 1 < end
-    pos = omega (arith, vector-pos t names end h)
-
-    joined-stands : {m : ℕ} → Start t names (end - 1) m → Joined t names end m → Stands end
-    joined-stands {m} s j =
-        join-stands end h s j (r m (omega (arith, s .before)) (j .left)) (r (end - 1) pos (j .right))
-
-    right-stands : {m : ℕ} → Start t names (end - 1) m → Conditioned t names end m → Stands end
-    right-stands {m} s c = condition-stands end h s c (r m (omega (arith, s .before)) (c .left))
-
-    part-stands : getD t (end - 1) 0 < 64 → Began t names (end - 1) → Stands end
-    part-stands u b = go (equal? (getD t (end - 1) 0) 57) (equal? (getD t (end - 1) 0) 56)
-      where
-        go : (getD t (end - 1) 0 ≡ 57) ⊎ (getD t (end - 1) 0 ≡ 57 → ⊥)
-            → (getD t (end - 1) 0 ≡ 56) ⊎ (getD t (end - 1) 0 ≡ 56 → ⊥) → Stands end
-        go (inl e) q = before-stands end h (b .start) e (r (end - 1) pos (before-ends t names end h e))
-        go (inr f) (inl e) = right-stands (b .start) (condition-is t names end h (b .start) e)
-        go (inr f) (inr g) = joined-stands (b .start) (join-is t names end h (b .start) u g f)
-
-    stands-next : Stands end
-    stands-next = go (below? (getD t (end - 1) 0) 64)
-      where
-        go : (getD t (end - 1) 0 < 64) ⊎ (64 ≤ getD t (end - 1) 0) → Stands end
-        go (inl u) = part-stands u (began t names (end - 1) (last-ends t names end h u))
-        go (inr u) = edge-stands end h u
-
-  stands-below : (k end : ℕ) → end ≤ k → EndsVector t names end → Stands end
-  stands-below zero end l h = absurd (omega (arith, vector-pos t names end h))
-  stands-below (suc k) end l h = stands-next end h (λ m u g. stands-below k m (omega arith) g)
-
-  pub stands : (end : ℕ) → EndsVector t names end → Stands end
-  stands end h = stands-below end end (omega arith) h
+    pub stands : (end : ℕ) → EndsVector t names end → Stands end
+    stands end h =
+        by-parts (record {
+          on-edge = edge-stands;
+          on-before = before-stands;
+          on-condition = condition-stands;
+          on-join = join-stands;
+        }) end h

@@ -3,12 +3,12 @@
 --   put-lengths, one-lengths         the lists stay as long as they are
 --   long, short-one                  no alternative is longer than the longest, and than 64 steps
 --   beyond, there                    a step that there is not, and one that there is
-use Prim.Native.Nat.{ℕ, zero, suc, _+_, _-_, _<_, _≤_}
+use Prim.Native.Nat.{ℕ, zero, suc, _+_, _<_, _≤_}
 use native.Mathlib.Omega.{arith}
 use native.Mathlib.Nat.{add-zero}
 use mathlib.Core.Path.{_≡_, refl, ap, sym, _∙_}
 use mathlib.Core.List.{List, [], _∷_, _++_, map, map-append}
-use lib.ListN.{length, getD, set, length-append, length-map, length-set, List·getD-eq-default}
+use lib.ListN.{length, getD, length-append, length-map, length-set, List·getD-eq-default}
 use lib.Seq.{sets, length-sets}
 use Rattle.basics.specs.Words.{greatestOf}
 use Rattle.basics.proofs.Stores.{sets-append}
@@ -16,10 +16,10 @@ use Rattle.alf.specs.Expressions.{Edge, name}
 use Rattle.alf.specs.Bytes.{edgeNumber}
 use Rattle.alf.specs.Alternatives.{Test, test, Step, Alternative, alternatives, stepsOf}
 use Rattle.trees.specs.Parts.{vectorAt}
-use Rattle.acceptance.specs.Sizes.{alternativeAt, Shaped}
-use Rattle.step_tests.specs.OperandPlaces.{byPlaces, placeOf, edgeOf, endOf, numbers, ends}
+use Rattle.acceptance.specs.Sizes.{alternativeAt, ShapedAt}
+use Rattle.steady_pins.proofs.PinnedAlternatives.{placed-length}
+use Rattle.step_tests.specs.OperandPlaces.{placeOf, edgeOf, endOf, numbers, ends}
 use Rattle.step_tests.specs.Steps.{stepAt, Placing, Put, OnePut}
-use Rattle.step_tests.proofs.Exchanging.{placed-length}
 
 pub put-none : {from : ℕ} {edges operands : List ℕ} → Put [] from edges operands from edges operands
 put-none = record { next-is = sym (add-zero _); edges-is = refl; operands-is = refl }
@@ -71,21 +71,22 @@ long [] a = omega arith
 long (x ∷ xs) zero = omega arith
 long (x ∷ xs) (suc a) = let e = long xs a in omega arith
 
-module _ {t : List ℕ} {names end a j : ℕ} {edges operands : List ℕ} {from : ℕ}
-    (h : Placing t names end a j edges operands from) where
-  pub short-one : length (alternativeAt t names end a) ≤ 64
+module _ {pins t : List ℕ} {names end a j : ℕ} {edges operands : List ℕ} {from : ℕ}
+    (h : Placing pins t names end a j edges operands from) where
+  pub short-one : length (alternativeAt name pins t names end a) ≤ 64
   unfolding stepsOf
-  short-one = let e = long (alternatives (vectorAt t names end)) a in omega (arith, h .short)
+  short-one =
+      let e = long (alternatives (vectorAt t names end)) a in
+      let d = placed-length name pins end (vectorAt t names end) a in omega (arith, h .short)
 
   -- a step that there is not, and one that there is
-  pub beyond : {s n : ℕ} → Shaped (alternativeAt t names end a) s n → s ≤ j
-      → Put (stepAt t names end a j) from edges operands from edges operands
+  pub beyond : {s n : ℕ} → ShapedAt pins t names end a s n → s ≤ j
+      → Put (stepAt pins t names end a j) from edges operands from edges operands
   beyond g l =
-      let e = placed-length end (vectorAt t names end) a in
       let k = short-one in
-      rw (List·getD-eq-default (getD (alternatives (byPlaces end (vectorAt t names end))) a []) [] {n = j}
-      (omega (arith, g .steps-is))) put-none
+      rw (List·getD-eq-default (alternativeAt name pins t names end a) [] {n = j}
+      (omega (arith, g .given name .steps-is))) put-none
 
-  pub there : {s n : ℕ} → Shaped (alternativeAt t names end a) s n → j < s
-      → j < length (alternativeAt t names end a)
-  there g l = omega (arith, g .steps-is)
+  pub there : {s n : ℕ} → ShapedAt pins t names end a s n → j < s
+      → j < length (alternativeAt name pins t names end a)
+  there g l = omega (arith, g .given name .steps-is)

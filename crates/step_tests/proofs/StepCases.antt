@@ -1,6 +1,6 @@
 -- What the code that writes a step has tested, case by case of the last byte, and what follows for the operands' steps.
--- Main names: placing-pos, placing-end; edge-room, edge-written; Held, before-held, condition-held, held-room,
--- held-written; joined.
+-- Main names: placing-pos, placing-end, placing-shaping; edge-room, edge-pins-room, edge-written; Held, before-held,
+-- condition-held, held-room, held-written; joined.
 use Prim.Native.Nat.{ℕ, _-_, _<_, _≤_}
 use native.Mathlib.Omega.{arith}
 use mathlib.Core.Path.{_≡_}
@@ -8,22 +8,24 @@ use mathlib.Core.List.{List, _++_}
 use lib.ListN.{getD}
 use Rattle.trees.specs.Parts.{Start}
 use Rattle.trees.proofs.Vectors.{Joined, vector-pos, condition-is, join-is}
-use Rattle.acceptance.specs.Sizes.{alternativeAt, Shaped}
-use Rattle.step_tests.specs.Steps.{stepAt, Placing, Put, Fits, OnePut}
+use Rattle.alf.specs.Expressions.{name}
+use Rattle.steady_pins.specs.Pinned.{pinTests}
+use Rattle.acceptance.specs.Sizes.{Shaping, ShapedAt}
+use Rattle.step_tests.specs.Steps.{stepAt, Placing, Put, Fits, OnePut, PinsFit}
 use Rattle.step_tests.proofs.Puts.{there}
-use Rattle.step_tests.proofs.StepTests.{edge-fits, edge-put, held, held-fits, held-put}
+use Rattle.step_tests.proofs.StepTests.{edge-fits, edge-pins, edge-put, held, held-fits, held-put}
 use Rattle.step_tests.proofs.StepTests.{before-whole, before-placing, condition-whole, condition-placing}
 
 -- the step is that of the expression that ends at `part`, and the test of the condition that ends at `place`
-pub record Held (t : List ℕ) (names end a j : ℕ) (edges operands : List ℕ) (from part place : ℕ) : Type 0 where
-  pub whole : Placing t names end a j edges operands from
-  pub inner : Placing t names part a j edges operands from
-  pub is : stepAt t names end a j ≡ stepAt t names part a j ++ held place
+pub record Held (pins t : List ℕ) (names end a j : ℕ) (edges operands : List ℕ) (from part place : ℕ) : Type 0 where
+  pub whole : Placing pins t names end a j edges operands from
+  pub inner : Placing pins t names part a j edges operands from
+  pub is : stepAt pins t names end a j ≡ stepAt pins t names part a j ++ held place
   pub shorter : part < end
   pub small : place < 65536
 
-module _ {t : List ℕ} {names end a j : ℕ} {edges operands : List ℕ} {from : ℕ}
-    (h : Placing t names end a j edges operands from) where
+module _ {pins t : List ℕ} {names end a j : ℕ} {edges operands : List ℕ} {from : ℕ}
+    (h : Placing pins t names end a j edges operands from) where
   -- an expression has a last byte, and ends within the 256 that there may be
   pub placing-pos : 0 < end
   placing-pos = vector-pos t names end (h .chosen .ends)
@@ -31,20 +33,29 @@ module _ {t : List ℕ} {names end a j : ℕ} {edges operands : List ℕ} {from 
   pub placing-end : end ≤ 256
   placing-end = omega (arith, h .few, h .chosen .ends .within)
 
+  -- the pins have entries for each part
+  pub placing-shaping : Shaping pins t names end a
+  placing-shaping = record { chosen = h .chosen; small = placing-end; long = h .long }
+
   -- the step is there, since there are more than j
-  module _ {n w : ℕ} (g : Shaped (alternativeAt t names end a) n w) (l : j < n) where
+  module _ {n w : ℕ} (g : ShapedAt pins t names end a n w) (l : j < n) where
     -- an edge
     pub edge-room : 64 ≤ getD t (end - 1) 0 → Fits (end - 1) edges operands from
     edge-room k = edge-fits h k (there h g l)
 
-    pub edge-written : {next : ℕ} {edges′ operands′ : List ℕ} → 64 ≤ getD t (end - 1) 0
-        → OnePut (getD t (end - 1) 0 - 64) (end - 1) from edges operands next edges′ operands′
-        → Put (stepAt t names end a j) from edges operands next edges′ operands′
-    edge-written k q = edge-put h k (there h g l) q
+    module _ {next : ℕ} {edges′ operands′ : List ℕ} (k : 64 ≤ getD t (end - 1) 0)
+        (q : OnePut (getD t (end - 1) 0 - 64) (end - 1) from edges operands next edges′ operands′) where
+      pub edge-pins-room : PinsFit pins end 32 edges′ operands′ next
+      edge-pins-room = edge-pins h k (there h g l) q
+
+      pub edge-written : {last : ℕ} {edges″ operands″ : List ℕ}
+          → Put (pinTests name pins 32 end) next edges′ operands′ last edges″ operands″
+          → Put (stepAt pins t names end a j) from edges operands last edges″ operands″
+      edge-written r = edge-put h k (there h g l) q r
 
     -- c & P, and P & c
     module _ {m : ℕ} (s : Start t names (end - 1) m) where
-      pub before-held : getD t (end - 1) 0 ≡ 57 → Held t names end a j edges operands from (end - 1) m
+      pub before-held : getD t (end - 1) 0 ≡ 57 → Held pins t names end a j edges operands from (end - 1) m
       before-held k =
           let o = there h g l in
           record {
@@ -55,7 +66,7 @@ module _ {t : List ℕ} {names end a j : ℕ} {edges operands : List ℕ} {from 
             small = omega (arith, placing-end, s .before);
           }
 
-      pub condition-held : getD t (end - 1) 0 ≡ 56 → Held t names end a j edges operands from m (end - 1)
+      pub condition-held : getD t (end - 1) 0 ≡ 56 → Held pins t names end a j edges operands from m (end - 1)
       condition-held k =
           let o = there h g l in
           let c = condition-is t names end (h .chosen .ends) s k in
@@ -73,13 +84,13 @@ module _ {t : List ℕ} {names end a j : ℕ} {edges operands : List ℕ} {from 
   joined s k b c = join-is t names end (h .chosen .ends) s k c b
 
 -- behind the inner step there is room for the condition's test, and with it the whole step is written
-module _ {t : List ℕ} {names end a j : ℕ} {edges operands : List ℕ} {from part place : ℕ}
-    (h : Held t names end a j edges operands from part place) {next : ℕ} {edges′ operands′ : List ℕ}
-    (p : Put (stepAt t names part a j) from edges operands next edges′ operands′) where
+module _ {pins t : List ℕ} {names end a j : ℕ} {edges operands : List ℕ} {from part place : ℕ}
+    (h : Held pins t names end a j edges operands from part place) {next : ℕ} {edges′ operands′ : List ℕ}
+    (p : Put (stepAt pins t names part a j) from edges operands next edges′ operands′) where
   pub held-room : Fits place edges′ operands′ next
   held-room = held-fits (h .is) p (h .small) (h .whole .edges-room) (h .whole .operands-room)
 
   pub held-written : {last : ℕ} {edges″ operands″ : List ℕ}
       → OnePut 20 place next edges′ operands′ last edges″ operands″
-      → Put (stepAt t names end a j) from edges operands last edges″ operands″
+      → Put (stepAt pins t names end a j) from edges operands last edges″ operands″
   held-written q = held-put (h .is) p q

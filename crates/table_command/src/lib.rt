@@ -19,11 +19,19 @@ fn end(s: Sums, line: &mut [u8; 4096]) {
     say_total(line, s);
 }
 
-// A last line says that the table is by the rule of equal branches. Without that line it is by document 01's rule.
+// A last line says which of document 02's rules the table is by. Without that line it is by document 01's rules.
 fn say_rules(rules: Rules) {
-    if rules.equal_branches {
-        say(b"rules\tequal-branches\n");
+    if !rules.equal_branches && !rules.steady_pins {
+        return;
     }
+    say(b"rules");
+    if rules.equal_branches {
+        say(b"\tequal-branches");
+    }
+    if rules.steady_pins {
+        say(b"\tsteady-pins");
+    }
+    say(b"\n");
 }
 
 // The words from argument `first` on are patterns.

@@ -54,8 +54,8 @@ fn tell_untold(n: usize) {
 }
 
 // A pattern's alternatives; tests that have no text are told of.
-fn rewrite(names: &[u8], text: &[u8], out: &mut [u8]) -> Outcome {
-    let l = alternatives_text(names, text, out);
+fn rewrite(rules: Rules, names: &[u8], text: &[u8], out: &mut [u8]) -> Outcome {
+    let l = alternatives_text(rules, names, text, out);
     let written = l.written;
     tell_untold(l.untold);
     written
@@ -76,7 +76,7 @@ fn ask(
     if c == VALUES {
         return values_text(rules, names, times, states, text, out);
     }
-    rewrite(names, text, out)
+    rewrite(rules, names, text, out)
 }
 
 fn told(

@@ -7,6 +7,7 @@ use mathlib.Core.Path.{_≡_, refl, sym, ap, _∙_}
 use mathlib.Core.Bool.{Bool, true, false}
 use mathlib.Core.List.{List}
 use lib.ListN.{length}
+use Rattle.alf.specs.declared.Rules.{Rules}
 use Rattle.alf.specs.declared.Sort.{Sort}
 use Rattle.alf.specs.declared.Sort.the-variants.{Boolean, Vector}
 use Rattle.alf.specs.Expressions.{Expression, boolean, vector}
@@ -40,8 +41,9 @@ sort-stable Vector Boolean f = absurd (f (λ e. apart e))
     apart e = let z : _≡_ {A = ℕ} 0 1 = cc in omega arith
 sort-stable Vector Vector f = refl
 
-module _ (names : ℕ) (sort : Sort) (tree : List ℕ) (f : (Accepted names sort tree → ⊥) → ⊥) where
-  from-decoded : (e : Expression) → Decodes names tree e → Accepted names sort tree
+module _ (ρ : Rules) (names : ℕ) (sort : Sort) (tree : List ℕ)
+    (f : (Accepted ρ names sort tree → ⊥) → ⊥) where
+  from-decoded : (e : Expression) → Decodes names tree e → Accepted ρ names sort tree
   from-decoded e h =
       record {
         expression = e;
@@ -49,17 +51,17 @@ module _ (names : ℕ) (sort : Sort) (tree : List ℕ) (f : (Accepted names sort
         sorted = sort-stable (sortOf e) sort (λ n. f (λ a. n (ap sortOf (same a) ∙ a .sorted)));
         tokens = le-stable (length tree) 256 (λ n. f (λ a. n (a .tokens)));
         brackets = le-stable (depthOf e) 32 (λ n. f (λ a. n (rw (same a) (a .brackets))));
-        sized = test-stable (overSize e) (λ n. f (λ a. n (ap overSize (same a) ∙ a .sized)));
+        sized = test-stable (overSize ρ e) (λ n. f (λ a. n (ap (overSize ρ) (same a) ∙ a .sized)));
       }
     where
-      same : (a : Accepted names sort tree) → e ≡ a .expression
+      same : (a : Accepted ρ names sort tree) → e ≡ a .expression
       same a = decode-unique names tree e (a .expression) h (accepted-decodes a)
 
-  from-kind : (k : Kind) → Holds k (Decodes names tree) → Accepted names sort tree
+  from-kind : (k : Kind) → Holds k (Decodes names tree) → Accepted ρ names sort tree
   unfolding Holds
   from-kind kind.Boolean (c, h) = from-decoded (boolean c) h
   from-kind kind.Vector (p, h) = from-decoded (vector p) h
   from-kind kind.Neither h = absurd (f (λ a. h (a .expression) (accepted-decodes a)))
 
-  pub accepted-stable : Accepted names sort tree
+  pub accepted-stable : Accepted ρ names sort tree
   accepted-stable = from-kind (treeKind tree names) (kind-decodes tree names)

@@ -12,10 +12,12 @@ use mathlib.Core.Bool.{Bool, true, false}
 use mathlib.Core.List.{List}
 use lib.ListN.{length}
 use Rattle.alf.specs.Names.{namesIn}
+use Rattle.alf.specs.declared.Rules.{Rules}
 use Rattle.alf.specs.declared.Sort.{Sort}
 use Rattle.alf.specs.declared.Sort.the-variants as the-sort
 use Rattle.alf.specs.Expressions.{Expression, boolean, vector, ExpressionOver}
 use Rattle.alf.specs.Alternatives.{alternatives, overLimit}
+use Rattle.alf.specs.Steady.{meant}
 use Rattle.alf.specs.Bytes.{bytesOf}
 use Rattle.alf.specs.Decoder.{Decodes}
 use Rattle.alf.specs.Refusals.{Passed}
@@ -66,17 +68,17 @@ given-fits sort b (is x) y e = asked-fits sort b x y e
 given-fits sort b (faulty p) y e = let z : _≡_ {A = ℕ} 0 1 = cc in absurd (omega arith)
 
 -- limit 8
-small-sized : (x : Expression) → ((p : ℕ) → tooLarge (is x) p → ⊥) → overSize x ≡ false
+small-sized : (ρ : Rules) (x : Expression) → ((p : ℕ) → tooLarge ρ (is x) p → ⊥) → overSize ρ x ≡ false
 unfolding tooLarge overSize
-small-sized (boolean c) small = refl
-small-sized (vector p) small = go (overLimit (alternatives p)) refl
+small-sized ρ (boolean c) small = refl
+small-sized ρ (vector p) small = go (overLimit (alternatives (meant ρ p))) refl
   where
-    go : (b : Bool) → overLimit (alternatives p) ≡ b → overLimit (alternatives p) ≡ false
+    go : (b : Bool) → overLimit (alternatives (meant ρ p)) ≡ b → overLimit (alternatives (meant ρ p)) ≡ false
     go true e = absurd (small 0 (record { given = e; there = refl }))
     go false e = e
 
-module _ {names text : List ℕ} {sort : Sort} {x : Expression} (good : Passed (namesOrder names))
-    (g : Gives names text sort x) where
+module _ {ρ : Rules} {names text : List ℕ} {sort : Sort} {x : Expression} (good : Passed (namesOrder names))
+    (g : Gives ρ names text sort x) where
   formed : Formed (g .tree)
   formed = expression-formed (g .whole)
 
@@ -112,7 +114,7 @@ module _ {names text : List ℕ} {sort : Sort} {x : Expression} (good : Passed (
   pub gives-decodes : Decodes (namesIn names) (bytesOf x) x
   gives-decodes = decode-bytes (namesIn names) (names-few names good) x over
 
-  pub gives-accepted : Accepted (namesIn names) sort (bytesOf x)
+  pub gives-accepted : Accepted ρ (namesIn names) sort (bytesOf x)
   gives-accepted =
       record {
         expression = x;
@@ -120,5 +122,5 @@ module _ {names text : List ℕ} {sort : Sort} {x : Expression} (good : Passed (
         sorted = fits .sort-is;
         tokens = few-bytes;
         brackets = few-brackets;
-        sized = small-sized x (g .small);
+        sized = small-sized ρ x (g .small);
       }

@@ -14,6 +14,7 @@ use mathlib.Core.Bool.{Bool, true, false}
 use mathlib.Core.List.{List}
 use lib.ListN.{length, take, replicate, length-take}
 use Rattle.alf.specs.Names.{namesIn}
+use Rattle.alf.specs.declared.Rules.{Rules}
 use Rattle.alf.specs.declared.Sort.{Sort}
 use Rattle.alf.specs.declared.Sort.the-variants as the-sort
 use Rattle.alf.specs.Expressions.{Boolean, Vector, Expression, boolean, vector}
@@ -36,29 +37,30 @@ use Rattle.reader.proofs.Unique.{read-fixed}
 use Rattle.text_laws.proofs.GivenAccepted.{gives-accepted, gives-decodes}
 
 -- the text is refused
-pub read-refused : {names text : List ℕ} {sort : Sort} {r : Read} → ReadsText names text sort r → r .refused ≡ true
-    → RefusedIn text (readOrder names text sort) (r .refusal)
+pub read-refused : {ρ : Rules} {names text : List ℕ} {sort : Sort} {r : Read}
+    → ReadsText ρ names text sort r → r .refused ≡ true
+    → RefusedIn text (readOrder ρ names text sort) (r .refusal)
 unfolding made refusedBy
 read-refused (refused f a) e = a
 read-refused (read a g) e = never e
 
-pub read-sole : (names text : List ℕ) (sort : Sort) → Sole (readOrder names text sort)
-read-sole names text sort = sole-fixed (readOrder names text sort) (read-fixed names text sort)
+pub read-sole : (ρ : Rules) (names text : List ℕ) (sort : Sort) → Sole (readOrder ρ names text sort)
+read-sole ρ names text sort = sole-fixed (readOrder ρ names text sort) (read-fixed ρ names text sort)
 
 -- the text is not refused
-pub record Found (names text : List ℕ) (sort : Sort) (r : Read) : Type 0 where
-  pub passed : Passed (readOrder names text sort)
+pub record Found (ρ : Rules) (names text : List ℕ) (sort : Sort) (r : Read) : Type 0 where
+  pub passed : Passed (readOrder ρ names text sort)
   pub it : Expression
-  pub gives : Gives names text sort it
+  pub gives : Gives ρ names text sort it
   pub is-it : r ≡ made it
 
-pub read-found : {names text : List ℕ} {sort : Sort} {r : Read} → ReadsText names text sort r → r .refused ≡ false
-    → Found names text sort r
+pub read-found : {ρ : Rules} {names text : List ℕ} {sort : Sort} {r : Read}
+    → ReadsText ρ names text sort r → r .refused ≡ false → Found ρ names text sort r
 unfolding made refusedBy
 read-found (refused f a) e = never (sym e)
 read-found (read {x = x} a g) e = record { passed = a; it = x; gives = g; is-it = refl }
 
-module _ {names text : List ℕ} {sort : Sort} {r : Read} (f : Found names text sort r) where
+module _ {ρ : Rules} {names text : List ℕ} {sort : Sort} {r : Read} (f : Found ρ names text sort r) where
   pub found-front : take (r .len) (r .tree) ≡ bytesOf (f .it)
   unfolding made
   found-front = rw (f .is-it) (front-take (replicate 256 0) (bytesOf (f .it)) (length (bytesOf (f .it))) refl)
@@ -73,7 +75,7 @@ module _ {names text : List ℕ} {sort : Sort} {r : Read} (f : Found names text 
   found-names : Passed (namesOrder names)
   found-names = passed-left (namesOrder names) _ (f .passed)
 
-  pub found-accepted : Accepted (namesIn names) sort (take (r .len) (r .tree))
+  pub found-accepted : Accepted ρ (namesIn names) sort (take (r .len) (r .tree))
   found-accepted = rw found-front (gives-accepted found-names (f .gives))
 
   pub found-few : r .len ≤ 256
@@ -110,14 +112,16 @@ unfolding sortOf isVector
 sorted-boolean (boolean c) s = record { c = c; is-boolean = refl }
 sorted-boolean (vector p) s = never (sym (ap isVector s))
 
-pub found-boolean : {names text : List ℕ} {r : Read} (f : Found names text the-sort.Boolean r) → IsBoolean (f .it)
+pub found-boolean : {ρ : Rules} {names text : List ℕ} {r : Read} (f : Found ρ names text the-sort.Boolean r)
+    → IsBoolean (f .it)
 found-boolean f = sorted-boolean (f .it) (found-sort f)
 
-pub found-vector : {names text : List ℕ} {r : Read} (f : Found names text the-sort.Vector r) → IsVector (f .it)
+pub found-vector : {ρ : Rules} {names text : List ℕ} {r : Read} (f : Found ρ names text the-sort.Vector r)
+    → IsVector (f .it)
 found-vector f = sorted-vector (f .it) (found-sort f)
 
-module _ {names text : List ℕ} {r : Read} (f : Found names text the-sort.Vector r) where
-  pub vector-given : Gives names text the-sort.Vector (vector (found-vector f .p))
+module _ {ρ : Rules} {names text : List ℕ} {r : Read} (f : Found ρ names text the-sort.Vector r) where
+  pub vector-given : Gives ρ names text the-sort.Vector (vector (found-vector f .p))
   vector-given = rw (found-vector f .is-vector) at (f .gives)
 
   pub vector-decodes : Decodes (namesIn names) (take (r .len) (r .tree)) (vector (found-vector f .p))

@@ -1,8 +1,13 @@
--- Reading what was written, for every list of names, tree and buffer.
+-- Reading what was written, for every list of names, tree and buffer. A tree is written under document 01's limits,
+-- and its text is read under those of some rules. So reading it back asks that these rules accept the tree; document
+-- 01's accept each that is written.
+--   was-written          what is known of a tree that was written
 --   written-read         a written text is read as the expression that the tree is
 --   read-write           so reading a written text gives the tree, byte for byte
+--   read-write-plain     under document 01's rules that holds of all that is written
+--   read-back            what is read of a written text under some rules, if it is not refused, is the tree
 --   read-again           writing what was read and reading it again gives the same result
---   written-within       a tree whose text has at most 4,096 bytes is written, given room
+--   written-within       a tree that some rules accept, with a text of at most 4,096 bytes, is written, given room
 --   refused-past-limit   one whose text has more is refused with 1 at 4,096
 --   one-pair-less        the tokens of a written text with a pair of brackets left out are another tree, or none
 use Prim.Native.Nat.{ℕ, _<_, _≤_}
@@ -14,7 +19,9 @@ use mathlib.Core.Logic.{_⊎_, inl, inr}
 use lib.ListN.{length, take, replicate}
 use lib.Seq.{take-at}
 use Rattle.alf.specs.Names.{namesIn}
+use Rattle.alf.specs.declared.Rules.{Rules}
 use Rattle.alf.specs.declared.Sort.{Sort}
+use Rattle.alf.specs.Values.{oldRules}
 use Rattle.basics.specs.Refusing.{refusal}
 use Rattle.basics.specs.declared.Outcome.{Outcome}
 use Rattle.basics.specs.declared.Outcome.the-variants.{Done, Refused}
@@ -38,21 +45,24 @@ use Rattle.reader.specs.declared.Read.{Read}
 use Rattle.reader.specs.Texts.{tokensOf}
 use Rattle.reader.specs.Reads.{made}
 use Rattle.reader.specs.Reading.{ReadsText}
-use Rattle.reader.proofs.Unique.{read-unique, read-sound, gives-read}
+use Rattle.reader.proofs.Unique.{gives-unique, read-unique, read-sound, gives-read}
 use Rattle.writer.specs.Trees.{treeOf}
 use Rattle.writer.specs.Trees.{text}
 use Rattle.writer.specs.Writing.{textAt, order, Writes, Named, endOrder}
 use Rattle.basics.specs.Memory.{after, front}
 use Rattle.acceptance.proofs.Acceptance.{accepted-bytes}
 use Rattle.writer.proofs.Theorems.{text-tokens, text-parses, writes-unique}
+use Rattle.acceptance.proofs.AnyRules.{accepted-old}
+use Rattle.text_laws.proofs.AnyRules.{gives-written}
 use Rattle.text_laws.proofs.AcceptedStable.{accepted-stable}
+use Rattle.text_laws.proofs.GivenAccepted.{gives-accepted}
 use Rattle.text_laws.proofs.WrittenGives.{written-gives, codes-there}
 use Rattle.text_laws.proofs.NeededPairs.{pair-left-out}
 
 -- a tree that was written: names and tree were good, and the text is the tree's
 pub record Written (names tree : List ℕ) (sort : Sort) (bytes : List ℕ) : Type 0 where
   pub named : Named names
-  pub accepted : Accepted (namesIn names) sort tree
+  pub accepted : Accepted oldRules (namesIn names) sort tree
   pub is : bytes ≡ textAt names tree
   pub short : length bytes ≤ 4096
 
@@ -71,7 +81,8 @@ was-written {names} {tree} {sort} {k = k} w =
     let front = ap (take k) (w .memory) ∙ take-at (textAt names tree) _ k (sym (w .outcome .1)) in
     record {
       named = record { passed = (p .0, (p .1 .0, tt)) };
-      accepted = accepted-stable (namesIn names) sort tree (λ f. p .1 .1 .0 0 (record { given = f; there = refl }));
+      accepted =
+          accepted-stable oldRules (namesIn names) sort tree (λ f. p .1 .1 .0 0 (record { given = f; there = refl }));
       is = front;
       short = rw front (not-long (length (textAt names tree)) (p .1 .1 .1 .0));
     }
@@ -97,20 +108,32 @@ made-as x e b =
       all = ap (λ (s : Read). s .tree) e ∙ ap padded b;
     }
 
-pub written-read : {names tree : List ℕ} {sort : Sort} {out out′ : List ℕ} {k : ℕ}
-    → Writes names tree sort out out′ (Done k)
-    → ReadsText names (take k out′) sort (made (expressionAt tree (namesIn names) (length tree)))
-written-read w =
+pub written-read : {ρ : Rules} {names tree : List ℕ} {sort : Sort} {out out′ : List ℕ} {k : ℕ}
+    → Accepted ρ (namesIn names) sort tree → Writes names tree sort out out′ (Done k)
+    → ReadsText ρ names (take k out′) sort (made (expressionAt tree (namesIn names) (length tree)))
+written-read a w =
     let g = was-written w in
-    rw (g .is) (gives-read (g .named .passed) (rw (g .is) at (g .short)) (written-gives (g .named) (g .accepted)))
+    rw (g .is) (gives-read (g .named .passed) (rw (g .is) at (g .short)) (written-gives (g .named) a))
 
-pub read-write : {names tree : List ℕ} {sort : Sort} {out out′ : List ℕ} {k : ℕ} {r : Read}
-    → Writes names tree sort out out′ (Done k) → ReadsText names (take k out′) sort r → ReadAs tree r
-read-write {names} {tree} {sort} w v =
-    let a = was-written w .accepted in
-    let n = namesIn names in
-    made-as (expressionAt tree n (length tree)) (read-unique v (written-read w))
-    (accepted-bytes a)
+pub read-write : {ρ : Rules} {names tree : List ℕ} {sort : Sort} {out out′ : List ℕ} {k : ℕ} {r : Read}
+    → Accepted ρ (namesIn names) sort tree → Writes names tree sort out out′ (Done k)
+    → ReadsText ρ names (take k out′) sort r → ReadAs tree r
+read-write {names = names} {tree = tree} a w v =
+    made-as (expressionAt tree (namesIn names) (length tree)) (read-unique v (written-read a w)) (accepted-bytes a)
+
+pub read-write-plain : {names tree : List ℕ} {sort : Sort} {out out′ : List ℕ} {k : ℕ} {r : Read}
+    → Writes names tree sort out out′ (Done k) → ReadsText oldRules names (take k out′) sort r → ReadAs tree r
+read-write-plain w v = read-write (was-written w .accepted) w v
+
+pub read-back : {ρ : Rules} {names tree : List ℕ} {sort : Sort} {out out′ : List ℕ} {k : ℕ} {r : Read}
+    → Writes names tree sort out out′ (Done k) → ReadsText ρ names (take k out′) sort r → r .refused ≡ false
+    → ReadAs tree r
+read-back w v e =
+    let g = was-written w in
+    let s = read-sound v e in
+    made-as (s .it) (s .is-it)
+    (ap bytesOf (gives-unique (gives-written (s .gives)) (rw (g .is) (written-gives (g .named) (g .accepted))))
+    ∙ accepted-bytes (g .accepted))
 
 -- what is read is told by its bytes alone
 abbrev readOf : List ℕ → Read
@@ -125,19 +148,20 @@ tree-of : (x : Expression) → take (made x .len) (made x .tree) ≡ bytesOf x
 unfolding made
 tree-of x = front-take (replicate 256 0) (bytesOf x) (length (bytesOf x)) refl
 
-pub read-again : {names bytes : List ℕ} {sort : Sort} {q r : Read} {out out′ : List ℕ} {k : ℕ}
-    → ReadsText names bytes sort q → q .refused ≡ false
-    → Writes names (take (q .len) (q .tree)) sort out out′ (Done k) → ReadsText names (take k out′) sort r
+pub read-again : {ρ : Rules} {names bytes : List ℕ} {sort : Sort} {q r : Read} {out out′ : List ℕ} {k : ℕ}
+    → ReadsText ρ names bytes sort q → q .refused ≡ false
+    → Writes names (take (q .len) (q .tree)) sort out out′ (Done k) → ReadsText ρ names (take k out′) sort r
     → r ≡ q
 read-again {q = q} u n w v =
     let s = read-sound u n in
-    let a = read-write w v in
-    let b = a .bytes ∙ ap (λ (z : Read). take (z .len) (z .tree)) (s .is-it) ∙ tree-of (s .it) in
+    let front = ap (λ (z : Read). take (z .len) (z .tree)) (s .is-it) ∙ tree-of (s .it) in
+    let a = read-write (rw front (gives-accepted (s .good) (s .gives))) w v in
+    let b = a .bytes ∙ front in
     a .is-it ∙ made-same (a .it) (s .it) b ∙ sym (s .is-it)
 
 -- within the limit of 4,096 bytes, and past it
-module _ {names tree : List ℕ} {sort : Sort} {out out′ : List ℕ} {r : Outcome} (h : Named names)
-    (a : Accepted (namesIn names) sort tree) (w : Writes names tree sort out out′ r) where
+module _ {ρ : Rules} {names tree : List ℕ} {sort : Sort} {out out′ : List ℕ} {r : Outcome} (h : Named names)
+    (a : Accepted ρ (namesIn names) sort tree) (w : Writes names tree sort out out′ r) where
   pub written-within : length (textAt names tree) ≤ 4096 → length (textAt names tree) ≤ length out
       → (r ≡ Done (length (textAt names tree))) × (out′ ≡ front (textAt names tree) out)
   unfolding Comes Passed order endOrder after
@@ -147,7 +171,7 @@ module _ {names tree : List ℕ} {sort : Sort} {out out′ : List ℕ} {r : Outc
       in
       writes-unique {s = Done (length (textAt names tree))} w
       (record {
-        outcome = ((h .passed .0, (h .passed .1 .0, ((λ p y. y .given a), fits))), refl);
+        outcome = ((h .passed .0, (h .passed .1 .0, ((λ p y. y .given (accepted-old a)), fits))), refl);
         memory = refl;
       })
 
@@ -161,7 +185,10 @@ module _ {names tree : List ℕ} {sort : Sort} {out out′ : List ℕ} {r : Outc
             record {
               by = inr (
                 h .passed .0,
-                inr (h .passed .1 .0, inr ((λ p y. y .given a), inl (refl, record { given = l; there = refl }))),
+                inr (
+                  h .passed .1 .0,
+                  inr ((λ p y. y .given (accepted-old a)), inl (refl, record { given = l; there = refl })),
+                ),
               );
               bare = refl;
             };

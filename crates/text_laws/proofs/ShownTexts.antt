@@ -15,6 +15,7 @@ use lib.ListN.{length, getD, take, drop, length-append, length-drop, List·getD-
 use lib.Seq.{getD-drop, take-append-seam, drop-cons}
 use Rattle.basics.specs.declared.Refusal.{Refusal}
 use Rattle.basics.proofs.Bools.{never, below?, or-right}
+use Rattle.alf.specs.declared.Rules.{Rules}
 use Rattle.alf.specs.declared.Sort.{Sort}
 use Rattle.alf.specs.States.{among}
 use Rattle.alf.specs.Refusals.{RefusedWith, Passed, numbersOf}
@@ -126,14 +127,14 @@ module _ (text : List ℕ) where
       go (inr h) = inr (ap isBlank (sym (getD-drop p text (toBlank (drop p text)) 0)) ∙ h)
 
 -- 2 is given where bytes form no token
-module _ (names text : List ℕ) (sort : Sort) where
+module _ (ρ : Rules) (names text : List ℕ) (sort : Sort) where
   no-name : (p : ℕ) → RefusedWith (namesOrder names) 2 p → ⊥
   unfolding numbersOf among
   no-name p h = contrary (refused-among (namesOrder names) 2 p h) refl
 
-  no-tree : (p : ℕ) → RefusedWith (treeOrder names text sort) 2 p → ⊥
+  no-tree : (p : ℕ) → RefusedWith (treeOrder ρ names text sort) 2 p → ⊥
   unfolding numbersOf among treeOrder
-  no-tree p h = contrary (refused-among (treeOrder names text sort) 2 p h) refl
+  no-tree p h = contrary (refused-among (treeOrder ρ names text sort) 2 p h) refl
 
   by-order : (p : ℕ) → RefusedWith (order text) 2 p → Stuck 0 text p
   unfolding RefusedWith order
@@ -143,19 +144,19 @@ module _ (names text : List ℕ) (sort : Sort) where
   by-order p (inr (a, inr (b, inr (c, inl x)))) = let e = x .0 in absurd (omega arith)
   by-order p (inr (a, inr (b, inr (c, inr x)))) = absurd (x .1)
 
-  two-stuck : (p : ℕ) → RefusedWith (readOrder names text sort) 2 p → Stuck 0 text p
+  two-stuck : (p : ℕ) → RefusedWith (readOrder ρ names text sort) 2 p → Stuck 0 text p
   two-stuck p h = go (refused-either (namesOrder names) _ 2 p h)
     where
-      on : RefusedWith (order text) 2 p ⊎ (Passed (order text) × RefusedWith (treeOrder names text sort) 2 p)
+      on : RefusedWith (order text) 2 p ⊎ (Passed (order text) × RefusedWith (treeOrder ρ names text sort) 2 p)
           → Stuck 0 text p
       on (inl x) = by-order p x
       on (inr x) = absurd (no-tree p (x .1))
 
       go : RefusedWith (namesOrder names) 2 p
-          ⊎ (Passed (namesOrder names) × RefusedWith (order text ++ treeOrder names text sort) 2 p)
+          ⊎ (Passed (namesOrder names) × RefusedWith (order text ++ treeOrder ρ names text sort) 2 p)
           → Stuck 0 text p
       go (inl x) = absurd (no-name p x)
-      go (inr x) = on (refused-either (order text) (treeOrder names text sort) 2 p (x .1))
+      go (inr x) = on (refused-either (order text) (treeOrder ρ names text sort) 2 p (x .1))
 
 -- the bytes of a token
 by-token : {text : List ℕ} {n p k : ℕ} → Extent text n p k → among n OfToken ≡ true
@@ -171,20 +172,21 @@ by-token (at-end g q f) h = inr (q, f)
 by-token {n = n} (other g f) h = absurd (contrary h (or-right (eqb n 2) _ g))
 
 -- the theorem
-pub refusal-shows : {names text : List ℕ} {sort : Sort} {r : Read} → ReadsText names text sort r → r .refused ≡ true
+pub refusal-shows : {ρ : Rules} {names text : List ℕ} {sort : Sort} {r : Read}
+    → ReadsText ρ names text sort r → r .refused ≡ true
     → ShownAs text (r .refusal .number) (r .refusal .place) (r .refusal .extent)
 unfolding made refusedBy
-refusal-shows {names} {text} {sort} (refused r h) e =
+refusal-shows {ρ} {names} {text} {sort} (refused r h) e =
     record {
       of-bytes = λ n. two r h n;
       of-token = λ n. by-token (h .shows) n;
       of-others = λ n. extent-unique text _ _ (h .shows) (other n refl);
     }
   where
-    two : (r : Refusal) → RefusedIn text (readOrder names text sort) r → r .number ≡ 2
+    two : (r : Refusal) → RefusedIn text (readOrder ρ names text sort) r → r .number ≡ 2
         → RunsToBlank text (r .place) (r .extent)
     two r h n =
-        let s = two-stuck names text sort (r .place) (rw n at (h .by)) in
+        let s = two-stuck ρ names text sort (r .place) (rw n at (h .by)) in
         let k = extent-unique text (r .number) (r .place) (h .shows) (to-blank n refl) in
         rw k (runs-to-blank text (r .place) (stuck-byte text s refl))
 refusal-shows (read a g) e = never e

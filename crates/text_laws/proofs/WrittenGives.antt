@@ -8,6 +8,7 @@ use mathlib.Core.Bool.{false}
 use mathlib.Core.List.{List, map}
 use lib.ListN.{length}
 use Rattle.alf.specs.Names.{namesIn}
+use Rattle.alf.specs.declared.Rules.{Rules}
 use Rattle.alf.specs.declared.Sort.{Sort}
 use Rattle.alf.specs.Expressions.{Expression, boolean, vector, ExpressionOver}
 use Rattle.alf.specs.Bytes.{bytesOf}
@@ -50,10 +51,10 @@ asked-is (boolean c) bytes = refl
 asked-is (vector p) bytes = refl
 
 -- within limit 8
-never-large : (x : Expression) → overSize x ≡ false → (p : ℕ) → tooLarge (is x) p → ⊥
+never-large : (ρ : Rules) (x : Expression) → overSize ρ x ≡ false → (p : ℕ) → tooLarge ρ (is x) p → ⊥
 unfolding tooLarge overSize
-never-large (boolean c) h p l = l
-never-large (vector v) h p l = never (sym h ∙ l .given)
+never-large ρ (boolean c) h p l = l
+never-large ρ (vector v) h p l = never (sym h ∙ l .given)
 
 -- of an expression over checked names, within the limits of a text's tokens, brackets and alternatives
 module _ {names : List ℕ} (h : Named names) (x : Expression) (o : ExpressionOver (namesIn names) x) where
@@ -98,10 +99,10 @@ module _ {names : List ℕ} (h : Named names) (x : Expression) (o : ExpressionOv
       ∙ counted-renumbered (λ k. k) written-tokens
       ∙ omega (arith, counted-nodes (text-parses h x o), nodes-bytes x)
 
-  pub text-gives : length (bytesOf x) ≤ 256 → depthOf x ≤ 32 → overSize x ≡ false
-      → Gives names (text names x) (sortOf x) x
+  pub text-gives : (ρ : Rules) → length (bytesOf x) ≤ 256 → depthOf x ≤ 32 → overSize ρ x ≡ false
+      → Gives ρ names (text names x) (sortOf x) x
   unfolding text sortedFor given
-  text-gives few shallow small =
+  text-gives ρ few shallow small =
       record {
         tokens = there;
         read = text-tokens h x o;
@@ -111,16 +112,18 @@ module _ {names : List ℕ} (h : Named names) (x : Expression) (o : ExpressionOv
         whole = tree-there .whole;
         known = none-unknown h (text names x) known refl;
         sorts = rw (matched-sorted (namesIn names) number x o tree-there) (asked-is x _);
-        small = never-large x small;
+        small = never-large ρ x small;
       }
 
 -- of a tree that is accepted
-pub written-gives : {names tree : List ℕ} {sort : Sort} → Named names → Accepted (namesIn names) sort tree
-    → Gives names (textAt names tree) sort (expressionAt tree (namesIn names) (length tree))
+pub written-gives : {ρ : Rules} {names tree : List ℕ} {sort : Sort} → Named names
+    → Accepted ρ (namesIn names) sort tree
+    → Gives ρ names (textAt names tree) sort (expressionAt tree (namesIn names) (length tree))
 unfolding textAt
-written-gives {names} {tree} {sort} h a =
+written-gives {ρ} {names} {tree} {sort} h a =
     let n = namesIn names in
     let x = a .expression in
     let b = ap length (bytes-decode n tree x (accepted-decodes a)) in
     rw (decoded n tree x (accepted-decodes a), ← a .sorted)
-    (text-gives h x (decode-over n tree x (accepted-decodes a)) (omega (arith, a .tokens)) (a .brackets) (a .sized))
+    (text-gives h x (decode-over n tree x (accepted-decodes a)) ρ (omega (arith, a .tokens)) (a .brackets)
+    (a .sized))

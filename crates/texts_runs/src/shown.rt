@@ -7,6 +7,7 @@ use run_printing::printing::character;
 use run_printing::printing::refused;
 use run_printing::printing::write;
 use run_printing::texts::say_text;
+use states::rules::old_rules;
 use text_parts::parts::front;
 use writer::write_expression;
 
@@ -60,7 +61,7 @@ pub fn show_tree(names: &[u8], text: &[u8], tree: &[u8], sort: Sort, room: usize
 
 // What a text is read as over a list of names, or its refusal.
 pub fn show(names: &[u8], text: &[u8], sort: Sort) {
-    let r = read_expression(names, text, sort);
+    let r = read_expression(old_rules(), names, text, sort);
     let refused = r.refused;
     if refused {
         let refusal = r.refusal;

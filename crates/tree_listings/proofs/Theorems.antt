@@ -24,30 +24,30 @@ use Rattle.column_listings.proofs.Theorems.{listed-totals}
 use Rattle.tree_listings.specs.TreeTexts.{patternListing, totalsLine, textOrder, ListsTree, LinesTree}
 
 -- an outcome by such an order is one
-text-unique : (lists : Type 0) (names : ℕ) (tree states text : List ℕ) (room : ℕ) (r s : Outcome)
-    → Comes (textOrder lists names tree states text room) (λ m. m ≡ length text) r
-    → Comes (textOrder lists names tree states text room) (λ m. m ≡ length text) s
+text-unique : (ρ : Rules) (lists : Type 0) (names : ℕ) (tree states text : List ℕ) (room : ℕ) (r s : Outcome)
+    → Comes (textOrder ρ lists names tree states text room) (λ m. m ≡ length text) r
+    → Comes (textOrder ρ lists names tree states text room) (λ m. m ≡ length text) s
     → r ≡ s
-text-unique lists names tree states text room r s a b =
-    let f : AllFixed (textOrder lists names tree states text room) =
+text-unique ρ lists names tree states text room r s a b =
+    let f : AllFixed (textOrder ρ lists names tree states text room) =
     (at-fixed _ _, (at-fixed _ _, (first-fixed _, (at-fixed _ _, tt)))) in
-    comes-unique (textOrder lists names tree states text room) _ f (λ j k p q. p ∙ sym q) r s a b
+    comes-unique (textOrder ρ lists names tree states text room) _ f (λ j k p q. p ∙ sym q) r s a b
 
 module _ {names n : ℕ} {tree states out x y : List ℕ} {r s : Outcome} where
   pub list-unique : {ρ : Rules} {times : List ℕ} → ListsTree ρ names n tree times states out x r
       → ListsTree ρ names n tree times states out y s
       → (r ≡ s) × (x ≡ y)
   list-unique {ρ} {times} a b =
-      let shown = patternListing ρ names times states (expression tree names) in
-      let e = text-unique _ names tree states shown (length out) r s (a .comes) (b .comes) in
+      let shown = patternListing ρ names times states (expression ρ tree names) in
+      let e = text-unique ρ _ names tree states shown (length out) r s (a .comes) (b .comes) in
       (e, after-unique _ out e (a .memory) (b .memory))
 
   pub line-unique : {ρ : Rules} {shown : List ℕ} → LinesTree ρ names n tree states shown out x r
       → LinesTree ρ names n tree states shown out y s
       → (r ≡ s) × (x ≡ y)
   line-unique {ρ} {shown} a b =
-      let line = totalsLine ρ names n states shown (expression tree names) in
-      let e = text-unique _ names tree states line (length out) r s (a .comes) (b .comes) in
+      let line = totalsLine ρ names n states shown (expression ρ tree names) in
+      let e = text-unique ρ _ names tree states line (length out) r s (a .comes) (b .comes) in
       (e, after-unique _ out e (a .memory) (b .memory))
 
 -- the listing of a pattern, its last line by the totals

@@ -50,16 +50,16 @@ use Rattle.tree_listings.specs.TreeTexts.{patternListing, totalsLine, te
 use Rattle.tree_listings.specs.TreeTexts.{Answered, Filling}
 
 -- 18, 10 or 15; and 9 behind them
-module _ (lists : Type 0) (names : ℕ) (tree states text : List ℕ) where
+module _ (ρ : Rules) (lists : Type 0) (names : ℕ) (tree states text : List ℕ) where
   abbrev checks : Order
-  checks = order lists (Accepted names sort.Vector tree) (codes states)
+  checks = order lists (Accepted ρ names sort.Vector tree) (codes states)
 
   text-refused : (room : ℕ) (r : Refusal) → RefusedBy checks r
-      → RefusedBy (textOrder lists names tree states text room) r
+      → RefusedBy (textOrder ρ lists names tree states text room) r
   text-refused room r h = by-first checks (lineOrder text room) h
 
   text-written : (room : ℕ) (r : Outcome) → Passed checks → Comes (lineOrder text room) (λ m. m ≡ length text) r
-      → Comes (textOrder lists names tree states text room) (λ m. m ≡ length text) r
+      → Comes (textOrder ρ lists names tree states text room) (λ m. m ≡ length text) r
   unfolding Comes
   text-written room (outcome.Done m) p c = (passed-both checks (lineOrder text room) p (c .0), c .1)
   text-written room (outcome.Refused r) p c = by-then checks (lineOrder text room) p c
@@ -69,8 +69,8 @@ pub listed-most : (most n : ℕ) (f : ℕ → ℕ) → ((i : ℕ) → f i ≤ mo
     → getD (listed 0 n f) i 0 ≤ most
 listed-most most n f h i l = rw (listed-at n i f 0 (omega (arith, listed-length 0 n f))) (h i)
 
-module _ {names n : ℕ} {tree states answers : List ℕ} (f : Filling names n tree states answers) where
-  module _ {a : Alternatives} (h : Holds tree names a) where
+module _ {ρ : Rules} {names n : ℕ} {tree states answers : List ℕ} (f : Filling ρ names n tree states answers) where
+  module _ {a : Alternatives} (h : Holds ρ tree names a) where
     pub answers-asked : RewriteAsked tree names states (take (a .count) (a .steps))
         (take (a .«step_count») (a .tests)) (take (a .«test_count») (a .edges))
         (take (a .«test_count») (a .operands)) n 0 n answers
@@ -81,15 +81,15 @@ module _ {names n : ℕ} {tree states answers : List ℕ} (f : Filling names n t
           room = omega (arith, f .size);
         }
 
-    pub answers-filled : (ρ : Rules) {answers′ : List ℕ}
+    pub answers-filled : {answers′ : List ℕ}
         → answers′ ≡ placed answers 0 (listed 0 n (answerOf (stateAt ρ names states) (xs h)))
         → answers′ ≡ listed 0 n (answersOn ρ names tree states)
-    answers-filled ρ e =
+    answers-filled e =
         e ∙ placed-whole answers _ (listed-length 0 n _ ∙ sym (f .size))
-        ∙ ap (λ (g : ℕ → ℕ). listed 0 n g) (numbers-on h _ states)
+        ∙ ap (λ (g : ℕ → ℕ). listed 0 n g) (numbers-on h states)
 
 module _ (ρ : Rules) (times : List ℕ) {names : ℕ} {tree states answers answers′ : List ℕ}
-    (f : Filling names (length times) tree states answers)
+    (f : Filling ρ names (length times) tree states answers)
     (e : answers′ ≡ listed 0 (length times) (answersOn ρ names tree states)) where
   pub answers-listable : Listable 3 times answers′
   answers-listable =
@@ -104,45 +104,45 @@ module _ (ρ : Rules) (times : List ℕ) {names : ℕ} {tree states answers answ
       })
 
   pub answers-listed : {out out′ : List ℕ} {r : Outcome} → Delivers (listing times answers′) out out′ r
-      → Delivers (patternListing ρ names times states (expression tree names)) out out′ r
+      → Delivers (patternListing ρ names times states (expression ρ tree names)) out out′ r
   unfolding patternListing
   answers-listed d = rw e at d
 
 -- The listing, by the verdict.
-module _ {names n : ℕ} {tree states : List ℕ} (times : List ℕ) {v : Verdict}
-    (c : ChecksRows names n (eqb (length times) n) tree sort.Vector states v) where
+module _ {ρ : Rules} {names n : ℕ} {tree states : List ℕ} (times : List ℕ) {v : Verdict}
+    (c : ChecksRows ρ names n (eqb (length times) n) tree sort.Vector states v) where
   abbrev Fits : Type 0
   Fits = (length times ≡ n) × Rows names n (length states)
 
-  abbrev shown : Rules → List ℕ
-  shown ρ = patternListing ρ names times states (expression tree names)
+  abbrev shown : List ℕ
+  shown = patternListing ρ names times states (expression ρ tree names)
 
-  as-lists : Judged (rowsOrder names n (length times ≡ n) tree sort.Vector states)
-      (Fits × Accepted names sort.Vector tree × Codes states) v
+  as-lists : Judged (rowsOrder ρ names n (length times ≡ n) tree sort.Vector states)
+      (Fits × Accepted ρ names sort.Vector tree × Codes states) v
   as-lists =
-      lent-as names n tree sort.Vector states (eqb (length times) n) (length times ≡ n)
+      lent-as ρ names n tree sort.Vector states (eqb (length times) n) (length times ≡ n)
       (eqb-decides (length times) n) c
 
-  pub list-asked : v ≡ Good → Answered names (length times) tree states
+  pub list-asked : v ≡ Good → Answered ρ names (length times) tree states
   list-asked e =
       let ((x, l), a, s) = judged-good as-lists e .1 in
       rw x (record { asked = record { accepted = a; rows = rows-asked l s }; some = l .row-count .0 })
 
-  pub list-refused : {ρ : Rules} {out : List ℕ} {r : Refusal} → v ≡ Refused r
+  pub list-refused : {out : List ℕ} {r : Refusal} → v ≡ Refused r
       → ListsTree ρ names n tree times states out out (outcome.Refused r)
   unfolding Comes after
-  list-refused {ρ} {out} {r} e =
+  list-refused {out} {r} e =
       record {
-        comes = text-refused Fits names tree states (shown ρ) (length out) r (judged-not as-lists e);
+        comes = text-refused ρ Fits names tree states shown (length out) r (judged-not as-lists e);
         memory = refl;
       }
 
-  pub list-written : {ρ : Rules} {out out′ : List ℕ} {r : Outcome} → v ≡ Good
-      → Delivers (patternListing ρ names times states (expression tree names)) out out′ r
+  pub list-written : {out out′ : List ℕ} {r : Outcome} → v ≡ Good
+      → Delivers (patternListing ρ names times states (expression ρ tree names)) out out′ r
       → ListsTree ρ names n tree times states out out′ r
-  list-written {ρ} {out} {r = r} e d =
+  list-written {out} {r = r} e d =
       record {
-        comes = text-written Fits names tree states (shown ρ) (length out) r (judged-good as-lists e .0) (d .outcome);
+        comes = text-written ρ Fits names tree states shown (length out) r (judged-good as-lists e .0) (d .outcome);
         memory = d .memory;
       }
 
@@ -163,8 +163,8 @@ module _ {ρ : Rules} {names n : ℕ} {tree states : List ℕ} {c : Counting} (h
   line-refused {shown} {out} {r} e =
       record {
         comes =
-            text-refused (Rows names n (length states)) names tree states
-            (totalsLine ρ names n states shown (expression tree names)) (length out) r (rw e at (h .comes));
+            text-refused ρ (Rows names n (length states)) names tree states
+            (totalsLine ρ names n states shown (expression ρ tree names)) (length out) r (rw e at (h .comes));
         memory = refl;
       }
 
@@ -177,7 +177,7 @@ module _ {ρ : Rules} {names n : ℕ} {tree states : List ℕ} {c : Counting} (h
       let w = rw (s .yeses, s .unknowns, s .noes) at d in
       record {
         comes =
-            text-written (Rows names n (length states)) names tree states
-            (totalsLine ρ names n states shown (expression tree names)) (length out) r p (w .outcome);
+            text-written ρ (Rows names n (length states)) names tree states
+            (totalsLine ρ names n states shown (expression ρ tree names)) (length out) r p (w .outcome);
         memory = w .memory;
       }

@@ -38,39 +38,39 @@ totalsLine ρ k n states shown p =
     (total (stateAt ρ k states) p n 0) n
 
 -- 18 where the lists do not fit, 10 where the tree is no vector expression, 15, 9
-abbrev pub textOrder : Type 0 → ℕ → List ℕ → List ℕ → List ℕ → ℕ → Order
-textOrder lists names tree states text room =
-    order lists (Accepted names sort.Vector tree) (check 15 (bad-code states) ∷ lineOrder text room)
+abbrev pub textOrder : Rules → Type 0 → ℕ → List ℕ → List ℕ → List ℕ → ℕ → Order
+textOrder ρ lists names tree states text room =
+    order lists (Accepted ρ names sort.Vector tree) (check 15 (bad-code states) ∷ lineOrder text room)
 
 -- The calls, of so many names and n rows. Done: the text is at the front of the buffer, and its length is told;
 -- refused: the buffer is as before.
 pub record ListsTree (ρ : Rules) (names n : ℕ) (tree times states out out′ : List ℕ) (r : Outcome) : Type 0 where
   pub comes :
       Comes
-      (textOrder ((length times ≡ n) × Rows names n (length states)) names tree states
-      (patternListing ρ names times states (expression tree names)) (length out))
-      (λ m. m ≡ length (patternListing ρ names times states (expression tree names))) r
-  pub memory : out′ ≡ after (front (patternListing ρ names times states (expression tree names)) out) out r
+      (textOrder ρ ((length times ≡ n) × Rows names n (length states)) names tree states
+      (patternListing ρ names times states (expression ρ tree names)) (length out))
+      (λ m. m ≡ length (patternListing ρ names times states (expression ρ tree names))) r
+  pub memory : out′ ≡ after (front (patternListing ρ names times states (expression ρ tree names)) out) out r
 
 -- the pattern is shown as it is handed in
 pub record LinesTree (ρ : Rules) (names n : ℕ) (tree states shown out out′ : List ℕ) (r : Outcome) : Type 0 where
   pub comes :
       Comes
-      (textOrder (Rows names n (length states)) names tree states
-      (totalsLine ρ names n states shown (expression tree names)) (length out))
-      (λ m. m ≡ length (totalsLine ρ names n states shown (expression tree names))) r
-  pub memory : out′ ≡ after (front (totalsLine ρ names n states shown (expression tree names)) out) out r
+      (textOrder ρ (Rows names n (length states)) names tree states
+      (totalsLine ρ names n states shown (expression ρ tree names)) (length out))
+      (λ m. m ≡ length (totalsLine ρ names n states shown (expression ρ tree names))) r
+  pub memory : out′ ≡ after (front (totalsLine ρ names n states shown (expression ρ tree names)) out) out r
 
 -- For the functions inside: an accepted tree and 1 to 65,535 rows; a list of n entries; a list for all rows there can
 -- be.
-pub record Answered (names n : ℕ) (tree states : List ℕ) : Type 0 where
-  pub asked : TreeRows names n tree states
+pub record Answered (ρ : Rules) (names n : ℕ) (tree states : List ℕ) : Type 0 where
+  pub asked : TreeRows ρ names n tree states
   pub some : 1 ≤ n
 
-pub record Filling (names n : ℕ) (tree states answers : List ℕ) : Type 0 where
-  pub answered : Answered names n tree states
+pub record Filling (ρ : Rules) (names n : ℕ) (tree states answers : List ℕ) : Type 0 where
+  pub answered : Answered ρ names n tree states
   pub size : length answers ≡ n
 
-pub record Holding (names n : ℕ) (tree states answers : List ℕ) : Type 0 where
-  pub answered : Answered names n tree states
+pub record Holding (ρ : Rules) (names n : ℕ) (tree states answers : List ℕ) : Type 0 where
+  pub answered : Answered ρ names n tree states
   pub size : length answers ≡ 65535

@@ -24,11 +24,11 @@ fn fill_answers(
     states: &[u8],
     answers: &mut [u8],
 )
-    requires { ⌜ Filling names n (now tree) (now states) (now answers) ⌝ }
+    requires { ⌜ Filling rules names n (now tree) (now states) (now answers) ⌝ }
     ensures { λ _. ⌜ now (answers .exit) ≡ listed 0 n (answersOn rules names (now (tree .entry))
         (now (states .entry))) ⌝ }
 {
-    let a = alternatives_of(tree, names);
+    let a = alternatives_of(rules, tree, names);
     let count = a.count;
     let step_count = a.step_count;
     let test_count = a.test_count;
@@ -62,9 +62,9 @@ fn list_filled(
     answers: &mut [u8],
     out: &mut [u8],
 ) -> Outcome
-    requires { ⌜ Filling names (length (now times)) (now tree) (now states) (now answers) ⌝ }
+    requires { ⌜ Filling rules names (length (now times)) (now tree) (now states) (now answers) ⌝ }
     ensures { λ r. ⌜ Delivers (patternListing rules names (now (times .entry)) (now (states .entry))
-        (expression (now (tree .entry)) names)) (now (out .entry)) (now (out .exit)) r ⌝ }
+        (expression rules (now (tree .entry)) names)) (now (out .entry)) (now (out .exit)) r ⌝ }
 {
     fill_answers(rules, names, times.len(), tree, states, answers);
     write_listing(times, answers, out)
@@ -80,9 +80,9 @@ fn list_front(
     answers: &mut [u8],
     out: &mut [u8],
 ) -> Outcome
-    requires { ⌜ Holding names (length (now times)) (now tree) (now states) (now answers) ⌝ }
+    requires { ⌜ Holding rules names (length (now times)) (now tree) (now states) (now answers) ⌝ }
     ensures { λ r. ⌜ Delivers (patternListing rules names (now (times .entry)) (now (states .entry))
-        (expression (now (tree .entry)) names)) (now (out .entry)) (now (out .exit)) r ⌝ }
+        (expression rules (now (tree .entry)) names)) (now (out .entry)) (now (out .exit)) r ⌝ }
 {
     let n = times.len();
     list_filled(rules, names, tree, times, states, &mut answers[0..n], out)
@@ -97,9 +97,9 @@ fn list_lent(
     answers: &mut [u8; 65535],
     out: &mut [u8],
 ) -> Outcome
-    requires { ⌜ Answered names (length (now times)) (now tree) (now states) ⌝ }
+    requires { ⌜ Answered rules names (length (now times)) (now tree) (now states) ⌝ }
     ensures { λ r. ⌜ Delivers (patternListing rules names (now (times .entry)) (now (states .entry))
-        (expression (now (tree .entry)) names)) (now (out .entry)) (now (out .exit)) r ⌝ }
+        (expression rules (now (tree .entry)) names)) (now (out .entry)) (now (out .exit)) r ⌝ }
 {
     list_front(rules, names, tree, times, states, &mut answers[..], out)
 }
@@ -113,9 +113,9 @@ fn list_good(
     states: &[u8],
     out: &mut [u8],
 ) -> Outcome
-    requires { ⌜ Answered names (length (now times)) (now tree) (now states) ⌝ }
+    requires { ⌜ Answered rules names (length (now times)) (now tree) (now states) ⌝ }
     ensures { λ r. ⌜ Delivers (patternListing rules names (now (times .entry)) (now (states .entry))
-        (expression (now (tree .entry)) names)) (now (out .entry)) (now (out .exit)) r ⌝ }
+        (expression rules (now (tree .entry)) names)) (now (out .entry)) (now (out .exit)) r ⌝ }
 {
     let mut answers = [0u8; 65535];
     list_lent(rules, names, tree, times, states, &mut answers, out)
@@ -136,7 +136,7 @@ pub fn list(
         (now (out .entry)) (now (out .exit)) r ⌝ }
 {
     let lent = times.len() == n;
-    let v = check_rows(names, n, lent, tree, Sort::Vector, states);
+    let v = check_rows(rules, names, n, lent, tree, Sort::Vector, states);
     match v {
         Verdict::Refused(r) => Outcome::Refused(r),
         Verdict::Good => list_good(rules, names, tree, times, states, out),

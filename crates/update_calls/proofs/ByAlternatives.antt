@@ -19,14 +19,14 @@ same-rewritten : (answers : List ℕ) (n r : ℕ) {k k′ : ℕ} {f g : ℕ → 
 same-rewritten answers n r =
     ap₂ (λ (k : ℕ) (f : ℕ → ℕ). placed answers r (listed r (lastRewritten k n r + 1 - r) f))
 
-module _ {names : ℕ} {tree : List ℕ} {a : Alternatives} (h : Holds tree names a) where
-  pub tree-corrects : {ρ : Rules} {n r : ℕ} {states answers new states′ answers′ : List ℕ}
+module _ {ρ : Rules} {names : ℕ} {tree : List ℕ} {a : Alternatives} (h : Holds ρ tree names a) where
+  pub tree-corrects : {n r : ℕ} {states answers new states′ answers′ : List ℕ}
       → Corrects ρ names (xs h) n r states answers new states′ answers′
       → CorrectsTree ρ names n tree states answers r new states′ answers′
-  tree-corrects {ρ} {n} {r} {states} {answers} {new} k =
+  tree-corrects {n} {r} {states} {answers} {new} k =
       record {
         stored = k .stored;
         answered =
             k .rewritten
-            ∙ same-rewritten answers n r (steps-are h) (numbers-on h ρ (corrected names states r new));
+            ∙ same-rewritten answers n r (steps-are h) (numbers-on h (corrected names states r new));
       }

@@ -34,16 +34,16 @@ judges-correction x y z d e =
       is = judged-facts (λ (((f, g, s), w), k). (f, g, (s, w, k))) (judged-next (judged-next (x .is) y) z);
     })
 
-module _ {names n : ℕ} {tree states : List ℕ} (answers : List ℕ) {row : ℕ} {new : List ℕ} {fits good : Bool}
+module _ {ρ : Rules} {names n : ℕ} {tree states : List ℕ} (answers : List ℕ) {row : ℕ} {new : List ℕ} {fits good : Bool}
     {v : Verdict}
     (f : Decides fits (Lists names n (length states) (length answers) (length new)))
-    (g : Decides good (Accepted names Vector tree)) (j : JudgesCorrection fits good states new n row v) where
-  as-correction : Judged (correctionOrder names n tree states answers row new)
-      (Lists names n (length states) (length answers) (length new) × Accepted names Vector tree
+    (g : Decides good (Accepted ρ names Vector tree)) (j : JudgesCorrection fits good states new n row v) where
+  as-correction : Judged (correctionOrder ρ names n tree states answers row new)
+      (Lists names n (length states) (length answers) (length new) × Accepted ρ names Vector tree
       × (Codes states × Codes new × (row < n))) v
   as-correction = judged-as fits good _ _ f (λ x. g) _ (j .is)
 
-  pub correction-asked : v ≡ Good → TreeCorrection names n tree states answers row new
+  pub correction-asked : v ≡ Good → TreeCorrection ρ names n tree states answers row new
   correction-asked e =
       let (l, a, (s, w, r)) = judged-good as-correction e .1 in
       record {
@@ -54,13 +54,13 @@ module _ {names n : ℕ} {tree states : List ℕ} (answers : List ℕ) {row : �
         codes = w;
       }
 
-  pub correction-refused : {ρ : Rules} {r : Refusal} → v ≡ Refused r
+  pub correction-refused : {r : Refusal} → v ≡ Refused r
       → Correction ρ names n tree states answers row new states answers (outcome.Refused r)
   unfolding Comes after
   correction-refused e =
       record { comes = judged-not as-correction e; states-memory = refl; answers-memory = refl }
 
-  pub correction-told : {ρ : Rules} {states′ answers′ : List ℕ} → v ≡ Good
+  pub correction-told : {states′ answers′ : List ℕ} → v ≡ Good
       → CorrectsTree ρ names n tree states answers row new states′ answers′
       → Correction ρ names n tree states answers row new states′ answers′ (outcome.Done 1)
   unfolding Comes after

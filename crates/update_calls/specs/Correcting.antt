@@ -27,28 +27,29 @@ pub record Lists (names n states answers new : ℕ) : Type 0 where
   pub rows : Rows names n states
 
 -- 18, 10, 15 of the trace, 15 of the new row, 19
-abbrev pub correctionOrder : ℕ → ℕ → List ℕ → List ℕ → List ℕ → ℕ → List ℕ → Order
-correctionOrder names n tree states answers row new =
-    order (Lists names n (length states) (length answers) (length new)) (Accepted names Vector tree)
+abbrev pub correctionOrder : Rules → ℕ → ℕ → List ℕ → List ℕ → List ℕ → ℕ → List ℕ → Order
+correctionOrder ρ names n tree states answers row new =
+    order (Lists names n (length states) (length answers) (length new)) (Accepted ρ names Vector tree)
     (codesCorrection states new n row)
 
 -- the answers from row r on, to min(r+K, n-1), are those on the trace; the others stay
 abbrev pub rewritten : Rules → ℕ → ℕ → List ℕ → List ℕ → ℕ → List ℕ → List ℕ
 rewritten ρ names n tree answers r states =
     placed answers r
-    (listed r (lastRewritten (stepsOf (expression tree names)) n r + 1 - r) (answersOn ρ names tree states))
+    (listed r (lastRewritten (stepsOf (expression ρ tree names)) n r + 1 - r) (answersOn ρ names tree states))
 
 pub record Correction (ρ : Rules) (names n : ℕ) (tree states answers : List ℕ) (row : ℕ)
     (new states′ answers′ : List ℕ)
     (r : Outcome) : Type 0 where
-  pub comes : Comes (correctionOrder names n tree states answers row new) (λ k. k ≡ 1) r
+  pub comes : Comes (correctionOrder ρ names n tree states answers row new) (λ k. k ≡ 1) r
   pub states-memory : states′ ≡ after (corrected names states row new) states r
   pub answers-memory : answers′
       ≡ after (rewritten ρ names n tree answers row (corrected names states row new)) answers r
 
 -- What the function inside asks and gives: an accepted tree and lists that fit.
-pub record TreeCorrection (names n : ℕ) (tree states answers : List ℕ) (row : ℕ) (new : List ℕ) : Type 0 where
-  pub asked : TreeRows names n tree states
+pub record TreeCorrection (ρ : Rules) (names n : ℕ) (tree states answers : List ℕ) (row : ℕ) (new : List ℕ)
+    : Type 0 where
+  pub asked : TreeRows ρ names n tree states
   pub there : row < n
   pub room : length answers ≡ n
   pub full : length new ≡ names

@@ -55,12 +55,12 @@ fn correct_tree(
     row: RowNo,
     new: &[u8],
 )
-    requires { ⌜ TreeCorrection names n (now tree) (now states) (now answers) (row .0) (now new) ⌝ }
+    requires { ⌜ TreeCorrection rules names n (now tree) (now states) (now answers) (row .0) (now new) ⌝ }
     ensures { λ _. ⌜ CorrectsTree rules names n (now (tree .entry)) (now (states .entry))
         (now (answers .entry)) (row .0)
         (now (new .entry)) (now (states .exit)) (now (answers .exit)) ⌝ }
 {
-    let a = alternatives_of(tree, names);
+    let a = alternatives_of(rules, tree, names);
     let count = a.count;
     let step_count = a.step_count;
     let test_count = a.test_count;
@@ -99,7 +99,7 @@ pub fn correct(
         (now (new .entry)) (now (states .exit)) (now (answers .exit)) r ⌝ }
 {
     let fits = correction_fits(names, n, states.len(), answers.len(), new.len());
-    let good = accepts(tree, names, Sort::Vector);
+    let good = accepts(rules, tree, names, Sort::Vector);
     let v = judge_correction(fits, good, states, new, n, row.0 as usize);
     match v {
         Verdict::Refused(r) => Outcome::Refused(r),

@@ -3,33 +3,37 @@
 --   edge-ends, right-ends, left-ends      its operands
 --   right-sort, left-sort                 whether they are vector expressions: the byte says so
 --   operator-byte                         it is an edge, or an operator of bytes 50 to 57
---   edge-answer, operator-answer          its answer
+--   edge-answer, joined-answer, held-answer     its answer: an edge, an operator of two vectors, one with a condition
 --   operands-off                          two vector expressions answer no on windows without an event
 use Prim.Native.Nat.{ℕ, _-_, _<_, _≤_, min}
 use native.Mathlib.Omega.{arith}
-use mathlib.Core.Path.{_≡_, refl}
+use mathlib.Core.Path.{_≡_, sym}
 use mathlib.Core.Bool.{true, not}
 use mathlib.Core.Logic.{_⊎_, inl, inr}
 use mathlib.Core.List.{List}
 use lib.Dec.{eqb}
 use borrow.Author.Tests.{lt-ltb, le-ltb, eq-eqb, ne-eqb}
 use Rattle.alf.specs.declared.Rules.{Rules}
-use Rattle.alf.specs.Windows.{Window, answer}
-use Rattle.alf.specs.Decoder.{isBoolean, isVector, under, stackAt}
+use Rattle.alf.specs.Values.{stateAt}
+use Rattle.alf.specs.Windows.{Window, NO, answer}
+use Rattle.alf.specs.Decoder.{edgeAt, joinAt, isBoolean, isVector, topBoolean, topVector, under, stackAt}
+use Rattle.basics.specs.Words.{if_then_else_}
 use Rattle.basics.proofs.Bools.{below?, equal?}
 use Rattle.alf.proofs.Made.{Made}
 use Rattle.alf.proofs.Parts.{made-last}
 use Rattle.alf.proofs.StackTops.{EdgeTop, JoinTop, ConditionTop, ConditionBeforeTop}
 use Rattle.alf.proofs.StackTops.{edge-top, join-top, condition-top, condition-before-top, vector-class}
-use Rattle.trees.specs.Parts.{Ends, EndsBoolean, EndsVector, Start}
+use Rattle.trees.specs.Parts.{Ends, EndsBoolean, EndsVector, booleanAt, vectorAt, Start}
 use Rattle.trees.proofs.Starts.{of-boolean, of-vector, ends-pos}
 use Rattle.trees.proofs.Vectors.{boolean-under, vector-under}
+use Rattle.steady_pins.specs.Moving.{pinsMove}
 use Rattle.evaluator.specs.Rows.{stateOf}
 use Rattle.evaluator.proofs.Booleans.{lastByte}
 use Rattle.answer_table.specs.Tables.{OperatorByte, leafOver, operated}
-use Rattle.window_answers.proofs.NoEvent.{no-event}
+use Rattle.alf.proofs.WindowBounds.{no-event}
 use Rattle.answer_table.proofs.Shifts.{Off}
-use Rattle.window_answers.proofs.Tops.{On, on-vector, on-boolean, boolean-sort}
+use Rattle.window_answers.proofs.Tops.{On, on-vector, on-boolean, boolean-sort, start-vector, start-boolean}
+use Rattle.window_answers.proofs.Places.{edge-placed, join-placed, right-placed, left-placed}
 
 -- which operator it is: of two vectors, a condition behind the vector, a condition before it
 abbrev Which : ℕ → Type 0
@@ -113,64 +117,80 @@ module _ {t : List ℕ} {names end : ℕ} (h : EndsVector t names end) where
           go (inr (inr e)) = of-boolean (left-boolean (before-is e .left))
 
       -- the answer on a window
-      module _ (states : List ℕ) where
+      module _ (pins states : List ℕ) where
         abbrev At : Rules → ℕ → Window
-        At ρ e = On ρ t names states e
+        At ρ e = On ρ t pins names states e
 
         pub operands-off : (ρ : Rules) → lastByte t end < 56 → Off (At ρ m) × Off (At ρ (end - 1))
         operands-off ρ l =
             let p = left-vector (join-is l .left) .whole in (
-              λ x. rw (on-vector t names states m ρ p) (no-event _ _ x x (omega arith)),
-              λ x. rw (on-vector t names states (end - 1) ρ (join-is l .right)) (no-event _ _ x x (omega arith)),
+              λ x. rw (on-vector t pins names states m ρ p) (no-event _ _ x x (omega arith)),
+              λ x. rw (on-vector t pins names states (end - 1) ρ (join-is l .right)) (no-event _ _ x x (omega arith)),
             )
 
         -- by each operator
         module _ (a b : ℕ) where
-          joined-answer : (ρ : Rules) → lastByte t end < 56
-              → operated (lastByte t end) (At ρ m) (At ρ (end - 1)) a b ≡ At ρ end a b
-          unfolding operated answer
+          pub joined-answer : (ρ : Rules) → lastByte t end < 56
+              → (if pinsMove (stateOf ρ t names states) pins end 32 b then NO
+              else operated (lastByte t end) (At ρ m) (At ρ (end - 1)) a b)
+              ≡ At ρ end a b
+          unfolding operated
           joined-answer ρ l =
               rw (
                 lt-ltb _ _ l,
-                on-vector t names states m _ (left-vector (join-is l .left) .whole),
-                on-vector t names states (end - 1) _ (join-is l .right),
-                on-vector t names states end _ (h .whole),
+                on-vector t pins names states m ρ (left-vector (join-is l .left) .whole),
+                on-vector t pins names states (end - 1) ρ (join-is l .right),
+                on-vector t pins names states end ρ (h .whole),
                 join-is l .is,
                 g .left,
-              ) refl
+              )
+              (sym
+              (join-placed (stateAt ρ names states) (booleanAt t names) pins end a b
+              (topVector (under (stackAt t names (end - 1)))) (joinAt (lastByte t end - 50))
+              (vectorAt t names (end - 1)) (start-vector g (join-is l .right))))
 
           condition-answer : (ρ : Rules) → lastByte t end ≡ 56 → min (At ρ m a b) (At ρ (end - 1) a b) ≡ At ρ end a b
-          unfolding answer
           condition-answer ρ e =
               rw (
-                on-vector t names states m _ (left-vector (condition-is e .left) .whole),
-                on-boolean t names states (end - 1) _ (condition-is e .right),
-                on-vector t names states end _ (h .whole),
+                on-vector t pins names states m ρ (left-vector (condition-is e .left) .whole),
+                on-boolean t pins names states (end - 1) ρ (condition-is e .right),
+                on-vector t pins names states end ρ (h .whole),
                 condition-is e .is,
                 g .left,
-              ) refl
+              )
+              (sym
+              (right-placed (stateAt ρ names states) (booleanAt t names) pins end a b
+              (topVector (under (stackAt t names (end - 1)))) (booleanAt t names (end - 1))
+              (start-boolean g (condition-is e .right))))
 
           before-answer : (ρ : Rules) → lastByte t end ≡ 57 → min (At ρ m a b) (At ρ (end - 1) a b) ≡ At ρ end a b
-          unfolding answer
           before-answer ρ e =
+              let d = left-placed (stateAt ρ names states) (booleanAt t names) pins end a b
+              (vectorAt t names (end - 1)) (topBoolean (under (stackAt t names (end - 1))))
+              (start-vector g (before-is e .right)) in
               rw (
-                on-boolean t names states m _ (left-boolean (before-is e .left) .whole),
-                on-vector t names states (end - 1) _ (before-is e .right),
-                on-vector t names states end _ (h .whole),
+                on-boolean t pins names states m ρ (left-boolean (before-is e .left) .whole),
+                on-vector t pins names states (end - 1) ρ (before-is e .right),
+                on-vector t pins names states end ρ (h .whole),
                 before-is e .is,
-                g .left,
               ) (omega arith)
 
-          pub operator-answer : (ρ : Rules) → operated (lastByte t end) (At ρ m) (At ρ (end - 1)) a b ≡ At ρ end a b
+          pub held-answer : (ρ : Rules) → 56 ≤ lastByte t end
+              → operated (lastByte t end) (At ρ m) (At ρ (end - 1)) a b ≡ At ρ end a b
           unfolding operated
-          operator-answer ρ = go which
+          held-answer ρ k = go which
             where
               go : Which (lastByte t end) → operated (lastByte t end) (At ρ m) (At ρ (end - 1)) a b ≡ At ρ end a b
-              go (inl l) = joined-answer ρ l
-              go (inr (inl e)) = rw (le-ltb (lastByte t end) 56 (omega arith)) (condition-answer ρ e)
-              go (inr (inr e)) = rw (le-ltb (lastByte t end) 56 (omega arith)) (before-answer ρ e)
+              go (inl l) = absurd (omega arith)
+              go (inr (inl e)) = rw (le-ltb (lastByte t end) 56 k) (condition-answer ρ e)
+              go (inr (inr e)) = rw (le-ltb (lastByte t end) 56 k) (before-answer ρ e)
 
-  pub edge-answer : (ρ : Rules) (states : List ℕ) (a b : ℕ) → 64 ≤ lastByte t end
-      → leafOver (lastByte t end) (stateOf ρ t names states (end - 1)) a b ≡ On ρ t names states end a b
+  pub edge-answer : (ρ : Rules) (pins states : List ℕ) (a b : ℕ) → 64 ≤ lastByte t end
+      → (if pinsMove (stateOf ρ t names states) pins end 32 b then NO
+      else leafOver (lastByte t end) (stateOf ρ t names states (end - 1)) a b)
+      ≡ On ρ t pins names states end a b
   unfolding leafOver answer
-  edge-answer ρ states a b k = rw (le-ltb _ _ k, on-vector t names states end _ (h .whole), edge-is k .is) refl
+  edge-answer ρ pins states a b k =
+      rw (le-ltb _ _ k, on-vector t pins names states end ρ (h .whole), edge-is k .is)
+      (sym (edge-placed (stateAt ρ names states) (booleanAt t names) pins end a b (edgeAt (lastByte t end - 64))
+      (booleanAt t names (end - 1))))

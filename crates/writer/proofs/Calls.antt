@@ -1,6 +1,7 @@
 -- What the call and its parts are proved by.
 --   delivered-long, delivered-short, delivered   the end of the call: 1, 9, or done
 --   names-named, names-new                       what checked names are
+--   under-old, not-old                           accepted, and not, under the rules that are asked
 --   refused-names, refused-tree, names-passed    18, 12 and 10, before the text is made
 --   laid, lined, wrote                           an accepted tree is laid out, spelled and delivered
 use Prim.Native.Nat.{ℕ, _+_, _/_, _<_, _≤_}
@@ -14,12 +15,14 @@ use lib.ListN.{length, getD, take, drop, length-map}
 use borrow.Author.Tests.{leb-true, leb-false}
 use lib.Seq.{sets-eq, getD-take}
 use Rattle.alf.specs.declared.Sort.{Sort}
+use Rattle.alf.specs.declared.Rules.{Rules}
 use Rattle.basics.specs.declared.Refusal.{Refusal}
 use Rattle.basics.specs.Refusing.{refusal}
 use Rattle.basics.specs.declared.Outcome.{Outcome}
 use Rattle.basics.specs.declared.Outcome.the-variants.{Done, Refused}
 use Rattle.alf.specs.Names.{namesIn, isName, nameAt}
 use Rattle.alf.specs.Expressions.{Expression, ExpressionOver}
+use Rattle.alf.specs.Values.{oldRules}
 use Rattle.alf.specs.Bytes.{bytesOf}
 use Rattle.alf.specs.Decoder.{Decodes}
 use Rattle.basics.proofs.Bools.{never}
@@ -112,7 +115,7 @@ module _ (names tree : List ℕ) (sort : Sort) (room : ℕ) where
   unfolding Comes
   comes-names made r x = record { by = names-refused (r .number) (r .place) (x .by); bare = x .bare }
 
-  comes-ten : Named names → (Accepted (namesIn names) sort tree → ⊥)
+  comes-ten : Named names → (Accepted oldRules (namesIn names) sort tree → ⊥)
       → Comes (order names tree sort room) (done names tree) (Refused (refusal 10 0))
   unfolding Comes RefusedWith Passed order
   comes-ten h f =
@@ -121,7 +124,7 @@ module _ (names tree : List ℕ) (sort : Sort) (room : ℕ) where
         bare = refl;
       }
 
-  comes-end : Named names → Accepted (namesIn names) sort tree → (r : Outcome)
+  comes-end : Named names → Accepted oldRules (namesIn names) sort tree → (r : Outcome)
       → Comes (endOrder (textAt names tree) room) (done names tree) r
       → Comes (order names tree sort room) (done names tree) r
   unfolding Comes RefusedWith Passed order endOrder
@@ -132,6 +135,14 @@ module _ (names tree : List ℕ) (sort : Sort) (room : ℕ) where
         bare = x .bare;
       }
 
+-- the rules that are asked under are document 01's
+module _ {ρ : Rules} {n : ℕ} {sort : Sort} {tree : List ℕ} (e : ρ ≡ oldRules) where
+  pub under-old : Accepted ρ n sort tree → Accepted oldRules n sort tree
+  under-old a = rw e at a
+
+  pub not-old : (Accepted ρ n sort tree → ⊥) → Accepted oldRules n sort tree → ⊥
+  not-old f a = f (rw e a)
+
 -- refused before the text is made
 pub refused-names : {names tree : List ℕ} {sort : Sort} {out : List ℕ} (made : ℕ → Type 0) {r : Refusal}
     {o : Outcome}
@@ -141,7 +152,7 @@ refused-names {names} {tree} {sort} {out} made {r} x e =
     record { outcome = comes-names names tree sort (length out) made r (rw e at x); memory = refl }
 
 pub refused-tree : {names tree : List ℕ} {sort : Sort} {out : List ℕ} {o : Outcome}
-    → Named names → (Accepted (namesIn names) sort tree → ⊥)
+    → Named names → (Accepted oldRules (namesIn names) sort tree → ⊥)
     → o ≡ Refused (refusal 10 0)
     → Writes names tree sort out out o
 unfolding after
@@ -154,7 +165,7 @@ pub names-passed : {names : List ℕ} (made : ℕ → Type 0) {k : ℕ} {o : Out
 unfolding Comes
 names-passed made x e = record { passed = (rw e at x) .0 }
 
-module _ {names tree : List ℕ} {sort : Sort} (h : Named names) (a : Accepted (namesIn names) sort tree) where
+module _ {names tree : List ℕ} {sort : Sort} (h : Named names) (a : Accepted oldRules (namesIn names) sort tree) where
   abbrev e : Expression
   e = expressionAt tree (namesIn names) (length tree)
 

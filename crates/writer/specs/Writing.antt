@@ -3,12 +3,15 @@
 --   order, Writes      what is refused, in its order; the outcome and the lent buffer
 --   Named, Layable, Laid, Linable, endOrder, Delivers   what the functions inside ask and give
 -- Row 10 is what `Accepted`, of acceptance, refuses: no tree of the sort, over 256 nodes, over 32 deep, over limit 8.
+-- A text says what was written, so limit 8 is asked without steady pins (document 02, [2]): a tree that is accepted
+-- under some rules is written.
 use Prim.Native.Nat.{ℕ, _/_, _≤_, _<_}
 use mathlib.Core.Path.{_≡_}
 use mathlib.Core.List.{List, [], _∷_}
 use lib.ListN.{length, take, getD}
 use Rattle.alf.specs.Names.{namesIn}
 use Rattle.alf.specs.declared.Sort.{Sort}
+use Rattle.alf.specs.Values.{oldRules}
 use Rattle.basics.specs.declared.Outcome.{Outcome}
 use Rattle.alf.specs.Refusals.{Order, check, bad-lists, bad-slot, cannot-be, too-long, no-room}
 use Rattle.alf.specs.Refusals.{Passed, Comes}
@@ -30,7 +33,7 @@ unfoldable pub order : List ℕ → List ℕ → Sort → ℕ → Order
 order names tree sort room =
     check 18 (bad-lists (Slots names)) ∷
     check 12 (bad-slot names) ∷
-    check 10 (cannot-be (Accepted (namesIn names) sort tree → ⊥)) ∷
+    check 10 (cannot-be (Accepted oldRules (namesIn names) sort tree → ⊥)) ∷
     check 1 (too-long (length (textAt names tree))) ∷
     check 9 (no-room (length (textAt names tree)) room) ∷
     []

@@ -13,6 +13,7 @@ use basics::puts::put;
 use basics::refusing::refuse;
 use names::check_names;
 use spelling::spells::put_line;
+use states::rules::old_rules;
 
 // The signs of a whole tree; how many.
 fn lay_out(tree: &[u8], names: usize, list: &mut [u8; 1024]) -> usize
@@ -46,14 +47,14 @@ fn deliver(text: &[u8], out: &mut [u8]) -> Outcome
     Outcome::Done(size)
 }
 
-// Where the names are checked.
+// Where the names are checked. The limits are asked of the tree as it is written, without steady pins.
 fn write_tree(names: &[u8], tree: &[u8], sort: Sort, out: &mut [u8]) -> Outcome
     requires { ⌜ Named (now names) ⌝ }
     ensures { λ r. ⌜ Writes (now (names .entry)) (now (tree .entry)) sort (now (out .entry))
         (now (out .exit)) r ⌝ }
 {
     let n = names.len() / 32;
-    if !accepts(tree, n, sort) {
+    if !accepts(old_rules(), tree, n, sort) {
         return refuse(10, 0);
     }
     let mut list = [0u8; 1024];

@@ -10,7 +10,7 @@ read-text-requires c κs = names-done _ _ (c .before .before .before .check-name
 returns : tie.Need-returns
 returns c =
     let at-check-names = c .before .before .before .before in
-    names-wrong _ _ _ _ (at-check-names .check-names .ensures) (c .before .before .r .given .1)
+    names-wrong _ _ _ _ _ (at-check-names .check-names .ensures) (c .before .before .r .given .1)
     (c .hand-on .ensures)
 
 pub read-expression-spec : {M : Type 1} → statement M

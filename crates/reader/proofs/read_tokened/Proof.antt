@@ -23,8 +23,8 @@ refuse-token-requires c κs =
 returns : tie.Need-returns
 returns c =
     let parsed = c .before .before .before in
-    whole-five (begun parsed .pre) _ (parsed .parse .ensures) (not-true _ (c .before .if1 .taken))
-    (c .refuse-token .ensures)
+    whole-five (begun parsed .pre) _ (parsed .parse .ensures) (begun parsed .args .rules)
+    (not-true _ (c .before .if1 .taken)) (c .refuse-token .ensures)
 
 first-unknown-requires : tie.Need-first-unknown-requires
 first-unknown-requires c κs =
@@ -52,7 +52,8 @@ returns-2 c =
     let good = c .before .before .before .before .before in
     let parsed = good .before .before in
     whole-six (begun parsed .pre) _ (parsed .parse .ensures) (not-false _ (good .if1 .left))
-    (c .before .before .first-unknown .ensures) (c .before .if2 .taken) (c .refuse-token2 .ensures)
+    (c .before .before .first-unknown .ensures) (begun parsed .args .rules) (c .before .if2 .taken)
+    (c .refuse-token2 .ensures)
 
 read-nodes-requires : tie.Need-read-nodes-requires
 read-nodes-requires c κs =
@@ -67,7 +68,8 @@ returns-3 c =
     let good = c .before .before .before .before .before in
     let parsed = good .before .before in
     whole-sorted (begun parsed .pre) _ (parsed .parse .ensures) (not-false _ (good .if1 .left))
-    (c .before .before .first-unknown .ensures) (c .before .if2 .left) (c .read-nodes .ensures)
+    (c .before .before .first-unknown .ensures) (begun parsed .args .rules) (c .before .if2 .left)
+    (c .read-nodes .ensures)
 
 pub read-tokened-spec : {M : Type 1} → statement M
 read-tokened-spec =

@@ -2,16 +2,19 @@
 use borrow.Author.Needs.{needs}
 use Rattle.basics.proofs.Deciding.{decided-no, decided-yes}
 use Rattle.basics.proofs.PartByPart.{holds-within, holds-count}
-use Rattle.writer.proofs.Calls.{refused-tree, laid, lined, wrote}
+use Rattle.writer.proofs.Calls.{under-old, not-old, refused-tree, laid, lined, wrote}
 use Rattle.writer.proofs.write_tree.Statement.{statement}
 use Rattle.writer.proofs.write_tree.Tie as tie
 
 abbrev entry : tie.After-accepts → tie.Start
-entry c = c .before .before .before .before
+entry c = c .before .before .before .before .before
 
 -- where the tree is accepted, from where its signs are laid out
 abbrev of-laid : tie.After-lay-out → tie.Else1
 of-laid c = c .before .before
+
+old-rules-requires : tie.Need-old-rules-requires
+old-rules-requires c κs = search needs
 
 accepts-requires : tie.Need-accepts-requires
 accepts-requires c κs = search needs
@@ -23,18 +26,24 @@ returns : tie.Need-returns
 returns c =
     let tested = c .before in
     refused-tree (entry (tested .before) .pre)
-    (decided-no _ (tested .before .accepts .ensures) (tested .if1 .taken)) (c .refuse .ensures)
+    (not-old (tested .before .before .old-rules .ensures)
+    (decided-no _ (tested .before .accepts .ensures) (tested .if1 .taken)))
+    (c .refuse .ensures)
 
 lay-out-requires : tie.Need-lay-out-requires
 lay-out-requires c κs =
     let good = c .before in
-    laid (entry (good .before) .pre) (decided-yes _ (good .before .accepts .ensures) (good .if1 .left))
+    laid (entry (good .before) .pre)
+    (under-old (good .before .before .old-rules .ensures)
+    (decided-yes _ (good .before .accepts .ensures) (good .if1 .left)))
 
 spell-out-requires : tie.Need-spell-out-requires
 spell-out-requires c κs =
     let laid-out = c .before .before in
     let good = of-laid laid-out in
-    lined (entry (good .before) .pre) (decided-yes _ (good .before .accepts .ensures) (good .if1 .left))
+    lined (entry (good .before) .pre)
+    (under-old (good .before .before .old-rules .ensures)
+    (decided-yes _ (good .before .accepts .ensures) (good .if1 .left)))
     (laid-out .lay-out .ensures)
 
 array-share-prefix-buffer : tie.Need-array-share-prefix-buffer
@@ -55,9 +64,11 @@ returns-2 c =
     let spelled = delivered .before .before .before in
     let laid-out = spelled .before .before .before in
     let good = of-laid laid-out in
-    wrote (entry (good .before) .pre) (decided-yes _ (good .before .accepts .ensures) (good .if1 .left))
+    wrote (entry (good .before) .pre)
+    (under-old (good .before .before .old-rules .ensures)
+    (decided-yes _ (good .before .accepts .ensures) (good .if1 .left)))
     (laid-out .lay-out .ensures) (spelled .spell-out .ensures) (delivered .deliver .ensures)
 
 pub write-tree-spec : {M : Type 1} → statement M
-write-tree-spec = tie.close (tie.spec accepts-requires refuse-requires returns lay-out-requires spell-out-requires
-    array-share-prefix-buffer slice-aggregate-deliver deliver-requires same-length returns-2)
+write-tree-spec = tie.close (tie.spec old-rules-requires accepts-requires refuse-requires returns lay-out-requires
+    spell-out-requires array-share-prefix-buffer slice-aggregate-deliver deliver-requires same-length returns-2)

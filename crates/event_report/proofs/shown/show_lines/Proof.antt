@@ -6,10 +6,10 @@ use Rattle.event_report.proofs.shown.show_lines.Statement.{statement}
 use Rattle.event_report.proofs.shown.show_lines.Tie as tie
 
 abbrev Inv-loop : tie.InvT-loop
-Inv-loop ρ input at₀ at = Unit {0}
+Inv-loop input at₀ at = Unit {0}
 
 abbrev μ-loop : tie.MeasureT-loop
-μ-loop ρ input at₀ at = length input - at
+μ-loop input at₀ at = length input - at
 
 pub show-lines-spec : {M : Type 1} → statement M
 show-lines-spec =

@@ -7,7 +7,7 @@ use Rattle.judging.proofs.checks.check_row.Tie as tie
 returns : tie.Need-returns
 returns c =
     let c1 = c .before in
-    checks-row _ _ _ _ _ _ _ (c1 .accepts .ensures) (c1 .before .rows-fit .ensures) (c .judge-row .ensures)
+    checks-row _ _ _ _ _ _ _ _ (c1 .accepts .ensures) (c1 .before .rows-fit .ensures) (c .judge-row .ensures)
 
 pub check-row-spec : {M : Type 1} → statement M
 check-row-spec =

@@ -7,7 +7,7 @@ use Rattle.judging.proofs.checks.check_rows.Tie as tie
 returns : tie.Need-returns
 returns c =
     let c1 = c .before in
-    checks-rows _ _ _ _ _ _ _ (c1 .accepts .ensures) _ (c1 .before .lists-fit .ensures) (c .judge .ensures)
+    checks-rows _ _ _ _ _ _ _ _ (c1 .accepts .ensures) _ (c1 .before .lists-fit .ensures) (c .judge .ensures)
 
 pub check-rows-spec : {M : Type 1} → statement M
 check-rows-spec =

@@ -27,20 +27,22 @@ add-start : tie.Need-add-start
 add-start c = omega (arith, operand-start (c .before .before .before .part-of .ensures) (c .before .if2 .left))
 
 sub-accepts : tie.Need-sub-accepts
-sub-accepts c = omega (arith, operand-start (c .before .before .before .part-of .ensures) (c .before .if2 .left))
+sub-accepts c =
+    omega (arith, operand-start (c .before .before .before .before .part-of .ensures) (c .before .before .if2 .left))
 
 part-accepts-start : tie.Need-part-accepts-start
 part-accepts-start c =
-    let l = operand-start (c .before .before .before .part-of .ensures) (c .before .if2 .left) in
+    let l = operand-start (c .before .before .before .before .part-of .ensures) (c .before .before .if2 .left) in
     search needs
 
 returns-3 : tie.Need-returns-3
 returns-3 c =
-    let c3 = c .before .before .before in
+    let made = c .before .before in
+    let c3 = made .before .before in
     let c5 = c3 .before .before in
     let c7 = c5 .before .before in
     operand-is _ _ _ (c7 .back .ensures) (c7 .before .if1 .left) (c5 .part-of .ensures) (c3 .if2 .left) _
-    (c .accepts .ensures)
+    (rw (made .old-rules .ensures) at (c .accepts .ensures))
 
 pub is-operand-spec : {M : Type 1} → statement M
 is-operand-spec =
@@ -55,6 +57,7 @@ is-operand-spec =
     (λ c κs. search needs)  -- part-of-requires
     returns-2
     add-start
+    (λ c κs. search needs)  -- old-rules-requires
     sub-accepts
     part-accepts-start
     (λ c. search needs)  -- part-accepts-end

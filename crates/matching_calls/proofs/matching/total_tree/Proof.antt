@@ -7,7 +7,7 @@ use Rattle.matching_calls.proofs.matching.total_tree.Tie as tie
 returns : tie.Need-returns
 returns c =
     let made = c .before .before .before .before .before .before .before .before .before in
-    tree-totals (made .alternatives-of .ensures) _ (made .before .before .before .args .states .now)
+    tree-totals (made .alternatives-of .ensures) (made .before .before .before .args .states .now)
     (c .totals .ensures)
 
 pub total-tree-spec : {M : Type 1} → statement M

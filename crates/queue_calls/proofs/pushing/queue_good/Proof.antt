@@ -8,10 +8,10 @@ use Rattle.queue_calls.proofs.pushing.queue_good.Statement.{statement}
 use Rattle.queue_calls.proofs.pushing.queue_good.Tie as tie
 
 returns : tie.Need-returns
-returns c = queue-many _ _ _ (c .if1 .taken)
+returns c = queue-many _ _ _ _ (c .if1 .taken)
 
 returns-2 : tie.Need-returns-2
-returns-2 c = queue-tree _ _ _ (decided-no _ (c .before .accepts .ensures) (c .if2 .taken))
+returns-2 c = queue-tree _ _ _ _ (decided-no _ (c .before .accepts .ensures) (c .if2 .taken))
 
 steps-of-requires : tie.Need-steps-of-requires
 steps-of-requires c κs = told _ (c .before .accepts .ensures) (said _ (c .if2 .left))
@@ -29,7 +29,7 @@ returns-3 : tie.Need-returns-3
 returns-3 c =
     let c2 = c .before .before in
     let a = told _ (c2 .before .accepts .ensures) (said _ (c2 .if2 .left)) in
-    queue-kept _ _ _ _ a (c .before .steps-of .ensures) (c .keeps .ensures)
+    queue-kept _ _ _ _ _ a (c .before .steps-of .ensures) (c .keeps .ensures)
 
 pub queue-good-spec : {M : Type 1} → statement M
 queue-good-spec =

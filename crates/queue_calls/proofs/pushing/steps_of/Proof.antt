@@ -1,5 +1,5 @@
 -- `pushing::steps_of` meets its contract.
-use Rattle.acceptance.proofs.Acceptance.{accepted-vector}
+use Rattle.acceptance.proofs.Acceptance.{accepted-tree}
 use Rattle.rewriting.proofs.Bounds.{accepted-limited}
 use Rattle.queue_calls.proofs.Pushes.{steps-over, steps-within}
 use borrow.Author.Needs.{needs}
@@ -7,7 +7,7 @@ use Rattle.queue_calls.proofs.pushing.steps_of.Statement.{statement}
 use Rattle.queue_calls.proofs.pushing.steps_of.Tie as tie
 
 measure-requires : tie.Need-measure-requires
-measure-requires c κs = accepted-vector _ _ (c .before .pre)
+measure-requires c κs = accepted-tree _ _ (c .before .pre)
 
 returns : tie.Need-returns
 returns c =

@@ -1,9 +1,8 @@
 -- `rewriting::lists::fill` meets its contract. The loop's invariant: the alternatives passed are written.
 use Prim.Native.Nat.{_-_}
 use native.Mathlib.Omega.{arith}
-use Rattle.acceptance.proofs.Acceptance.{accepted-vector}
-use Rattle.rewriting.specs.Lists.{alternativesAt}
-use Rattle.rewriting.proofs.Bounds.{count-exact, accepted-chosen}
+use Rattle.rewriting.specs.Lists.{alternativesBy}
+use Rattle.rewriting.proofs.Bounds.{ready-ends, count-exact, ready-shaping}
 use Rattle.rewriting.proofs.Filling.{Filling, filling-first, filling-lengths}
 use Rattle.rewriting.proofs.Turns.{steps-small, steps-room, alternative-adding, passed-small, alternative-next}
 use Rattle.rewriting.proofs.Turns.{alternatives-filled}
@@ -11,19 +10,19 @@ use Rattle.rewriting.proofs.lists.fill.Statement.{statement}
 use Rattle.rewriting.proofs.lists.fill.Tie as tie
 
 abbrev Inv-loop : tie.InvT-loop
-Inv-loop tree names steps₀ tests₀ edges₀ operands₀ end count s₀ from₀ t₀
+Inv-loop tree pins names steps₀ tests₀ edges₀ operands₀ end count s₀ from₀ t₀
     steps tests edges operands s from t =
-    Filling (alternativesAt tree names) steps₀ tests₀ edges₀ operands₀ steps tests edges operands s from t
+    Filling (alternativesBy pins tree names) steps₀ tests₀ edges₀ operands₀ steps tests edges operands s from t
 
 abbrev μ-loop : tie.MeasureT-loop
-μ-loop tree names steps₀ tests₀ edges₀ operands₀ end count s₀ from₀ t₀
+μ-loop tree pins names steps₀ tests₀ edges₀ operands₀ end count s₀ from₀ t₀
     steps tests edges operands s from t =
     count - t
 
 count-of-requires : tie.Need-count-of-requires Inv-loop μ-loop
 count-of-requires c κs =
     let start = c .before .before .before .before .before in
-    accepted-vector _ _ (start .pre .accepted)
+    ready-ends (start .pre .ready)
 
 loop-holds : tie.Need-loop-holds Inv-loop μ-loop
 loop-holds c =
@@ -32,15 +31,15 @@ loop-holds c =
 shape-of-requires : tie.Need-shape-of-requires Inv-loop μ-loop
 shape-of-requires c κs =
     let c8 = c .before .before .before .before .before .before .before .before in
-    let e = count-exact _ _ (c8 .pre .accepted) (c .before .before .count-of .ensures) in
-    accepted-chosen _ _ (c8 .pre .accepted) (omega (arith, e, c .loop-test .taken))
+    let e = count-exact _ _ _ (c8 .pre .ready) (c .before .before .count-of .ensures) in
+    ready-shaping _ _ _ (c8 .pre .ready) (omega (arith, e, c .loop-test .taken))
 
 cast-steps : tie.Need-cast-steps Inv-loop μ-loop
 cast-steps c =
     let c1 = c .before in
     let c3 = c1 .before .before in
     let c9 = c3 .before .before .before .before .before .before in
-    let e = count-exact _ _ (c9 .pre .accepted) (c3 .count-of .ensures) in
+    let e = count-exact _ _ _ (c9 .pre .ready) (c3 .count-of .ensures) in
     let r =
     steps-small (c9 .pre) (c1 .before .loop .inv) (omega (arith, e, c1 .loop-test .taken)) (c .shape-of .ensures)
     in
@@ -51,7 +50,7 @@ slice-write-steps c =
     let c1 = c .before in
     let c3 = c1 .before .before in
     let c9 = c3 .before .before .before .before .before .before in
-    let e = count-exact _ _ (c9 .pre .accepted) (c3 .count-of .ensures) in
+    let e = count-exact _ _ _ (c9 .pre .ready) (c3 .count-of .ensures) in
     steps-room (c9 .pre) (c1 .before .loop .inv) (omega (arith, e, c1 .loop-test .taken)) (c .shape-of .ensures)
 
 put-alternative-requires : tie.Need-put-alternative-requires Inv-loop μ-loop
@@ -59,7 +58,7 @@ put-alternative-requires c κs =
     let x = c .before .before .before in
     let y = x .before in
     let z = y .before .before .before .before .before .before .before .before in
-    let e = count-exact _ _ (z .pre .accepted) (y .before .before .count-of .ensures) in
+    let e = count-exact _ _ _ (z .pre .ready) (y .before .before .count-of .ensures) in
     alternative-adding (z .pre) (y .before .loop .inv) (omega (arith, e, y .loop-test .taken)) (x .shape-of .ensures)
 
 add-s : tie.Need-add-s Inv-loop μ-loop
@@ -67,7 +66,7 @@ add-s c =
     let x = c .before .before .before .before .before .before .before .before .before .before in
     let y = x .before in
     let z = y .before .before .before .before .before .before .before .before in
-    let e = count-exact _ _ (z .pre .accepted) (y .before .before .count-of .ensures) in
+    let e = count-exact _ _ _ (z .pre .ready) (y .before .before .count-of .ensures) in
     let r =
     passed-small (z .pre) (y .before .loop .inv) (omega (arith, e, y .loop-test .taken)) (x .shape-of .ensures)
     in
@@ -79,7 +78,7 @@ loop-again c =
     let x = w .before .before .before .before in
     let y = x .before in
     let z = y .before .before .before .before .before .before .before .before in
-    let e = count-exact _ _ (z .pre .accepted) (y .before .before .count-of .ensures) in
+    let e = count-exact _ _ _ (z .pre .ready) (y .before .before .count-of .ensures) in
     alternative-next (z .pre) (y .before .loop .inv) (omega (arith, e, y .loop-test .taken)) (x .shape-of .ensures)
     (w .put-alternative .ensures)
 
@@ -102,7 +101,7 @@ same-length-4 c =
 returns : tie.Need-returns Inv-loop μ-loop
 returns c =
     let c8 = c .before .before .before .before .before .before .before .before in
-    let e = count-exact _ _ (c8 .pre .accepted) (c .before .before .count-of .ensures) in
+    let e = count-exact _ _ _ (c8 .pre .ready) (c .before .before .count-of .ensures) in
     alternatives-filled (c8 .pre) (c .before .loop .inv) (omega (arith, e, c .loop-test .left))
 
 pub fill-spec : {M : Type 1} → statement M

@@ -2,23 +2,22 @@
 -- passed.
 use Prim.Native.Nat.{_-_}
 use native.Mathlib.Omega.{arith}
-use Rattle.acceptance.proofs.Acceptance.{accepted-vector}
-use Rattle.rewriting.specs.Lists.{alternativesAt}
-use Rattle.rewriting.proofs.Bounds.{count-exact, accepted-chosen}
+use Rattle.rewriting.specs.Lists.{alternativesBy}
+use Rattle.rewriting.proofs.Bounds.{ready-ends, count-exact, ready-shaping}
 use Rattle.rewriting.proofs.Filling.{Counting, counting-first, counting-end}
 use Rattle.rewriting.proofs.Turns.{counts-small, counts-next}
 use Rattle.rewriting.proofs.lists.lengths_of.Statement.{statement}
 use Rattle.rewriting.proofs.lists.lengths_of.Tie as tie
 
 abbrev Inv-loop : tie.InvT-loop
-Inv-loop tree names end n steps₀ tests₀ t₀ steps tests t = Counting (alternativesAt tree names) steps tests t
+Inv-loop tree pins names end n steps₀ tests₀ t₀ steps tests t = Counting (alternativesBy pins tree names) steps tests t
 
 abbrev μ-loop : tie.MeasureT-loop
-μ-loop tree names end n steps₀ tests₀ t₀ steps tests t = n - t
+μ-loop tree pins names end n steps₀ tests₀ t₀ steps tests t = n - t
 
 count-of-requires : tie.Need-count-of-requires Inv-loop μ-loop
 count-of-requires c κs =
-    accepted-vector _ _ (c .before .pre)
+    ready-ends (c .before .pre)
 
 loop-holds : tie.Need-loop-holds Inv-loop μ-loop
 loop-holds c = counting-first
@@ -26,14 +25,14 @@ loop-holds c = counting-first
 shape-of-requires : tie.Need-shape-of-requires Inv-loop μ-loop
 shape-of-requires c κs =
     let c4 = c .before .before .before .before in
-    let e = count-exact _ _ (c4 .pre) (c .before .before .count-of .ensures) in
-    accepted-chosen _ _ (c4 .pre) (omega (arith, e, c .loop-test .taken))
+    let e = count-exact _ _ _ (c4 .pre) (c .before .before .count-of .ensures) in
+    ready-shaping _ _ _ (c4 .pre) (omega (arith, e, c .loop-test .taken))
 
 add-steps : tie.Need-add-steps Inv-loop μ-loop
 add-steps c =
     let c2 = c .before .before in
     let c6 = c2 .before .before .before .before in
-    let e = count-exact _ _ (c6 .pre) (c2 .before .before .count-of .ensures) in
+    let e = count-exact _ _ _ (c6 .pre) (c2 .before .before .count-of .ensures) in
     let r = counts-small (c6 .pre) (c2 .before .loop .inv) (c .before .shape-of .ensures)
     (omega (arith, e, c2 .loop-test .taken)) in
     omega (arith, r .0)
@@ -43,7 +42,7 @@ add-tests c =
     let c2 = c .before .before in
     let c3 = c2 .before in
     let c7 = c3 .before .before .before .before in
-    let e = count-exact _ _ (c7 .pre) (c3 .before .before .count-of .ensures) in
+    let e = count-exact _ _ _ (c7 .pre) (c3 .before .before .count-of .ensures) in
     let r = counts-small (c7 .pre) (c3 .before .loop .inv) (c2 .shape-of .ensures)
     (omega (arith, e, c3 .loop-test .taken)) in
     omega (arith, r .1)
@@ -53,13 +52,13 @@ loop-again c =
     let c2 = c .before .before in
     let c3 = c2 .before in
     let c7 = c3 .before .before .before .before in
-    let e = count-exact _ _ (c7 .pre) (c3 .before .before .count-of .ensures) in
+    let e = count-exact _ _ _ (c7 .pre) (c3 .before .before .count-of .ensures) in
     counts-next (c7 .pre) (c3 .before .loop .inv) (c2 .shape-of .ensures) (omega (arith, e, c3 .loop-test .taken))
 
 returns : tie.Need-returns Inv-loop μ-loop
 returns c =
     let c4 = c .before .before .before .before in
-    let e = count-exact _ _ (c4 .pre) (c .before .before .count-of .ensures) in
+    let e = count-exact _ _ _ (c4 .pre) (c .before .before .count-of .ensures) in
     counting-end (c .before .loop .inv) e (c .loop-test .left)
 
 pub lengths-of-spec : {M : Type 1} → statement M

@@ -8,11 +8,11 @@ use Rattle.rewriting.proofs.lists.put_alternative.Statement.{statement}
 use Rattle.rewriting.proofs.lists.put_alternative.Tie as tie
 
 abbrev Inv-loop : tie.InvT-loop
-Inv-loop tree names t n tests₀ s edges₀ operands₀ from end at₀ j₀ tests edges operands at j =
-    Walking (alternativeOf tree names t) tests₀ s edges₀ operands₀ from tests edges operands at j
+Inv-loop tree pins names t n tests₀ s edges₀ operands₀ from end at₀ j₀ tests edges operands at j =
+    Walking (alternativeOf pins tree names t) tests₀ s edges₀ operands₀ from tests edges operands at j
 
 abbrev μ-loop : tie.MeasureT-loop
-μ-loop tree names t n tests₀ s edges₀ operands₀ from end at₀ j₀ tests edges operands at j = n - j
+μ-loop tree pins names t n tests₀ s edges₀ operands₀ from end at₀ j₀ tests edges operands at j = n - j
 
 loop-holds : tie.Need-loop-holds Inv-loop μ-loop
 loop-holds c = walking-first

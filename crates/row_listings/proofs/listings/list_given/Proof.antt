@@ -10,7 +10,7 @@ use Rattle.row_listings.proofs.listings.list_given.Tie as tie
 -- what is read, where it is not refused
 found : (c : tie.After-read-expression) → c .read-expression .result .refused ≡ false
     → let s = c .before .before .before .before .before .before in
-    Found (s .args .names .now) (s .args .text .now) (s .args .sort) (c .read-expression .result)
+    Found (s .args .rules) (s .args .names .now) (s .args .text .now) (s .args .sort) (c .read-expression .result)
 found c = read-found (c .read-expression .ensures)
 
 read-expression-requires : tie.Need-read-expression-requires

@@ -14,7 +14,7 @@ returns : tie.Need-returns
 returns c =
     let told = c .before .before in
     let made = told .before .before .before .before .before .before .before .before .before .before in
-    answers-filled (made .before .before .before .before .pre) (made .alternatives-of .ensures) _
+    answers-filled (made .before .before .before .before .pre) (made .alternatives-of .ensures)
     (told .rewrite .ensures)
 
 pub fill-answers-spec : {M : Type 1} → statement M

@@ -1,11 +1,6 @@
 -- `rows::answer` meets its contract.
-use mathlib.Core.Path.{sym}
-use native.Mathlib.Omega.{arith}
-use borrow.Author.Needs.{needs}
-use Rattle.trees.proofs.Starts.{of-vector, ends-pos}
-use Rattle.window_answers.proofs.NoEvent.{no-event}
-use Rattle.window_answers.proofs.LongWindows.{too-long}
-use Rattle.window_answers.proofs.FromTables.{pattern-fillable, filled-answer}
+use denote.Ref.{now}
+use Rattle.window_answers.proofs.FoundAnswers.{pattern-tree, pattern-pins, found-answer}
 use Rattle.window_answers.proofs.rows.answer.Statement.{statement}
 use Rattle.window_answers.proofs.rows.answer.Tie as tie
 
@@ -13,30 +8,11 @@ pub answer-spec : {M : Type 1} → statement M
 answer-spec =
     tie.close
     (tie.spec
-    (λ c. sym (no-event _ _ _ _ (c .if1 .taken)))
-    (λ c. search needs)
-    (λ c κs. search needs)
-    (λ c. let e = c .before .longest .ensures in let l = c .if2 .taken in sym (too-long _ _ _ _ (omega arith)))
-    (λ c κs. tt)
+    (λ c κs. pattern-tree (c .before .before .pre .0))
     (λ c κs.
-    let i = c .before .before in
-    let s = i .before .before .before .before .before in
-    let e = i .before .longest .ensures in
-    let l = i .if2 .left in
-    pattern-fillable (s .pre .0) (omega arith) (omega arith) (s .pre .1) (c .before .blank .ensures))
+    let s = c .before .before .before .before .pre in
+    (s .0, (pattern-pins (s .0) _ (c .before .find .ensures), s .1)))
     (λ c.
-    let i = c .before .before .before .before in
-    ends-pos (of-vector (i .before .before .before .before .before .pre .0 .ends)))
-    (λ c. search needs)
-    (λ c κs.
-    let i = c .before .before .before .before in
-    let s = i .before .before .before .before .before .pre .0 in
-    let e = i .before .longest .ensures in
-    let l = i .if2 .left in
-    let p = s .short in
-    let f = c .before .fill .ensures in
-    record { some = omega arith; last = omega arith; room = omega (arith, s .few); long = f .long })
-    (λ c.
-    let i = c .before .before .before .before .before in
-    let s = i .before .before .before .before .before .pre .0 in
-    filled-answer s (c .before .before .fill .ensures) (omega arith) (omega arith) (c .read .ensures)))
+    let s = c .before .before .before .before .before in
+    found-answer (s .pre .0) _ (c .before .before .find .ensures) (now (s .args .states)) (s .args .a) (s .args .b)
+    (c .answer-with .ensures)))

@@ -1,8 +1,6 @@
 -- `rows::best_at` meets its contract.
-use native.Mathlib.Omega.{arith}
-use borrow.Author.Needs.{needs}
-use Rattle.trees.proofs.Starts.{of-vector, ends-pos}
-use Rattle.window_answers.proofs.FromTables.{pattern-fillable, filled-best}
+use denote.Ref.{now}
+use Rattle.window_answers.proofs.FoundAnswers.{pattern-tree, pattern-pins, found-best}
 use Rattle.window_answers.proofs.rows.best_at.Statement.{statement}
 use Rattle.window_answers.proofs.rows.best_at.Tie as tie
 
@@ -10,24 +8,11 @@ pub best-at-spec : {M : Type 1} → statement M
 best-at-spec =
     tie.close
     (tie.spec
-    (λ c κs. search needs)
-    (λ c κs. search needs)
-    (λ c κs. tt)
-    (λ c. search needs)
+    (λ c κs. pattern-tree (c .before .before .pre .0))
     (λ c κs.
-    let m = c .before .before in
-    let s = m .before .before .before .before .pre in
-    let e = m .before .longest .ensures in
-    let l = m .smaller .ensures in
-    pattern-fillable (s .0) (omega arith) (omega arith) (s .1) (c .before .blank .ensures))
+    let s = c .before .before .before .before .pre in
+    (s .0, (pattern-pins (s .0) _ (c .before .find .ensures), s .1)))
     (λ c.
-    let m = c .before .before .before .before in
-    ends-pos (of-vector (m .before .before .before .before .pre .0 .ends)))
-    (λ c. search needs)
-    (λ c κs. search needs)
-    (λ c.
-    let m = c .before .before .before .before .before in
-    let s = m .before .before .before .before .pre in
-    let e = m .before .longest .ensures in
-    let l = m .smaller .ensures in
-    filled-best (s .0) (c .before .before .fill .ensures) (omega arith) (omega arith) (c .best-of .ensures)))
+    let s = c .before .before .before .before .before in
+    found-best (s .pre .0) _ (c .before .before .find .ensures) (now (s .args .states)) (s .args .row)
+    (c .best-with .ensures)))

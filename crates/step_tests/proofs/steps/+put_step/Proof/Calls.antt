@@ -12,17 +12,19 @@ use Rattle.alternatives.proofs.picking.find.Reads as find-reads
 use Rattle.acceptance.proofs.sizes.count_of.Reads as count-of-reads
 use Rattle.acceptance.proofs.sizes.shape_of.Reads as shape-of-reads
 use Rattle.step_tests.proofs.splitting.split.Reads as split-reads
-use Rattle.step_tests.proofs.steps.put_test.Reads as put-test-reads
+use Rattle.step_tests.proofs.pins.entries_at.Reads as entries-at-reads
+use Rattle.step_tests.proofs.pins.put_pins.Reads as put-pins-reads
+use Rattle.step_tests.proofs.tests.put_test.Reads as put-test-reads
 use Rattle.trees.proofs.parts.start_of.Reads as start-of-reads
 
-abbrev pub μ-put-step : Measures 3 put-step-kinds.ps ℕ
-μ-put-step κs a = a .1 .0
+abbrev pub μ-put-step : Measures 4 put-step-kinds.ps ℕ
+μ-put-step κs a = a .1 .1 .0
 
-abbrev pub put-step-at : ℕ → In 3 put-step-kinds.ps
-put-step-at t = and 3 put-step-kinds.ps (is 3 put-step-kinds.ps μ-put-step t) put-step.Pre
+abbrev pub put-step-at : ℕ → In 4 put-step-kinds.ps
+put-step-at t = and 4 put-step-kinds.ps (is 4 put-step-kinds.ps μ-put-step t) put-step.Pre
 
-abbrev pub put-step-below : ℕ → In 3 put-step-kinds.ps
-put-step-below t = and 3 put-step-kinds.ps (falls 3 put-step-kinds.ps _<_ μ-put-step t) put-step.Pre
+abbrev pub put-step-below : ℕ → In 4 put-step-kinds.ps
+put-step-below t = and 4 put-step-kinds.ps (falls 4 put-step-kinds.ps _<_ μ-put-step t) put-step.Pre
 
 abbrev pub calls-put-step : ℕ → put-step-lts.Claims
 calls-put-step t = (
@@ -30,6 +32,8 @@ calls-put-step t = (
   shape-of-reads.Learnt,
   put-test-reads.Asked,
   put-test-reads.Learnt,
+  put-pins-reads.Asked,
+  put-pins-reads.Learnt,
   start-of-reads.Asked,
   start-of-reads.Learnt,
   put-step-below t,
@@ -40,4 +44,6 @@ calls-put-step t = (
   find-reads.Learnt,
   split-reads.Asked,
   split-reads.Learnt,
+  entries-at-reads.Asked,
+  entries-at-reads.Learnt,
 )

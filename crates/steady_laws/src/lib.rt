@@ -1,0 +1,1 @@
+// Steady pins between events: the laws of the filled expression. Nothing but proofs.

@@ -1,0 +1,20 @@
+-- The laws of this crate.
+pub mod PinMoves
+pub mod PinnedAnswers
+pub mod Starting
+pub mod StepParts
+pub mod BesideParts
+pub mod MarkedPins
+pub mod StepMaps
+pub mod LastSteps
+pub mod PinnedAlternatives
+pub mod PinCounts
+pub mod TreeInduction
+pub mod Unpinned
+pub mod Placed
+pub mod PinRanges
+pub mod BesideLike
+pub mod FoundSteps
+pub mod FoundParts
+pub mod PinEntries
+pub mod Found

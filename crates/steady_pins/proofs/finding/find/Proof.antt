@@ -1,0 +1,18 @@
+-- `finding::find` meets its contract.
+use borrow.Author.Needs.{needs}
+use Rattle.steady_pins.proofs.MarkedPins.{found-on, found-off}
+use Rattle.steady_pins.proofs.finding.find.Statement.{statement}
+use Rattle.steady_pins.proofs.finding.find.Tie as tie
+
+pub find-spec : {M : Type 1} → statement M
+find-spec =
+    tie.close
+    (tie.spec
+    (λ c κs. search needs)
+    (λ c κs. search needs)
+    (λ c κs. c .before .before .before .before .before .pre)
+    (λ c.
+    let a = c .before .before in
+    let i = a .before in
+    found-on _ _ _ _ (i .if1 .taken) (a .alone .ensures) (i .before .blank .ensures) (c .mark .ensures))
+    (λ c. found-off _ _ _ _ (c .if1 .left) (c .before .blank .ensures)))

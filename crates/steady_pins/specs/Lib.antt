@@ -1,0 +1,5 @@
+-- The steady pins of a tree: what they are in memory, and how they are found.
+pub mod Pinned
+pub mod Finding
+pub mod Moving
+pub mod Entries
