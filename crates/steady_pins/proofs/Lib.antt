@@ -4,6 +4,7 @@ pub mod PinnedAnswers
 pub mod Starting
 pub mod StepParts
 pub mod BesideParts
+pub mod MarkedParts
 pub mod MarkedPins
 pub mod StepMaps
 pub mod LastSteps

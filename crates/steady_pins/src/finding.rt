@@ -1,5 +1,5 @@
-// The steady pins of a tree. A part of a chain of `->` needs of its neighbours only what `Beside` holds, so each step's
-// pins are found where the step stands.
+// The steady pins of a tree. A part of a chain of `->` needs of its neighbours only what `Beside` holds, so the pins of
+// a step are found where the step stands.
 use crate::steps::is_step;
 use crate::steps::moves;
 use crate::steps::own;
@@ -11,8 +11,8 @@ ghost use lib.ListN.{getD, replicate};
 ghost use lib.Seq.{sets};
 ghost use Rattle.basics.specs.Words.{listed};
 ghost use Rattle.trees.specs.Parts.{vectorAt};
-ghost use Rattle.steady_pins.specs.Finding.{Tree, StepAt, alone, stepped, front, back};
-ghost use Rattle.steady_pins.specs.Finding.{pinEntry, stepMarked, marked, pinsOf};
+ghost use Rattle.steady_pins.specs.Finding.{Tree, StepAt, alone, stepped, front};
+ghost use Rattle.steady_pins.specs.Finding.{pinEntry, stepMarked, Marks, pinsOf};
 
 // What is beside a part of a chain of `->`: for each name the place of an operand that is this name, in the row of
 // steps next to the part, or 0; and whether all of those steps change.
@@ -50,7 +50,7 @@ fn stepped(tree: &[u8], end: usize, names: usize, r: Beside) -> Beside
     }
 }
 
-// The row of steps that begins with the operands of the expression that ends at `end`, and goes on with what is beside.
+// The row of steps that begins with the operands of the expression that ends at `end`, and then what is beside it.
 fn front_of(tree: &[u8], end: usize, names: usize, r: Beside) -> Beside
     requires { ⌜ Tree (now tree) names end ⌝ }
     ensures { λ s. ⌜ s ≡ front end (vectorAt (now (tree .entry)) names end) r ⌝ }
@@ -60,23 +60,6 @@ fn front_of(tree: &[u8], end: usize, names: usize, r: Beside) -> Beside
         let left = start_of(tree, at, names);
         let s = front_of(tree, at, names, r);
         return front_of(tree, left, names, s);
-    }
-    if is_step(tree, end, names) {
-        return stepped(tree, end, names, r);
-    }
-    alone()
-}
-
-// The same from the last operand backwards.
-fn back_of(tree: &[u8], end: usize, names: usize, r: Beside) -> Beside
-    requires { ⌜ Tree (now tree) names end ⌝ }
-    ensures { λ s. ⌜ s ≡ back end (vectorAt (now (tree .entry)) names end) r ⌝ }
-{
-    let at = end - 1;
-    if tree[at] == 50 {
-        let left = start_of(tree, at, names);
-        let s = back_of(tree, left, names, r);
-        return back_of(tree, at, names, s);
     }
     if is_step(tree, end, names) {
         return stepped(tree, end, names, r);
@@ -142,36 +125,43 @@ fn mark_step(
     put_row(left, mine, right, (end - 1) * 32, pins);
 }
 
-// The pins of the expression that ends at `end`, between what is before it and what is after it.
-fn mark(tree: &[u8], end: usize, names: usize, before: Beside, after: Beside, pins: &mut [u8; 8192])
+// The pins of the expression that ends at `end`, between what is before it and what is after it. It gives what is then
+// before the part that follows.
+fn mark(
+    tree: &[u8],
+    end: usize,
+    names: usize,
+    before: Beside,
+    after: Beside,
+    pins: &mut [u8; 8192],
+) -> Beside
     requires { ⌜ Tree (now tree) names end ⌝ }
-    ensures { λ _. ⌜ now (pins .exit) ≡ marked end (vectorAt (now (tree .entry)) names end) before after
-        (now (pins .entry)) ⌝ }
+    ensures { λ r. ⌜ Marks end (vectorAt (now (tree .entry)) names end) before after (now (pins .entry))
+        (now (pins .exit)) r ⌝ }
 {
     if is_step(tree, end, names) {
         mark_step(tree, end, names, before, after, pins);
-        return;
+        return stepped(tree, end, names, before);
     }
     let at = end - 1;
     let b = tree[at];
     let none = alone();
     if b == 57 {
         mark(tree, at, names, none, none, pins);
-        return;
+        return none;
     }
     let left = start_of(tree, at, names);
     if b == 50 {
         let f = front_of(tree, at, names, after);
-        let k = back_of(tree, left, names, before);
-        mark(tree, left, names, before, f, pins);
-        mark(tree, at, names, k, after, pins);
-        return;
+        let k = mark(tree, left, names, before, f, pins);
+        return mark(tree, at, names, k, after, pins);
     }
     mark(tree, left, names, none, none, pins);
     if b == 56 {
-        return;
+        return none;
     }
     mark(tree, at, names, none, none, pins);
+    none
 }
 
 // The steady pins of the vector expression that ends at `end`; none where the rules have none.

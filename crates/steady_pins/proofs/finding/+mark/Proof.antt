@@ -12,18 +12,15 @@ use borrow.Author.Needs.{needs}
 use Rattle.alf.specs.Steady.{isStep}
 use Rattle.trees.specs.Parts.{vectorAt}
 use Rattle.trees.proofs.Vectors.{vector-pos, right-ends, condition-is}
-use Rattle.steady_pins.specs.declared.finding.Beside.{Beside}
-use Rattle.steady_pins.specs.Finding as define
 use Rattle.steady_pins.proofs.BesideParts.{then-two, other-two, left-tree, before-tree, low-byte}
-use Rattle.steady_pins.proofs.BesideParts.{step-marked, then-marked, other-marked, before-marked}
-use Rattle.steady_pins.proofs.BesideParts.{condition-marked}
+use Rattle.steady_pins.proofs.MarkedParts.{step-marks, then-marks, before-marks, condition-marks, other-marks}
 use Rattle.steady_pins.proofs.finding.mark.Reads as mark
 use Rattle.steady_pins.proofs.finding.mark.Kinds as mark-kinds
 use Rattle.steady_pins.proofs.finding.+mark.Lts-mark as mark-lts
 use Rattle.steady_pins.proofs.finding.alone.Reads as alone-reads
-use Rattle.steady_pins.proofs.finding.back_of.Reads as back-of-reads
 use Rattle.steady_pins.proofs.finding.front_of.Reads as front-of-reads
 use Rattle.steady_pins.proofs.finding.mark_step.Reads as mark-step-reads
+use Rattle.steady_pins.proofs.finding.stepped.Reads as stepped-reads
 use Rattle.steady_pins.proofs.steps.is_step.Reads as is-step-reads
 use Rattle.trees.proofs.parts.start_of.Reads as start-of-reads
 use Rattle.steady_pins.proofs.finding.+mark.{statement}
@@ -44,6 +41,8 @@ calls t = (
   is-step-reads.Learnt,
   mark-step-reads.Asked,
   mark-step-reads.Learnt,
+  stepped-reads.Asked,
+  stepped-reads.Learnt,
   alone-reads.Asked,
   alone-reads.Learnt,
   mark-below t,
@@ -52,8 +51,6 @@ calls t = (
   start-of-reads.Learnt,
   front-of-reads.Asked,
   front-of-reads.Learnt,
-  back-of-reads.Asked,
-  back-of-reads.Learnt,
 )
 
 -- where the bytes of an expression that is no step are looked at, and where its last operand is found to start
@@ -87,22 +84,19 @@ no-step t c = let e = c .before .before in sym (e .before .is-step .ensures) ∙
 low : (t : ℕ) (c : Opened t) → getD (treeOf t c) (endOf t c - 1) 0 < 64
 low t c = low-byte (entry t c .pre .1) (no-step t c)
 
--- an operand's pins, with nothing beside it
-bare : (t : ℕ) (c : Opened t) (m : ℕ) (l : List ℕ)
-    → define.marked m (vectorAt (treeOf t c) (namesOf t c) m) (c .alone .result) (c .alone .result) l
-    ≡ define.marked m (vectorAt (treeOf t c) (namesOf t c) m) define.alone define.alone l
-bare t c m l =
-    ap (λ (x : Beside). define.marked m (vectorAt (treeOf t c) (namesOf t c) m) x x l) (c .alone .ensures)
-
 pub +mark-spec : {M : Type 1} → statement M
 +mark-spec = close μ-mark λ t. mark-lts.spec (calls t) (mark-at t) mark.Post
     (λ c κs. c .before .pre .1 .ends)
     (λ c κs.
     let i = c .before in
     record { is = i .before .before .before .pre .1; step = sym (i .before .is-step .ensures) ∙ i .if1 .taken })
-    (λ c.
+    (λ c κs.
     let i = c .before .before in
-    c .mark-step .ensures ∙ sym (step-marked _ _ _ _ _ (sym (i .before .is-step .ensures) ∙ i .if1 .taken)))
+    record { is = i .before .before .before .pre .1; step = sym (i .before .is-step .ensures) ∙ i .if1 .taken })
+    (λ c.
+    let i = c .before .before .before in
+    step-marks (sym (i .before .is-step .ensures) ∙ i .if1 .taken) (c .before .mark-step .ensures)
+    (c .stepped .ensures))
     (λ c. vector-pos _ _ _ (c .before .before .before .pre .1 .ends))
     (λ c.
     let start = c .before .before .before .before in
@@ -117,16 +111,14 @@ pub +mark-spec : {M : Type 1} → statement M
     (λ c.
     let i = c .before .before in
     let o = i .before in
-    c .mark .ensures ∙ bare t o _ _ ∙ sym (before-marked _ _ _ (entry t o .pre .1 .ends) _ _ _ (i .if2 .taken)))
+    before-marks _ _ _ (entry t o .pre .1 .ends) (λ e. omega (arith, i .if2 .taken)) (no-step t o) (o .alone .ensures)
+    (i .if2 .taken) (c .mark .ensures))
     (λ c κs. right-ends _ _ _ (entry t (c .before) .pre .1 .ends) (low t (c .before)) (c .if2 .left))
     (λ c κs.
     let l = c .before in
     then-two (entry t (opened t l) .pre .1) (l .start-of .ensures) (c .if3 .taken) .right)
     (λ c κs.
-    let l = c .before .before in
-    then-two (entry t (opened t l) .pre .1) (l .start-of .ensures) (c .before .if3 .taken) .left)
-    (λ c κs.
-    let i = c .before .before .before in
+    let i = c .before .before in
     let l = i .before in
     let start = entry t (opened t l) in
     let s = l .start-of .ensures in (
@@ -134,7 +126,7 @@ pub +mark-spec : {M : Type 1} → statement M
       then-two (start .pre .1) s (i .if3 .taken) .left,
     ))
     (λ c κs.
-    let i = c .before .before .before .before .before in
+    let i = c .before .before .before .before in
     let l = i .before in
     let start = entry t (opened t l) in
     let p = vector-pos _ _ _ (start .pre .1 .ends) in (
@@ -143,20 +135,12 @@ pub +mark-spec : {M : Type 1} → statement M
     ))
     (λ c.
     let m = c .before .before in
-    let b = m .before .before in
-    let l = b .before .before .before in
-    let o = opened t l in
-    let start = entry t o in
-    let first = m .mark2 .ensures
-    ∙ ap (λ (x : Beside). define.marked (l .start-of .result)
-    (vectorAt (treeOf t o) (namesOf t o) (l .start-of .result)) (start .args .before) x (now (start .args .pins)))
-    (b .before .front-of .ensures) in
-    c .mark3 .ensures
-    ∙ (λ i. define.marked (endOf t o - 1) (vectorAt (treeOf t o) (namesOf t o) (endOf t o - 1))
-    (b .back-of .ensures i) (start .args .after) (first i))
-    ∙ sym (then-marked _ _ _ (start .pre .1 .ends) (l .start-of .ensures)
-    (then-two (start .pre .1) (l .start-of .ensures) (b .before .before .if3 .taken) .joined) _ _ _
-    (b .before .before .if3 .taken)))
+    let f = m .before .before in
+    let i = f .before in
+    let start = entry t (opened t (i .before)) in
+    let s = i .before .start-of .ensures in
+    then-marks _ _ _ (start .pre .1 .ends) s (then-two (start .pre .1) s (i .if3 .taken) .joined) (i .if3 .taken)
+    (f .front-of .ensures) (m .mark2 .ensures) (c .mark3 .ensures))
     (λ c κs.
     let l = c .before .before in
     let o = opened t l in
@@ -165,12 +149,13 @@ pub +mark-spec : {M : Type 1} → statement M
       left-tree (entry t o .pre .1) s (low t o) (l .before .if2 .left),
     ))
     (λ c.
-    let l = c .before .before .before .before in
+    let e = c .before .before .before in
+    let l = e .before in
     let o = opened t l in
     let h = entry t o .pre .1 .ends in
     let s = l .start-of .ensures in
-    c .before .mark4 .ensures ∙ bare t o _ _
-    ∙ sym (condition-marked _ _ _ h _ _ _ s (condition-is _ _ _ h s (c .if4 .taken))))
+    condition-marks _ _ _ h (e .if3 .left) (no-step t o) (o .alone .ensures) s (c .before .mark4 .ensures)
+    (condition-is _ _ _ h s (c .if4 .taken)))
     (λ c κs.
     let e = c .before in
     let l = e .before .before .before .before in
@@ -186,10 +171,6 @@ pub +mark-spec : {M : Type 1} → statement M
     let o = opened t l in
     let start = entry t o in
     let s = l .start-of .ensures in
-    c .mark5 .ensures
-    ∙ ap (λ (x : List ℕ). define.marked (endOf t o - 1) (vectorAt (treeOf t o) (namesOf t o) (endOf t o - 1))
-    (o .alone .result) (o .alone .result) x) (m .mark4 .ensures ∙ bare t o _ _)
-    ∙ bare t o _ _
-    ∙ sym (other-marked _ _ _ (start .pre .1 .ends) s
-    (other-two (start .pre .1) s (low t o) (e .if4 .left) (l .before .if2 .left) .joined) _ _ _
-    (m .before .before .if3 .left) (no-step t o)))
+    other-marks _ _ _ (start .pre .1 .ends) (m .before .before .if3 .left) (no-step t o) (o .alone .ensures) s
+    (m .mark4 .ensures)
+    (other-two (start .pre .1) s (low t o) (e .if4 .left) (l .before .if2 .left) .joined) (c .mark5 .ensures))

@@ -14,5 +14,5 @@ find-spec =
     (λ c.
     let a = c .before .before in
     let i = a .before in
-    found-on _ _ _ _ (i .if1 .taken) (a .alone .ensures) (i .before .blank .ensures) (c .mark .ensures))
+    found-on _ _ _ _ (i .if1 .taken) (a .alone .ensures) (i .before .blank .ensures) (c .mark .ensures .pins))
     (λ c. found-off _ _ _ _ (c .if1 .left) (c .before .blank .ensures)))
