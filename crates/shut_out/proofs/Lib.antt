@@ -19,6 +19,8 @@
 --     `one-answer-for-all`, `one-match-for-all`, `one-number-for-all`, `one-value-for-all` (Answering)
 -- unknown given as no
 --     `unknown-as-no`, `unknown-as-no-matched`, `unknown-as-no-listed` (Answering)
+-- the rule of steady pins dropped where it is on, or had where it is off: cases 2 and 3
+--     `rule-dropped`, `rule-dropped-under`, `rule-dropped-counted`, `rule-forced`, `rule-forced-under` (SteadyRule)
 -- a time cut to 32 bits; `RL` for 2^32 - 1
 --     `long-listing`, `long-file` (LongTimes)
 -- row 0 answered, tried, changed
@@ -80,6 +82,7 @@ pub mod EveryJob
 pub mod EveryAlternatives
 pub mod Accepting
 pub mod Answering
+pub mod SteadyRule
 pub mod Counting
 pub mod Correcting
 pub mod Writing
