@@ -151,14 +151,12 @@ fn run(word: &[u8], more: usize) {
     }
     if c < VERSION {
         let rules = old_rules();
-        on_trace(
-            Asked {
-                rules,
-                trace: 2,
-                first: 3,
-            },
-            c,
-        );
+        let a = Asked {
+            rules,
+            trace: 2,
+            first: 3,
+        };
+        on_trace(a, c);
         return;
     }
     if c == VERSION {

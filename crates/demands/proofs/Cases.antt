@@ -127,8 +127,8 @@ module _ (ρ : Rules) where
   unfolding
       slots bytes slotOf slot untilZero text textOf following spelled signSpelled prefixes marks operators pairSpelled
       literalSpelled halfByte treeOf vectorTree booleanTree joinCode written fitted table kindIn kind binaryByte
-      joinByte edgeNumber halfNumber booleanBytes vectorBytes bytesOf binaryLevel joinLevel levelOf bracketed booleanDepth
-      vectorDepth depthOf VectorOver Over
+      joinByte edgeNumber halfNumber booleanBytes vectorBytes bytesOf binaryLevel joinLevel levelOf bracketed
+      booleanDepth vectorDepth depthOf VectorOver Over
   first-given = (
     pattern-given (edge rise A) refl rise-over (omega arith) (omega arith) (all-small .rises),
     pattern-given pulse refl pulse-over (omega arith) (omega arith) (all-small .pulses),
