@@ -1,6 +1,9 @@
 /* PROGRAM FILE RUNS: what steady pins cost. A pattern with the rule on, and the same with its added tests written out
    and the rule off, on the same rows. The answers are compared, then the least time over RUNS runs of each is told:
-   totals of all rows, the answers as written of the first 256 rows, and these rows through the queue, in nanoseconds. */
+   totals of all rows, the answers as written of the first 256 rows, and these rows through the queue, in nanoseconds.
+   All are asked from one place in memory, since the place by itself makes a difference. What is written out is asked
+   twice in each run, so that the ratio of it to itself tells how far the machine measures the same work alike. With 0
+   RUNS each is asked once, the rule on first, and no time is told. */
 #include "../include/dachsmond.h"
 #include "measure.h"
 #include <stdio.h>
@@ -8,7 +11,7 @@
 #include <string.h>
 #include <time.h>
 
-enum { WAYS = 3, FEW = 256 };
+enum { WAYS = 3, SIDES = 3, FEW = 256 };
 static const char *const WAY[WAYS] = {"totals", "as written", "queue"};
 
 static uint8_t file[4 << 20], names[32 * MAX_NAMES], states[MAX_ROWS * MAX_NAMES];
@@ -36,8 +39,8 @@ static Asked read_text(bool steady, const char *text)
 
 #define FIRST(n) trace.names, (n), a->e.tree, a->e.len, states, (n) * trace.names
 
-/* A sum over what one way answers. */
-static uint64_t ask(const Asked *a, int way)
+/* A sum over what one way answers. A function of its own, so that what it takes can be counted. */
+__attribute__((noinline, noclone)) static uint64_t ask(const Asked *a, int way)
 {
     uint64_t sum = 0;
     if (way == 0) {
@@ -60,23 +63,30 @@ static uint64_t ask(const Asked *a, int way)
 
 static void compare(const char *label, const char *pattern, const char *filled, int runs)
 {
-    Asked steady = read_text(true, pattern), out = read_text(false, filled);
+    static Asked here;
+    Asked asked[SIDES] = {read_text(true, pattern), read_text(false, filled), read_text(false, filled)};
     for (int way = 0; way < WAYS; way++) {
-        long on = -1, off = -1;
-        if (ask(&steady, way) != ask(&out, way)) {
+        long least[SIDES] = {0, 0, 0};
+        here = asked[0];
+        uint64_t on = ask(&here, way);
+        here = asked[1];
+        if (on != ask(&here, way)) {
             fprintf(stderr, "%s: other answers, %s\n", label, WAY[way]);
             exit(1);
         }
-        for (int i = 0; i < runs; i++) {
+        for (int i = 0; i < runs * SIDES; i++) {
+            int side = (i + i / SIDES) % SIDES;
+            here = asked[side];
             long a = now();
-            ask(&steady, way);
+            ask(&here, way);
             long b = now();
-            ask(&out, way);
-            long c = now();
-            if (on < 0 || b - a < on) on = b - a;
-            if (off < 0 || c - b < off) off = c - b;
+            if (!least[side] || b - a < least[side]) least[side] = b - a;
         }
-        printf("%-28s %-10s %12ld %12ld %6.3f\n", label, WAY[way], on, off, (double)on / (double)off);
+        printf("%-28s %-10s", label, WAY[way]);
+        if (runs)
+            printf(" %12ld %12ld %6.3f %6.3f", least[0], least[1], (double)least[0] / (double)least[1],
+                   (double)least[2] / (double)least[1]);
+        printf("\n");
     }
 }
 
@@ -101,7 +111,8 @@ int main(int argc, char **argv)
     trace = dachsmond_read_trace(file, length, names, sizeof names, times, MAX_ROWS, states, sizeof states);
     if (trace.number) return fprintf(stderr, "read_trace: refused with %u\n", trace.number), 1;
     int runs = atoi(argv[2]);
-    printf("%-28s %-10s %12s %12s %6s\n", "pattern", "asked by", "rule on", "written out", "ratio");
+    printf("%-28s %-10s %12s %12s %6s%s\n", "pattern", "asked by", "rule on", "written out", "ratio",
+           runs ? " itself" : "");
     compare("01 A -> 10 B", "01 A -> 10 B", "01 A & ?- B -> 10 B & ?- A", runs);
     compare("( 01 A -> 10 B ) & C", "( 01 A -> 10 B ) & C", "( 01 A & ?- B -> 10 B & ?- A ) & C", runs);
     compare("01 A -> 10 B | 01 C", "01 A -> 10 B | 01 C", "01 A & ?- B -> 10 B & ?- A | 01 C", runs);
