@@ -53,8 +53,8 @@ __attribute__((noinline, noclone)) static uint64_t ask(const Asked *a, int way)
     }
     dachsmond_queue q = dachsmond_empty_queue();
     for (size_t i = 0; i < FEW; i++) {
-        dachsmond_pushed p = dachsmond_push(a->rules, trace.names, a->e.tree, a->e.len, q, states + i * trace.names,
-                                            trace.names);
+        dachsmond_pushed p = dachsmond_push(a->rules, trace.names, a->e.tree, a->e.len, q, times[i],
+                                            states + i * trace.names, trace.names);
         q = p.queue;
         sum = 31 * sum + p.answer;
     }

@@ -20,7 +20,7 @@
 #include <stdint.h>
 
 /* The version of this header. dachsmond_version() tells that of the library: 65536 * major + 256 * minor. */
-#define DACHSMOND_VERSION_MAJOR 3
+#define DACHSMOND_VERSION_MAJOR 4
 #define DACHSMOND_VERSION_MINOR 0
 #define DACHSMOND_VERSION (65536 * DACHSMOND_VERSION_MAJOR + 256 * DACHSMOND_VERSION_MINOR)
 
@@ -85,12 +85,17 @@ typedef struct {
     uint8_t answer;
 } dachsmond_answered;
 
-/* The same, and the number of alternatives tried. */
+/* The same, the number of alternatives tried, and where the match began (document 02, [12]): the time of the first row
+   of the window of the first alternative in order that answers yes. `given` is 1 where that time is given, which is
+   with yes alone; with every other answer `given` and `began` are 0. Until 3.0 no call gave that time: a program that
+   matches or pushes has to be changed and compiled again. */
 typedef struct {
     uint8_t number;
     size_t place;
     uint8_t answer;
     uint32_t tries;
+    uint8_t given;
+    uint64_t began;
 } dachsmond_matched;
 
 /* How many rows answer yes, no and unknown, or refused. */
@@ -102,18 +107,22 @@ typedef struct {
     uint32_t unknown;
 } dachsmond_counted;
 
-/* How many rows a queue keeps, and their states, oldest first, with zeros behind them. */
+/* How many rows a queue keeps, their states and their times, oldest first, with zeros behind them. */
 typedef struct {
     uint32_t kept;
     uint8_t states[512];
+    uint64_t times[16];
 } dachsmond_queue;
 
-/* The answer of the row pushed and the number tried, or refused; and the queue then, refused the one handed in. */
+/* The answer of the row pushed, the number tried and where its match began, or refused; and the queue then, refused
+   the one handed in. */
 typedef struct {
     uint8_t number;
     size_t place;
     uint8_t answer;
     uint32_t tries;
+    uint8_t given;
+    uint64_t began;
     dachsmond_queue queue;
 } dachsmond_pushed;
 
@@ -171,14 +180,19 @@ dachsmond_answered dachsmond_window_answer(dachsmond_rules rules, size_t names, 
                                            size_t tree_len, const uint8_t *states, size_t states_len, uint32_t a,
                                            uint32_t b);
 
-/* The answer of a vector tree at a row by its alternatives, and how many of them were tried: 18, 10, 15, 19. */
+/* The answer of a vector tree at a row by its alternatives, how many of them were tried, and where the match began.
+   The times of all n rows, exactly n of them, are handed in: 18, 10, 15, 13 at the first row whose time is not above
+   that of the row before, 19. */
 dachsmond_matched dachsmond_match_row(dachsmond_rules rules, size_t names, size_t n, const uint8_t *tree,
-                                      size_t tree_len, const uint8_t *states, size_t states_len, uint32_t row);
+                                      size_t tree_len, const uint64_t *times, size_t times_len, const uint8_t *states,
+                                      size_t states_len, uint32_t row);
 
-/* The answers of all n rows and the numbers tried into two lists of exactly n; how many: 18, 10, 15. */
+/* The same of all n rows into four lists of exactly n: the answers, the numbers tried, a flag for each row, 1 where a
+   time is given and else 0, and these times, 0 where none is; how many: 18, 10, 15, 13. */
 dachsmond_told dachsmond_match_all(dachsmond_rules rules, size_t names, size_t n, const uint8_t *tree, size_t tree_len,
-                                   const uint8_t *states, size_t states_len, uint8_t *answers, size_t answers_len,
-                                   uint32_t *tried, size_t tried_len);
+                                   const uint64_t *times, size_t times_len, const uint8_t *states, size_t states_len,
+                                   uint8_t *answers, size_t answers_len, uint32_t *tried, size_t tried_len,
+                                   uint8_t *given, size_t given_len, uint64_t *began, size_t began_len);
 
 /* How many of the n rows answer yes, no and unknown, together n - 1: 18, 10, 15. */
 dachsmond_counted dachsmond_totals(dachsmond_rules rules, size_t names, size_t n, const uint8_t *tree, size_t tree_len,
@@ -203,9 +217,11 @@ dachsmond_told dachsmond_correct(dachsmond_rules rules, size_t names, size_t n, 
 /* A queue before the first push. */
 dachsmond_queue dachsmond_empty_queue(void);
 
-/* One row more: its answer, how many alternatives were tried, and the queue with the row in it: 18, 10, 15. */
+/* One row more, with its time: its answer, how many alternatives were tried, where its match began, and the queue with
+   the row in it: 18, 10 also for times of the queue that do not rise, 15, and 13 at 0 for a time that is not above
+   that of the last row kept. */
 dachsmond_pushed dachsmond_push(dachsmond_rules rules, size_t names, const uint8_t *tree, size_t tree_len,
-                                dachsmond_queue queue, const uint8_t *row, size_t row_len);
+                                dachsmond_queue queue, uint64_t time, const uint8_t *row, size_t row_len);
 
 /* Alternatives handed in: lists as `dachsmond_rewrite` writes them, of exactly as many entries as they say, over the tree
    in which their operands end. Lists that are not accepted are refused with 10. What is asked is what is handed in: these
@@ -216,20 +232,23 @@ dachsmond_told dachsmond_listed_fits(size_t names, const uint8_t *tree, size_t t
                                      size_t steps_len, const uint8_t *tests, size_t tests_len, const uint8_t *edges,
                                      size_t edges_len, const uint16_t *operands, size_t operands_len);
 
-/* Their answer at a row, and how many of them were tried: 18, 10, 15, 19. */
+/* Their answer at a row, how many of them were tried, and where the match began: 18, 10, 15, 13, 19. */
 dachsmond_matched dachsmond_listed_match_row(dachsmond_rules rules, size_t names, size_t n, const uint8_t *tree,
                                              size_t tree_len, const uint8_t *steps, size_t steps_len,
                                              const uint8_t *tests, size_t tests_len, const uint8_t *edges,
                                              size_t edges_len, const uint16_t *operands, size_t operands_len,
-                                             const uint8_t *states, size_t states_len, uint32_t row);
+                                             const uint64_t *times, size_t times_len, const uint8_t *states,
+                                             size_t states_len, uint32_t row);
 
-/* Their answers at all n rows and the numbers tried into two lists of exactly n; how many: 18, 10, 15. */
+/* The same of all n rows into four lists of exactly n, as dachsmond_match_all has them; how many: 18, 10, 15, 13. */
 dachsmond_told dachsmond_listed_match_all(dachsmond_rules rules, size_t names, size_t n, const uint8_t *tree,
                                           size_t tree_len, const uint8_t *steps, size_t steps_len,
                                           const uint8_t *tests, size_t tests_len, const uint8_t *edges,
                                           size_t edges_len, const uint16_t *operands, size_t operands_len,
-                                          const uint8_t *states, size_t states_len, uint8_t *answers,
-                                          size_t answers_len, uint32_t *tried, size_t tried_len);
+                                          const uint64_t *times, size_t times_len, const uint8_t *states,
+                                          size_t states_len, uint8_t *answers, size_t answers_len, uint32_t *tried,
+                                          size_t tried_len, uint8_t *given, size_t given_len, uint64_t *began,
+                                          size_t began_len);
 
 /* How many of the n rows they answer with yes, no and unknown, together n - 1: 18, 10, 15. */
 dachsmond_counted dachsmond_listed_totals(dachsmond_rules rules, size_t names, size_t n, const uint8_t *tree,
@@ -238,11 +257,13 @@ dachsmond_counted dachsmond_listed_totals(dachsmond_rules rules, size_t names, s
                                           size_t edges_len, const uint16_t *operands, size_t operands_len,
                                           const uint8_t *states, size_t states_len);
 
-/* One row more: their answer, how many of them were tried, and the queue with the row in it: 18, 10, 15. */
+/* One row more, with its time: their answer, how many of them were tried, where its match began, and the queue with
+   the row in it: 18, 10, 15, 13. */
 dachsmond_pushed dachsmond_listed_push(dachsmond_rules rules, size_t names, const uint8_t *tree, size_t tree_len,
                                        const uint8_t *steps, size_t steps_len, const uint8_t *tests, size_t tests_len,
                                        const uint8_t *edges, size_t edges_len, const uint16_t *operands,
-                                       size_t operands_len, dachsmond_queue queue, const uint8_t *row, size_t row_len);
+                                       size_t operands_len, dachsmond_queue queue, uint64_t time, const uint8_t *row,
+                                       size_t row_len);
 
 /* The listing of the answers of a vector tree at all n rows, a line for each with its time and a last line with the
    totals, at the front of `out`; its length: 18, 10, 15, 9. */

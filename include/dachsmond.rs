@@ -72,7 +72,9 @@ pub struct Answered {
     pub answer: u8,
 }
 
-/// The same, and the number of alternatives tried.
+/// The same, the number of alternatives tried, and where the match began (document 02, [12]): the time of the first
+/// row of the window of the first alternative in order that answers yes. `given` is 1 where that time is given, which
+/// is with yes alone; with every other answer `given` and `began` are 0.
 #[repr(C)]
 #[derive(Clone, Copy, Debug)]
 pub struct Matched {
@@ -80,6 +82,8 @@ pub struct Matched {
     pub place: usize,
     pub answer: u8,
     pub tries: u32,
+    pub given: u8,
+    pub began: u64,
 }
 
 /// How many rows answer yes, no and unknown, or refused.
@@ -93,15 +97,17 @@ pub struct Counted {
     pub unknown: u32,
 }
 
-/// How many rows a queue keeps, and their states, oldest first, with zeros behind them.
+/// How many rows a queue keeps, their states and their times, oldest first, with zeros behind them.
 #[repr(C)]
 #[derive(Clone, Copy, Debug)]
 pub struct Queue {
     pub kept: u32,
     pub states: [u8; 512],
+    pub times: [u64; 16],
 }
 
-/// The answer of the row pushed and the number tried, or refused; and the queue then, refused the one handed in.
+/// The answer of the row pushed, the number tried and where its match began, or refused; and the queue then, refused
+/// the one handed in.
 #[repr(C)]
 #[derive(Clone, Copy, Debug)]
 pub struct Pushed {
@@ -109,6 +115,8 @@ pub struct Pushed {
     pub place: usize,
     pub answer: u8,
     pub tries: u32,
+    pub given: u8,
+    pub began: u64,
     pub queue: Queue,
 }
 
@@ -146,7 +154,7 @@ macro_rules! calls {
 }
 
 calls! {
-    /// The version of the library, 65536 * major + 256 * minor: 3.0 is 196608.
+    /// The version of the library, 65536 * major + 256 * minor: 4.0 is 262144.
     version = dachsmond_version() -> u32;
 
     /// How many names a list of names holds: 18, 12.
@@ -198,14 +206,16 @@ calls! {
     window_answer = dachsmond_window_answer(rules: Rules, names: usize, n: usize, tree: &[u8], states: &[u8], a: u32,
         b: u32) -> Answered;
 
-    /// The answer of a vector tree at a row by its alternatives, and how many of them were tried: 18, 10, 15, 19.
-    match_row = dachsmond_match_row(rules: Rules, names: usize, n: usize, tree: &[u8], states: &[u8],
+    /// The answer of a vector tree at a row by its alternatives, how many of them were tried, and where the match
+    /// began. The times of all n rows, exactly n of them, are handed in: 18, 10, 15, 13 at the first row whose time is
+    /// not above that of the row before, 19.
+    match_row = dachsmond_match_row(rules: Rules, names: usize, n: usize, tree: &[u8], times: &[u64], states: &[u8],
         row: u32) -> Matched;
 
-    /// The answers of all n rows and the numbers tried into two lists of exactly n; how many: 18, 10, 15.
-    match_all = dachsmond_match_all(rules: Rules, names: usize, n: usize, tree: &[u8], states: &[u8],
-        answers: &mut [u8],
-        tried: &mut [u32]) -> Told;
+    /// The same of all n rows into four lists of exactly n: the answers, the numbers tried, a flag for each row, 1
+    /// where a time is given and else 0, and these times, 0 where none is; how many: 18, 10, 15, 13.
+    match_all = dachsmond_match_all(rules: Rules, names: usize, n: usize, tree: &[u8], times: &[u64], states: &[u8],
+        answers: &mut [u8], tried: &mut [u32], given: &mut [u8], began: &mut [u64]) -> Told;
 
     /// How many of the n rows answer yes, no and unknown, together n - 1: 18, 10, 15.
     totals = dachsmond_totals(rules: Rules, names: usize, n: usize, tree: &[u8], states: &[u8]) -> Counted;
@@ -228,8 +238,10 @@ calls! {
     /// A queue before the first push.
     empty_queue = dachsmond_empty_queue() -> Queue;
 
-    /// One row more: its answer, how many alternatives were tried, and the queue with the row in it: 18, 10, 15.
-    push = dachsmond_push(rules: Rules, names: usize, tree: &[u8], queue: Queue, row: &[u8]) -> Pushed;
+    /// One row more, with its time: its answer, how many alternatives were tried, where its match began, and the queue
+    /// with the row in it: 18, 10 also for times of the queue that do not rise, 15, and 13 at 0 for a time that is not
+    /// above that of the last row kept.
+    push = dachsmond_push(rules: Rules, names: usize, tree: &[u8], queue: Queue, time: u64, row: &[u8]) -> Pushed;
 
     /// How many alternatives are handed in, lists as `rewrite` writes them and of exactly as many entries as they say,
     /// over the tree in which their operands end, where they are accepted: 18, 10. What is asked is what is handed in:
@@ -237,25 +249,25 @@ calls! {
     listed_fits = dachsmond_listed_fits(names: usize, tree: &[u8], steps: &[u8], tests: &[u8], edges: &[u8],
         operands: &[u16]) -> Told;
 
-    /// The answer of such lists at a row, and how many of them were tried: 18, 10, 15, 19.
+    /// The answer of such lists at a row, how many of them were tried, and where the match began: 18, 10, 15, 13, 19.
     listed_match_row = dachsmond_listed_match_row(rules: Rules, names: usize, n: usize, tree: &[u8],
-        steps: &[u8], tests: &[u8],
-        edges: &[u8], operands: &[u16], states: &[u8], row: u32) -> Matched;
+        steps: &[u8], tests: &[u8], edges: &[u8], operands: &[u16], times: &[u64], states: &[u8],
+        row: u32) -> Matched;
 
-    /// The answers of such lists at all n rows and the numbers tried into two lists of exactly n; how many: 18, 10, 15.
+    /// The same of all n rows into four lists of exactly n, as `match_all` has them; how many: 18, 10, 15, 13.
     listed_match_all = dachsmond_listed_match_all(rules: Rules, names: usize, n: usize, tree: &[u8],
-        steps: &[u8], tests: &[u8],
-        edges: &[u8], operands: &[u16], states: &[u8], answers: &mut [u8], tried: &mut [u32]) -> Told;
+        steps: &[u8], tests: &[u8], edges: &[u8], operands: &[u16], times: &[u64], states: &[u8],
+        answers: &mut [u8], tried: &mut [u32], given: &mut [u8], began: &mut [u64]) -> Told;
 
     /// How many of the n rows such lists answer with yes, no and unknown, together n - 1: 18, 10, 15.
     listed_totals = dachsmond_listed_totals(rules: Rules, names: usize, n: usize, tree: &[u8], steps: &[u8],
         tests: &[u8],
         edges: &[u8], operands: &[u16], states: &[u8]) -> Counted;
 
-    /// One row more for such lists: their answer, how many of them were tried, and the queue with the row in it: 18, 10, 15.
+    /// One row more for such lists, with its time: their answer, how many of them were tried, where its match began,
+    /// and the queue with the row in it: 18, 10, 15, 13.
     listed_push = dachsmond_listed_push(rules: Rules, names: usize, tree: &[u8], steps: &[u8], tests: &[u8],
-        edges: &[u8],
-        operands: &[u16], queue: Queue, row: &[u8]) -> Pushed;
+        edges: &[u8], operands: &[u16], queue: Queue, time: u64, row: &[u8]) -> Pushed;
 
     /// The listing of the answers of a vector tree at all n rows, a line for each with its time and a last line with
     /// the totals, at the front of `out`; its length: 18, 10, 15, 9.

@@ -10,6 +10,7 @@
 enum { ROWS = 65535, FEW = 40, STEPS = 16, RANDOM = 500, LIMIT = 1 };
 static const uint8_t names[32] = "A";
 static uint8_t states[ROWS], tree[1024];
+static uint64_t times[ROWS];
 static size_t len, n;
 static double most;
 static char slowest[4200];
@@ -43,6 +44,7 @@ static void timed(clock_t from, const char *call, size_t a, size_t b)
 /* by the rule of equal branches, which evaluates both branches and compares them; random patterns also with steady pins */
 static dachsmond_rules rules;
 #define ON 1, n, tree, len, states, n
+#define TIMED_ON 1, n, tree, len, times, n, states, n
 /* no, unknown, yes */
 static int rank(uint8_t answer) { return answer == 1 ? 2 : answer == 2 ? 1 : 0; }
 
@@ -59,7 +61,7 @@ static int on_window(size_t a, size_t b)
 static void at_row(size_t row, bool each)
 {
     size_t from = row < STEPS ? 0 : row - STEPS;
-    dachsmond_matched matched = dachsmond_match_row(rules, ON, row);
+    dachsmond_matched matched = dachsmond_match_row(rules, TIMED_ON, row);
     clock_t start = clock();
     dachsmond_answered answered = dachsmond_row_answer(rules, ON, row);
     int best = 0;
@@ -193,6 +195,7 @@ int main(void)
 {
     rules = dachsmond_old_rules();
     rules.equal_branches = true;
+    for (size_t i = 0; i < ROWS; i++) times[i] = i;
     for (size_t i = 0; i < SHAPES; i++)
         for (int ways = 0; ways < (shapes[i][1].many ? 9 : 3); ways++)
             len = 0, put_level(shapes[i], ways % 3, ways / 3), on_traces(true);
@@ -200,7 +203,7 @@ int main(void)
     for (int i = 0; i < RANDOM; i++) {
         rules.steady_pins = i % 2;
         len = 0, n = FEW, put_random(2 + i % 5);
-        if (len <= 256 && !dachsmond_match_row(rules, ON, 1).number) on_traces(false);
+        if (len <= 256 && !dachsmond_match_row(rules, TIMED_ON, 1).number) on_traces(false);
     }
     printf("%lu calls on %lu patterns; the slowest took %.3f s: %s\n", calls, patterns, most, slowest);
     return failed;

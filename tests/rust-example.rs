@@ -18,13 +18,14 @@ const PATTERNS: [&str; 8] = [
     "10 C & ( 01 A -> 10 B )",
 ];
 
-/// How many rows answer no, yes and unknown, pushed one by one.
-fn counted(names: usize, tree: &[u8], states: &[u8]) -> [u32; 4] {
+/// How many rows answer no, yes and unknown, pushed one by one; a time is given with yes alone.
+fn counted(names: usize, tree: &[u8], times: &[u64], states: &[u8]) -> [u32; 4] {
     let mut queue = empty_queue();
     let mut counts = [0; 4];
-    for row in states.chunks(names) {
-        let p = push(old_rules(), names, tree, queue, row);
+    for (row, &time) in states.chunks(names).zip(times) {
+        let p = push(old_rules(), names, tree, queue, time, row);
         assert_eq!(p.number, 0);
+        assert_eq!(p.given == 1, p.answer == 1);
         counts[p.answer as usize] += 1;
         queue = p.queue;
     }
@@ -47,7 +48,7 @@ pub extern "C" fn main() -> i32 {
         let e = read_expression(old_rules(), &slots, pattern.as_bytes(), true);
         let tree = &e.tree[..e.len];
         let c = totals(old_rules(), t.names, t.rows, tree, &states);
-        assert_eq!(counted(t.names, tree, &states), [c.no, c.yes, c.unknown, 1]);
+        assert_eq!(counted(t.names, tree, &times, &states), [c.no, c.yes, c.unknown, 1]);
         let told = table_line(old_rules(), t.names, t.rows, tree, &states, pattern.as_bytes(), &mut line);
         show(&line, told.count);
         sums = [sums[0] + c.yes as u64, sums[1] + c.unknown as u64, sums[2] + c.no as u64];

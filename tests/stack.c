@@ -20,8 +20,8 @@ static const uint64_t PAINT = 0x5A5A5A5A5A5A5A5A;
 static uint8_t names[32 * 32], text[8192], tree[LONG], row[32], out[ROWS * 44], file[ROWS * 44];
 static size_t k = 1, n = 2, text_len, tree_len, file_len;
 static bool vector;
-static uint8_t states[32 * ROWS], answers[ROWS], steps[64], tests[1024], edges[4096], flags[64];
-static uint64_t times[ROWS];
+static uint8_t states[32 * ROWS], answers[ROWS], given[ROWS], steps[64], tests[1024], edges[4096], flags[64];
+static uint64_t times[ROWS], began[ROWS], clock_time;
 static uint32_t tried[ROWS];
 static uint16_t operands[4096];
 static size_t steps_len, tests_len, edges_len;
@@ -37,6 +37,7 @@ static dachsmond_pushed pushed;
 
 #define LISTS steps, steps_len, tests, tests_len, edges, edges_len, operands, edges_len
 #define TRACE states, n *k
+#define FOUR answers, n, tried, n, given, n, began, n
 static dachsmond_rules rules;
 static void old_rules(void) { rules = dachsmond_old_rules(); }
 static void version(void) { told.count = dachsmond_version(); }
@@ -63,8 +64,8 @@ static void row_value(void) { told = dachsmond_row_value(rules, k, n, tree, tree
 static void values(void) { told = dachsmond_values(rules, k, n, tree, tree_len, TRACE, answers, n); }
 static void row_answer(void) { answered = dachsmond_row_answer(rules, k, n, tree, tree_len, TRACE, n - 1); }
 static void window_answer(void) { answered = dachsmond_window_answer(rules, k, n, tree, tree_len, TRACE, 0, n - 1); }
-static void match_row(void) { matched = dachsmond_match_row(rules, k, n, tree, tree_len, TRACE, n - 1); }
-static void match_all(void) { told = dachsmond_match_all(rules, k, n, tree, tree_len, TRACE, answers, n, tried, n); }
+static void match_row(void) { matched = dachsmond_match_row(rules, k, n, tree, tree_len, times, n, TRACE, n - 1); }
+static void match_all(void) { told = dachsmond_match_all(rules, k, n, tree, tree_len, times, n, TRACE, FOUR); }
 static void totals(void) { counted = dachsmond_totals(rules, k, n, tree, tree_len, TRACE); }
 static void rewrite(void)
 {
@@ -74,18 +75,21 @@ static void rewrite(void)
 static void contradictions(void) { told = dachsmond_contradictions(rules, k, tree, tree_len, flags, sizeof flags); }
 static void correct(void) { told = dachsmond_correct(rules, k, n, tree, tree_len, TRACE, answers, n, 0, row, k); }
 static void empty_queue(void) { queue = dachsmond_empty_queue(); }
-static void push(void) { pushed = dachsmond_push(rules, k, tree, tree_len, queue, row, k); }
+static void push(void) { pushed = dachsmond_push(rules, k, tree, tree_len, queue, ++clock_time, row, k); }
 static void listed_fits(void) { told = dachsmond_listed_fits(k, tree, tree_len, LISTS); }
 static void listed_match_row(void)
 {
-    matched = dachsmond_listed_match_row(rules, k, n, tree, tree_len, LISTS, TRACE, n - 1);
+    matched = dachsmond_listed_match_row(rules, k, n, tree, tree_len, LISTS, times, n, TRACE, n - 1);
 }
 static void listed_match_all(void)
 {
-    told = dachsmond_listed_match_all(rules, k, n, tree, tree_len, LISTS, TRACE, answers, n, tried, n);
+    told = dachsmond_listed_match_all(rules, k, n, tree, tree_len, LISTS, times, n, TRACE, FOUR);
 }
 static void listed_totals(void) { counted = dachsmond_listed_totals(rules, k, n, tree, tree_len, LISTS, TRACE); }
-static void listed_push(void) { pushed = dachsmond_listed_push(rules, k, tree, tree_len, LISTS, queue, row, k); }
+static void listed_push(void)
+{
+    pushed = dachsmond_listed_push(rules, k, tree, tree_len, LISTS, queue, ++clock_time, row, k);
+}
 static void list(void) { told = dachsmond_list(rules, k, n, tree, tree_len, times, n, TRACE, out, sizeof out); }
 static void table_heading(void) { told = dachsmond_table_heading(out, sizeof out); }
 static void table_line(void)
@@ -175,6 +179,7 @@ static void *all(void *unused)
     names[0] = 'A';
     for (size_t i = 1; i < 40; i += 2) states[i] = 1;
     row[0] = 1;
+    for (size_t i = 0; i < ROWS; i++) times[i] = i;
     call(empty_queue);
     call(old_rules);
     for (int steady = 0; steady < 2; steady++) { /* without steady pins, and with them */

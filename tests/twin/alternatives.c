@@ -1,4 +1,4 @@
-/* Chapter "Alternatives": built as they are told; limit 8, tries and contradictions. */
+/* Chapter "Alternatives": built as they are told; limit 8, tries, where a match began, and contradictions. */
 #include "twin.h"
 #include <stdlib.h>
 
@@ -156,6 +156,15 @@ long tries_at(const Alternatives *all, const Trace *trace, long row)
     for (int i = 0; i < all->count; i++)
         if (answer_of(all->list[i], trace, row) == YES) return i + 1;
     return all->count;
+}
+
+/* Document 02, [12]: "the first row of the window of the first alternative in order that answers yes"; -1 where none
+   does, and at row 0. */
+long began_at(const Alternatives *all, const Trace *trace, long row)
+{
+    for (int i = 0; i < all->count && row > 0; i++)
+        if (answer_of(all->list[i], trace, row) == YES) return row - all->list[i]->steps;
+    return -1;
 }
 
 /* Whether some state answers yes to all literals asked of the name at the row of the window. */

@@ -1,5 +1,6 @@
 /* The pattern of a call over rows: a tree, or alternatives handed in as lists (steps of each alternative, tests of
-   each step, and for each test its edge and where its operand ends in the tree); refusal 10, and the answer at a row. */
+   each step, and for each test its edge and where its operand ends in the tree); refusal 10, the answer at a row, and
+   the time where its match began. */
 #include "twin.h"
 #include <stdlib.h>
 
@@ -91,4 +92,12 @@ int number_at(const Pattern *p, const Trace *t, long row)
 {
     if (row == 0) return 3;
     return number_of(p->listed ? best_at(p->all, t, row) : row_answer(p->meant, t, row, MAX_STEPS));
+}
+
+/* Document 02, [12]: the time where the match began. "No time is given with no, unknown or row 0"; then it is 0. */
+uint64_t time_at(const Pattern *p, const Trace *t, long row, int *given)
+{
+    long first = began_at(p->all, t, row);
+    *given = first >= 0;
+    return *given ? t->times[first] : 0;
 }

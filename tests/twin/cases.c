@@ -58,13 +58,6 @@ long make_times(Buffer *out, long n)
     return n;
 }
 
-uint64_t time_in(const Buffer *times, long i)
-{
-    uint64_t t = 0;
-    for (int j = 7; j >= 0; j--) t = t << 8 | times->at[8 * i + j];
-    return t;
-}
-
 void make_file(Buffer *out)
 {
     long k = make_names(&names), n = any_rows(6), extra = once_in(60) ? 33 - k : 0;

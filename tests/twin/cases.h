@@ -25,6 +25,8 @@ void make_edge_tree(Buffer *out, long names, int sort);   /* near a limit */
 void make_states(Buffer *out, long n);
 long make_times(Buffer *out, long n);
 uint64_t time_in(const Buffer *times, long i);
+void set_time(Buffer *times, long i, uint64_t t);
+void make_rising(Buffer *out, long n);  /* times that rise */
 void make_file(Buffer *out);
 
 extern long fixed_rows;                /* 0, or how many rows each trace has */
@@ -37,6 +39,8 @@ void some_tree(Buffer *out, long names, int sort, int size);
 long some_names(void);
 void some_rows(Buffer *states, long *names, long *n);
 long some_row(long n);
+void some_times(Buffer *out, long n);
+void say_rooms(long n);                /* of four lists for n rows */
 void case_changes(void);
 void case_rewrite(int letter);
 void case_pattern(int letter);

@@ -1,9 +1,12 @@
 /* The library's side of the calls over rows. */
 #include "library.h"
 
-typedef struct { size_t names, n; Bytes tree, states; } Asked;
+typedef struct { size_t names, n; Bytes tree, states, times; } Asked;
 
 #define ASKED(a) a.names, a.n, a.tree.at, a.tree.length, a.states.at, a.states.length
+#define TIMED(a)                                                                                              \
+    a.names, a.n, a.tree.at, a.tree.length, (const uint64_t *)a.times.at, a.times.length / 8, a.states.at,    \
+        a.states.length
 
 static Asked take_asked(void)
 {
@@ -12,6 +15,14 @@ static Asked take_asked(void)
     a.n = take_number();
     a.tree = take_bytes();
     a.states = take_bytes();
+    return a;
+}
+
+/* With a time for each row. */
+static Asked take_timed(void)
+{
+    Asked a = take_asked();
+    a.times = take_bytes();
     return a;
 }
 
@@ -55,20 +66,15 @@ void do_window(void)
 
 void do_match_row(void)
 {
-    Asked a = take_asked();
-    dachsmond_matched r = dachsmond_match_row(rules, ASKED(a), take_number());
-    if (!refused(r.number, r.place, r.answer | r.tries)) printf("row %u %u", r.answer, r.tries);
-    end_line(0);
+    Asked a = take_timed();
+    say_matched(dachsmond_match_row(rules, TIMED(a), take_number()));
 }
 
 void do_match_all(void)
 {
-    Asked a = take_asked();
-    Bytes out = lend(take_number()), tried = lend(4 * take_number());
-    dachsmond_told r =
-        dachsmond_match_all(rules, ASKED(a), out.at, out.length, (uint32_t *)tried.at, tried.length / 4);
-    if (!refused(r.number, r.place, r.count)) printf("done %zu", r.count);
-    end_line(sum_of(sum_of(0, out.at, out.length), tried.at, tried.length));
+    Asked a = take_timed();
+    Lent l = lend_four();
+    say_all(dachsmond_match_all(rules, TIMED(a), FOUR(l)), l);
 }
 
 void do_totals(void)

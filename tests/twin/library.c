@@ -12,6 +12,30 @@ bool refused(unsigned number, size_t place, uint64_t others)
     return number != 0;
 }
 
+Lent lend_four(void)
+{
+    Lent l;
+    l.answers = lend(take_number());
+    l.tried = lend(4 * take_number());
+    l.given = lend(take_number());
+    l.began = lend(8 * take_number());
+    return l;
+}
+
+void say_matched(dachsmond_matched r)
+{
+    if (!refused(r.number, r.place, r.answer | r.tries | r.given | r.began))
+        printf("row %u %u %u %llu", r.answer, r.tries, r.given, (unsigned long long)r.began);
+    end_line(0);
+}
+
+void say_all(dachsmond_told r, Lent l)
+{
+    if (!refused(r.number, r.place, r.count)) printf("done %zu", r.count);
+    uint64_t sum = sum_of(sum_of(0, l.answers.at, l.answers.length), l.tried.at, l.tried.length);
+    end_line(sum_of(sum_of(sum, l.given.at, l.given.length), l.began.at, l.began.length));
+}
+
 void do_names(void)
 {
     Bytes names = take_bytes();

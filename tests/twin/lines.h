@@ -3,19 +3,20 @@
      e NAMES SORT TEXT               read an expression (SORT 0 boolean, 1 vector)
      w NAMES SORT TREE ROOM          write one into ROOM bytes
      f FILE ROOM ROOM ROOM           read a trace into so many bytes of names, times and states
-     g NAMES TIMES STATES N ROOM     write a trace (TIMES four bytes each, low first)
+     g NAMES TIMES STATES N ROOM     write a trace (TIMES eight bytes each, low first)
      c NAMES N STATES ROW            changes of a row (from here on NAMES is a number)
      v NAMES N TREE STATES ROOM      values of all rows
      s NAMES N TREE STATES ROW       a row's state and value
      a NAMES N TREE STATES ROW       a row's answer as written
      b NAMES N TREE STATES A B       the answer on a window of rows
-     r NAMES N TREE STATES ROW       a row's answer by alternatives, and its tries
-     m NAMES N TREE STATES ROOM ROOM answers and tries of all rows
+     r NAMES N TREE STATES TIMES ROW a row's answer by alternatives, its tries, and where its match began
+     m NAMES N TREE STATES TIMES ROOM ROOM ROOM ROOM   answers, tries, flags and times of all rows
      t NAMES N TREE STATES           totals
      k NAMES N TREE STATES ANSWERS ROW NEW   correction of a row
      l NAMES TREE ROOM ROOM ROOM ROOM   the lists of alternatives: steps, tests, edges, ends of operands
      x NAMES TREE ROOM               a flag for each contradictory alternative
-     q NAMES TREE KEPT HELD SIZE STATES   a queue of KEPT rows, HELD its states' front, takes rows of SIZE states
+     q NAMES TREE KEPT HELD CLOCK SIZE STATES TIMES   a queue of KEPT rows, the front of its states HELD and of its
+                                     times CLOCK, takes rows of SIZE states at TIMES
      F NAMES TREE LISTS              how many LISTS hold, if accepted: STEPS TESTS EDGES OPERANDS, the last two bytes each
      R M T Q                         as r m t q, with LISTS behind TREE
      L NAMES N TREE STATES TIMES ROOM   the listing of a pattern's answers

@@ -2,11 +2,25 @@
 #include "cases.h"
 #include <stdio.h>
 
-static Buffer tree, lists[4], states, held, rows;
+static Buffer tree, lists[4], states, times, held, clock, rows;
 
 enum { STEPS, TESTS, EDGES, OPERANDS };
 
-/* How many rows a queue keeps and their states, anything behind them, the size of a row, and rows of that size. */
+/* Rising times for the rows kept and the rows pushed. Now and then one does not rise, or anything is behind those that
+   are kept. */
+static void make_clocks(long kept, long pushes)
+{
+    make_rising(&clock, kept + pushes);
+    long at = 1 + below(once_in(3) ? kept - 1 : kept + pushes - 1);
+    if (kept + pushes > 1 && once_in(6)) set_time(&clock, at, time_in(&clock, at - 1) - (uint64_t)below(3));
+    clear(&times);
+    for (long i = 8 * kept; i < 8 * (kept + pushes); i++) add(&times, clock.at[i]);
+    clock.length = 8 * kept;
+    if (once_in(4)) for (long i = 8 * below(9); i > 0; i--) add(&clock, (int)below(256));
+    if (clock.length > 8 * 16) clock.length = 8 * 16;
+}
+
+/* How many rows a queue keeps, their states and times, the size of a row, rows of that size, and their times. */
 static void say_queue(long k)
 {
     long kept = once_in(3) ? 0 : once_in(20) ? 14 + below(5) : below(4), size = k, pushes = 1 + below(12);
@@ -15,11 +29,16 @@ static void say_queue(long k)
     if (once_in(4)) for (long i = below(70); i > 0; i--) add(&held, (int)below(256));
     if (held.length > 512) held.length = 512;
     if (once_in(30)) size = once_in(2) ? k + 1 : below(k);
-    make_states(&rows, (size ? size : 1) * (fixed_rows ? fixed_rows / 16 : once_in(12) ? 5 * pushes : pushes));
+    if (fixed_rows) pushes = fixed_rows / 16;
+    else if (once_in(12)) pushes *= 5;
+    make_states(&rows, (size ? size : 1) * pushes);
+    make_clocks(kept, pushes);
     printf(" %ld", once_in(40) ? 4294967295 - below(2) : kept);
     say(&held);
+    say(&clock);
     printf(" %ld", size);
     say(&rows);
+    say(&times);
 }
 
 void case_queue(void)
@@ -107,6 +126,10 @@ void case_listed(int letter)
     if (letter == 'Q') say_queue(k);
     if (letter == 'Q' || letter == 'F') return;
     say(&states);
-    if (letter == 'M') printf(" %ld %ld", n + once_in(40), n + once_in(40));
+    if (letter == 'M' || letter == 'R') {
+        some_times(&times, n);
+        say(&times);
+    }
+    if (letter == 'M') say_rooms(n);
     if (letter == 'R') printf(" %ld", some_row(n));
 }

@@ -1,4 +1,5 @@
-/* The twin's side of the calls over rows: 18, 10, 15 (trace, then new row), 19, and the answers by windows. */
+/* The twin's side of the calls over rows: 18, 10, 15 (trace, then new row), 13 where times are handed in, 19, and the
+   answers by windows. */
 #include "calls.h"
 #include "twin.h"
 #include <string.h>
@@ -10,7 +11,17 @@ Asked take_asked(int listed)
     a.n = take_number();
     a.pattern = take_pattern(listed);
     a.states = take_bytes();
-    a.trace = (Trace){(int)a.names, a.n, a.states.at};
+    a.times = (Bytes){NULL, 0};
+    a.trace = (Trace){(int)a.names, a.n, a.states.at, NULL};
+    return a;
+}
+
+/* With a time for each row. */
+static Asked take_timed(int listed)
+{
+    Asked a = take_asked(listed);
+    a.times = take_bytes();
+    a.trace.times = (const uint64_t *)a.times.at;
     return a;
 }
 
@@ -21,6 +32,14 @@ Refusal check_asked(Asked *a, int lists, int sort)
     if (!r.number) r = check_pattern(&a->pattern, a->names, sort);
     if (!r.number) r = first_code(a->states.at, a->states.length);
     return r;
+}
+
+/* Document 02, [12]: the times are a list of exactly n too; 13 after 15. */
+static Refusal check_timed(Asked *a, int lists)
+{
+    Refusal r = check_asked(a, lists && a->times.length == 8 * a->n, VECTOR);
+    long early = r.number ? 0 : first_early(a->trace.times, a->n);
+    return !r.number && early < a->n ? (Refusal){13, early} : r;
 }
 
 /* 19 last. */
@@ -71,25 +90,37 @@ void do_window(void)
 
 static void match_row(int listed)
 {
-    Asked a = take_asked(listed);
+    Asked a = take_timed(listed);
     long row = take_number();
-    if (!refused(check_row(&a, row, VECTOR)))
+    int given;
+    Refusal r = check_timed(&a, 1);
+    if (!r.number && row >= a.n) r = (Refusal){19, 0};
+    if (!refused(r)) {
         printf("row %d %ld", number_at(&a.pattern, &a.trace, row), tries_at(a.pattern.all, &a.trace, row));
+        uint64_t time = time_at(&a.pattern, &a.trace, row, &given);
+        printf(" %d %llu", given, (unsigned long long)time);
+    }
     end_line(0);
 }
 
 static void match_all(int listed)
 {
-    Asked a = take_asked(listed);
+    Asked a = take_timed(listed);
     Bytes out = lend(take_number()), tried = lend(4 * take_number());
-    if (!refused(check_asked(&a, out.length == a.n && tried.length == 4 * a.n, VECTOR))) {
+    Bytes given = lend(take_number()), began = lend(8 * take_number());
+    int full = out.length == a.n && tried.length == 4 * a.n && given.length == a.n && began.length == 8 * a.n;
+    if (!refused(check_timed(&a, full))) {
         for (long i = 0; i < a.n; i++) {
+            int is_given;
             out.at[i] = (byte)number_at(&a.pattern, &a.trace, i);
             ((uint32_t *)tried.at)[i] = (uint32_t)tries_at(a.pattern.all, &a.trace, i);
+            ((uint64_t *)began.at)[i] = time_at(&a.pattern, &a.trace, i, &is_given);
+            given.at[i] = (byte)is_given;
         }
         printf("done %ld", a.n);
     }
-    end_line(sum_of(sum_of(0, out.at, out.length), tried.at, tried.length));
+    uint64_t sum = sum_of(sum_of(0, out.at, out.length), tried.at, tried.length);
+    end_line(sum_of(sum_of(sum, given.at, given.length), began.at, began.length));
 }
 
 static void totals(int listed)

@@ -1,4 +1,4 @@
-/* Numbers, bytes and damage for the random cases. */
+/* Numbers, bytes, damage and times for the random cases. */
 #include "cases.h"
 #include <stdio.h>
 #include <stdlib.h>
@@ -72,4 +72,31 @@ void damage(Buffer *b, const char *alphabet)
         else if (once_in(2)) b->length = i;
         else take_out(b, i, below(b->length - i < 8 ? b->length - i + 1 : 8));
     }
+}
+
+uint64_t time_in(const Buffer *times, long i)
+{
+    uint64_t t = 0;
+    for (int j = 7; j >= 0; j--) t = t << 8 | times->at[8 * i + j];
+    return t;
+}
+
+void set_time(Buffer *times, long i, uint64_t t)
+{
+    for (int j = 0; j < 8; j++) times->at[8 * i + j] = (uint8_t)(t >> 8 * j);
+}
+
+/* From about 0 on, from anywhere, or up to the largest time. */
+void make_rising(Buffer *out, long n)
+{
+    uint64_t t = 0, from = (uint64_t)below(3);
+    clear(out);
+    for (long i = 0; i < 8 * n; i++) add(out, 0);
+    for (long i = 0; i < n; i++) {
+        if (i > 0) t += 1 + (uint64_t)below(once_in(40) ? 1L << 33 : 12);
+        set_time(out, i, t);
+    }
+    if (once_in(6)) from = UINT64_MAX - t;
+    else if (once_in(4)) from = (uint64_t)below(1L << 62);
+    for (long i = 0; i < n; i++) set_time(out, i, from + time_in(out, i));
 }

@@ -3,7 +3,7 @@
 #include <stdio.h>
 #include <string.h>
 
-static Buffer tree, states, old, fresh;
+static Buffer tree, states, times, old, fresh;
 
 /* Of a sort, now and then of the other one, near a limit, or damaged. */
 void some_tree(Buffer *out, long k, int sort, int size)
@@ -31,6 +31,15 @@ void some_rows(Buffer *out, long *k, long *n)
 }
 
 long some_row(long n) { return once_in(12) ? n + below(3) : below(n); }
+
+/* They rise; now and then one is at most the one before, or there is one more or one less. */
+void some_times(Buffer *out, long n)
+{
+    make_rising(out, n + once_in(60));
+    if (n > 0 && once_in(60)) out->length -= 8;
+    long last = out->length / 8 - 1, at = 1 + below(last);
+    if (last > 0 && once_in(12)) set_time(out, at, time_in(out, at - 1) - (uint64_t)(once_in(2) ? 0 : below(3)));
+}
 
 void case_changes(void)
 {
@@ -71,6 +80,11 @@ static void case_windows(int letter)
     printf(" %ld", row);
 }
 
+void say_rooms(long n)
+{
+    for (int i = 0; i < 4; i++) printf(" %ld", n + once_in(60));
+}
+
 static void case_rows(int letter)
 {
     long k, n;
@@ -80,7 +94,11 @@ static void case_rows(int letter)
     say(&tree);
     say(&states);
     if (letter == 'v') printf(" %ld", n + once_in(40));
-    if (letter == 'm') printf(" %ld %ld", n + once_in(40), n + once_in(40));
+    if (letter == 'm' || letter == 'r') {
+        some_times(&times, n);
+        say(&times);
+    }
+    if (letter == 'm') say_rooms(n);
     if (letter == 'r' || letter == 's') printf(" %ld", some_row(n));
     if (letter != 'k') return;
     make_states(&old, n + once_in(40));

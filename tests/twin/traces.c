@@ -128,6 +128,14 @@ Refusal check_rows(long names, long n, long states_length)
     return (Refusal){0, 0};
 }
 
+/* 13: the first row whose time is not above the last one's; n where all rise. */
+long first_early(const uint64_t *times, long n)
+{
+    for (long i = 1; i < n; i++)
+        if (times[i] <= times[i - 1]) return i;
+    return n;
+}
+
 /* 15: the first code above 7. */
 Refusal first_code(const byte *states, long length)
 {

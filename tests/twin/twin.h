@@ -1,4 +1,4 @@
-/* An independent twin: document 01 in plain C, written from the document and docs/DECISIONS.md and not from the
+/* An independent twin: documents 01 and 02 in plain C, written from them and docs/DECISIONS.md and not from the
    library. Expressions are trees of pointers, matching goes by windows. It shares nothing with the library but the
    bytes in which a tree is handed over (crates/alf/specs/Bytes.antt). */
 #ifndef TWIN_H
@@ -39,7 +39,8 @@ typedef struct { int edge; Node *operand; } Test;
 typedef struct { int steps, total, tests[MAX_STEPS]; Test test[MAX_TESTS]; } Alternative;
 typedef struct { int count; Alternative *list[MAX_ALTS]; } Alternatives;
 
-typedef struct { int names; long rows; const byte *states; } Trace;
+/* times: of each row, where the call takes them */
+typedef struct { int names; long rows; const byte *states; const uint64_t *times; } Trace;
 
 /* tokens.c */
 int is_name_byte(int b);
@@ -76,6 +77,7 @@ Alternatives *alternatives_of(const Node *node);
 int contradictory(const Alternative *alternative);
 int best_at(const Alternatives *all, const Trace *trace, long row);
 long tries_at(const Alternatives *all, const Trace *trace, long row);
+long began_at(const Alternatives *all, const Trace *trace, long row);
 
 /* windows.c */
 int reduce(int state);
@@ -94,6 +96,7 @@ Refusal write_file(const byte *names, long names_length, const uint64_t *times, 
                    const byte *states, long states_length, long n, long room, byte *out, long *size);
 Refusal check_rows(long names, long n, long states_length);
 Refusal first_code(const byte *states, long length);
+long first_early(const uint64_t *times, long n);
 
 /* asked.c: the pattern of a call over rows: a tree, or alternatives handed in as lists over one */
 typedef struct { int listed, longest; Bytes tree, lists[4]; Node *node, *meant; const Alternatives *all; } Pattern;
@@ -101,9 +104,10 @@ Pattern take_pattern(int listed);
 Refusal check_pattern(Pattern *pattern, long names, int sort);
 int number_of(int answer);
 int number_at(const Pattern *pattern, const Trace *trace, long row);
+uint64_t time_at(const Pattern *pattern, const Trace *trace, long row, int *given);
 
 /* patterns.c: a call over rows: 18 (`lists`: whether the other lists fit), 10, 15 */
-typedef struct { long names, n; Pattern pattern; Bytes states; Trace trace; } Asked;
+typedef struct { long names, n; Pattern pattern; Bytes states, times; Trace trace; } Asked;
 Asked take_asked(int listed);
 Refusal check_asked(Asked *asked, int lists, int sort);
 #endif

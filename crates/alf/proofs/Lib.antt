@@ -23,6 +23,8 @@ pub mod Orders
 pub mod Totals
 pub mod Readings
 pub mod Tries
+pub mod Beginnings
+pub mod BeginningsNear
 pub mod Masks
 pub mod EdgeNumbers
 pub mod Cases

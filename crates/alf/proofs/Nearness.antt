@@ -2,6 +2,7 @@
 -- For every K that no alternative exceeds, shown once.
 --   steps-near     an alternative's answers on two runs of rows that agree
 --   Near           rows i and j of two traces agree back to K rows before, or to the first row of both
+--   row-near                     so an alternative answers the same
 --   answers-near, tries-near     so they have the same answer and the same number tried
 use mathlib.Core.Path.{_≡_, refl, ap, sym, _∙_}
 use mathlib.Core.List.{List, [], _∷_, map}
@@ -52,7 +53,7 @@ module _ (Q : Boolean → Type 0) (st st′ : Boolean → ℕ → ℕ) where
     pub agree : (d : ℕ) → d ≤ K → d ≤ i → Agree (i - d) (j - d)
 
   module _ (K i j : ℕ) (near : Near K i j) where
-    row-near : (x : Alternative) → Asks Q x → length x ≤ K → atRow st i x ≡ atRow st′ j x
+    pub row-near : (x : Alternative) → Asks Q x → length x ≤ K → atRow st i x ≡ atRow st′ j x
     row-near x s l = go (below? i (length x))
       where
         back : (r k : ℕ) → length x ≤ r → k ≤ length x → r - length x + k ≡ r - (length x - k)

@@ -20,6 +20,7 @@ pub mod Windows
 pub mod Answers
 pub mod Alternatives
 pub mod Steady
+pub mod Beginnings
 pub mod Traces
 pub mod Refusals
 pub mod TableT

@@ -3,8 +3,9 @@
 -- expressions or records, what these are is a parameter: the crate that reads texts or files says it.
 --   Row, At, First, FirstOf              a row of the table, by its kind of place
 --   too-long (1), no-token (2), too-deep (3), too-many-tokens (4), no-grammar (5), unknown-name (6), wrong-sort (7),
---   over-limits (8), no-room (9), cannot-be (10), wrong-mark (11), bad-name and bad-slot (12), early-time and
---   not-above (13), cut-short (14), bad-code (15), wrong-count (16), bytes-after (17), NameCount, RowCount and
+--   over-limits (8), no-room (9), cannot-be (10), wrong-mark (11), bad-name and bad-slot (12), early-time,
+--   not-above and early-row (13), Rising, cut-short (14), bad-code (15), wrong-count (16), bytes-after (17),
+--   NameCount, RowCount and
 --   bad-lists (18), no-such-row (19)
 --   Check, Order, check                  a call's order of rows
 --   numbersOf                            the numbers of an order, as document 01 has them in one sentence
@@ -110,6 +111,14 @@ early-time byte early = At byte early
 
 abbrev pub not-above : List ℕ → ℕ → Row
 not-above times r = At r ((0 < r) × (getD times r 0 ≤ getD times (r - 1) 0))
+
+-- 13 of a trace that is handed in with its times (document 02, [12]): the first row that is so. Filled in
+-- judging/specs/TimedOrders. Times that rise have none.
+abbrev pub early-row : List ℕ → Row
+early-row times = First (λ r. (r < length times) × ((0 < r) × (getD times r 0 ≤ getD times (r - 1) 0)))
+
+abbrev pub Rising : List ℕ → Type 0
+Rising times = (r : ℕ) → 0 < r → r < length times → getD times (r - 1) 0 < getD times r 0
 
 -- 14: file ends inside a record or before `EN`; file length
 abbrev pub cut-short : ℕ → Type 0 → Row

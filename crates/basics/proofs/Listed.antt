@@ -1,6 +1,7 @@
 -- A list from a rule, and loops that store one. `listed a n f` is f a, f (a + 1), .., n of them.
 --   all-passed                              a loop has gone through all its turns
 --   listed-length, listed-more, listed-at   its length, one entry more, each entry
+--   listed-same                             the same list from two rules that agree
 --   listed-whole                            at the front of a list of as many entries it is all of it
 --   ruling-next, ruling-next-front          one entry more of a list from a rule is written
 --   ruling-end, ruling-placed, ruling-front all of them are written
@@ -45,6 +46,13 @@ module _ {A : Type 0} where
   listed-at a (suc n) (suc i) f d h =
       let e : a + suc i ≡ a + 1 + i = omega arith in
       rw e (listed-at (a + 1) n i f d (omega arith))
+
+-- two rules that agree up to the last entry
+pub listed-same : {A : Type 0} (f g : ℕ → A) (a n : ℕ) → ((i : ℕ) → i < a + n → f i ≡ g i) → listed a n f ≡ listed a n g
+unfolding listed
+listed-same f g a zero h = refl
+listed-same f g a (suc n) h =
+    rw (h a (omega arith)) (ap (λ l. g a ∷ l) (listed-same f g (a + 1) n (λ i l. h i (omega arith))))
 
 -- a list from a rule that is as long as the list it is written to is all of it
 pub listed-whole : (n : ℕ) (f : ℕ → ℕ) (l : List ℕ) → length l ≡ n → front (listed 0 n f) l ≡ listed 0 n f

@@ -11,6 +11,7 @@ use Prim.Native.Nat.{ℕ, suc, _+_, _-_, _*_, _<_, _≤_}
 use native.Mathlib.Nat.{suc-mul, mul-le-mul-right}
 use native.Mathlib.Omega.{arith}
 use lib.ListN.{length, getD}
+use Rattle.basics.specs.Words.{listed}
 use Rattle.alf.specs.declared.Rules.{Rules}
 use Rattle.alf.specs.declared.Answer.{Answer}
 use Rattle.alf.specs.declared.Sort.{Sort}
@@ -35,12 +36,13 @@ use Rattle.alf.proofs.Totals.{totals-sum}
 use Rattle.acceptance.proofs.Acceptance.{accepted-decodes}
 use Rattle.steady_laws.proofs.Meant.{meant-over}
 use Rattle.acceptance.specs.Accepted.{sortOf, Accepted}
-use Rattle.matcher.specs.declared.answers.Matched.{Matched}
+use Rattle.beginnings.specs.declared.times.Dated.{Dated}
 use Rattle.matcher.specs.declared.tables.Total.{Total}
 use Rattle.basics.proofs.Listed.{ruled-inside, ruled-before, ruled-behind}
-use Rattle.queue.specs.declared.queues.Queue.{Queue}
+use Rattle.timed_queue.specs.declared.queues.Queue.{Queue}
 use Rattle.alternatives.specs.InMemory.{longestOf}
-use Rattle.queue.specs.Queues.{fed, Feed}
+use Rattle.queue.specs.Queues.{fed}
+use Rattle.timed_queue.specs.TimedQueues.{Feed}
 use Rattle.call_laws.proofs.ThreeRoutes.{row-so-far}
 use Rattle.row_calls.specs.declared.written.Told.the-variants.{Answered}
 use Rattle.matching_calls.specs.declared.matching.Matching.the-variants.{Found}
@@ -90,40 +92,47 @@ expression-over ρ names tree a = go (a .expression) (accepted-decodes a) (a .so
     go (vector p) d k = rw d (meant-over ρ p names (decode-over names tree (vector p) d))
 
 -- Three routes: where every push of the rows of a trace is taken, the answer as written, the answer by alternatives
--- and the answer of push i are one, and the numbers tried are one.
-module _ {ρ : Rules} {names n : ℕ} {tree : List ℕ} {rows : ℕ → List ℕ} {queues : ℕ → Queue} {told : ℕ → Matched}
-    (accepted : Accepted ρ names sort.Vector tree) (first : queues 0 .kept .0 ≡ 0)
+-- and the answer of push i are one, the numbers tried are one, and so are the times where the match began.
+module _ {ρ : Rules} {names n : ℕ} {tree : List ℕ} {rows : ℕ → List ℕ} {times : ℕ → ℕ} {queues : ℕ → Queue}
+    {told : ℕ → Dated}
+    (accepted : Accepted ρ names sort.Vector tree) (first : queues 0 .rows .kept .0 ≡ 0)
     (full : (i : ℕ) → i < n → length (rows i) ≡ names)
-    (pushed : (i : ℕ) → i < n → Push ρ names tree (queues i) (rows i) (Found (told i)) (queues (suc i))) where
-  feed : Feed ρ names (alternatives (expression ρ tree names)) n rows queues (λ i. told i .answer) (λ i. told i .tries)
-  unfolding Takes
-  feed = record { first = first; full = full; pushes = λ i l. tree-pushed (pushed i l .comes .1) }
+    (pushed : (i : ℕ) → i < n → Push ρ names tree (queues i) (times i) (rows i) (Found (told i)) (queues (suc i)))
+  where
+    feed : Feed ρ names (alternatives (expression ρ tree names)) n rows times queues (λ i. told i .answer)
+        (λ i. told i .tries) (λ i. told i .began)
+    unfolding Takes
+    feed = record { first = first; full = full; pushes = λ i l. tree-pushed (pushed i l .comes .1) }
 
-  asks : All (Asks (Over names)) (alternatives (expression ρ tree names))
-  asks = alternatives-ask (Over names) _ (over-asked names _ (expression-over ρ names tree accepted))
+    asks : All (Asks (Over names)) (alternatives (expression ρ tree names))
+    asks = alternatives-ask (Over names) _ (over-asked names _ (expression-over ρ names tree accepted))
 
-  longest-pos : 0 < longestOf (alternatives (expression ρ tree names))
-  unfolding stepsOf
-  longest-pos = steps-pos (expression ρ tree names)
+    longest-pos : 0 < longestOf (alternatives (expression ρ tree names))
+    unfolding stepsOf
+    longest-pos = steps-pos (expression ρ tree names)
 
-  pub push-answers : (i : ℕ) → i < n → MatchesTree ρ names tree (fed rows n) i (told i .answer) (told i .tries)
-  push-answers i l =
-      let q = row-so-far feed asks longest-pos i l in
-      record {
-        is = q .is ∙ sym (same-answer (stateAt ρ names (fed rows n)) (expression ρ tree names) i);
-        count = q .count;
-      }
+    pub push-answers : (i : ℕ) → i < n
+        → MatchesTree ρ names tree (listed 0 n times) (fed rows n) i (told i .answer) (told i .tries) (told i .began)
+    push-answers i l =
+        let q = row-so-far feed asks longest-pos i l in
+        record {
+          is = q .matches .is ∙ sym (same-answer (stateAt ρ names (fed rows n)) (expression ρ tree names) i);
+          count = q .matches .count;
+          start = q .since;
+        }
 
-  pub routes-taken : (i : ℕ) → i < n → {a : Answer} {m : Matched}
-      → RowAnswer ρ names n tree (fed rows n) i (Answered a) → RowMatch ρ names n tree (fed rows n) i (Found m)
-      → (m .answer ≡ a) × (told i .answer ≡ a) × (told i .tries ≡ m .tries)
-  unfolding Tells Finds
-  routes-taken i l w k =
-      let q = push-answers i l in (
-        number-same _ _ (k .comes .1 .is ∙ sym (w .comes .1)),
-        number-same _ _ (q .is ∙ sym (w .comes .1)),
-        q .count ∙ sym (k .comes .1 .count),
-      )
+    pub routes-taken : (i : ℕ) → i < n → {a : Answer} {m : Dated}
+        → RowAnswer ρ names n tree (fed rows n) i (Answered a)
+        → RowMatch ρ names n tree (listed 0 n times) (fed rows n) i (Found m)
+        → (m .answer ≡ a) × (told i .answer ≡ a) × (told i .tries ≡ m .tries) × (told i .began ≡ m .began)
+    unfolding Tells Finds
+    routes-taken i l w k =
+        let q = push-answers i l in (
+          number-same _ _ (k .comes .1 .is ∙ sym (w .comes .1)),
+          number-same _ _ (q .is ∙ sym (w .comes .1)),
+          q .count ∙ sym (k .comes .1 .count),
+          q .start ∙ sym (k .comes .1 .start),
+        )
 
 -- The correction.
 module _ {ρ : Rules} {names n : ℕ} {tree states answers : List ℕ} {r : ℕ} {new states′ answers′ : List ℕ} {k : ℕ}

@@ -1,36 +1,41 @@
 -- Three routes, one answer: at every row of every trace the answer on windows, the matcher's and the queue's are the
--- same, and the matcher and the queue try as many alternatives.
+-- same, and the matcher and the queue try as many alternatives, and give the same time where the match began.
 --   fed-prefix       what was fed first stays in front
---   row-so-far       row i's answer and number tried depend on the rows fed so far alone
+--   row-so-far       row i's answer, number tried and time depend on the rows fed so far, and their times, alone
 --   three-routes
 use mathlib.Core.Path.{_≡_, refl, ap, sym, _∙_}
-use mathlib.Core.List.{List}
+use mathlib.Core.List.{List, [], _∷_}
 use mathlib.Core.Logic.{_⊎_, inl, inr}
 use Prim.Native.Nat.{ℕ, zero, suc, _+_, _-_, _*_, _<_, _≤_}
-use native.Mathlib.Nat.{suc-mul, mul-le-mul-right}
+use native.Mathlib.Nat.{suc-mul, zero-add, mul-le-mul-right}
 use native.Mathlib.Omega.{arith}
 use lib.ListN.{length, getD, List·getD-append}
 use Rattle.alf.specs.declared.Rules.{Rules}
 use Rattle.alf.specs.declared.Answer.{Answer}
+use Rattle.alf.specs.declared.Began.{Began}
 use Rattle.alf.specs.Expressions.{Vector, Over}
 use Rattle.alf.specs.Values.{rowOf, stateAt}
 use Rattle.alf.specs.Windows.{rowAnswer}
 use Rattle.alf.specs.Answers.{numberOf}
 use Rattle.alf.proofs.Answers.{number-same}
 use Rattle.alf.specs.Alternatives.{Alternative, alternatives}
+use Rattle.basics.specs.Words.{listed}
 use Rattle.basics.proofs.Bools.{equal?}
+use Rattle.basics.proofs.Listed.{listed-at}
 use Rattle.basics.proofs.AllEntries.{All}
 use Rattle.alf.proofs.Conditions.{Asks}
 use Rattle.alf.proofs.Nearness.{Near, answers-near, tries-near}
+use Rattle.alf.proofs.BeginningsNear.{SameTimes, began-near}
 use Rattle.alf.proofs.Values.{state-same}
-use Rattle.matcher.specs.Answers.{Matches}
+use Rattle.beginnings.specs.Dated.{Dates}
 use Rattle.matcher.proofs.Agreement.{matches-windows}
-use Rattle.queue.specs.declared.queues.Queue.{Queue}
+use Rattle.timed_queue.specs.declared.queues.Queue.{Queue}
 use Rattle.alternatives.specs.InMemory.{longestOf}
-use Rattle.queue.specs.Queues.{fed, Feed}
+use Rattle.queue.specs.Queues.{fed}
+use Rattle.timed_queue.specs.TimedQueues.{Feed}
 use Rattle.alternatives.proofs.Longest.{longest-within}
 use Rattle.queue.proofs.LastRows.{fed-length}
-use Rattle.queue.proofs.QueueTheorems.{queue-answers}
+use Rattle.timed_queue.proofs.TimedTheorems.{fed-listed, queue-began}
 
 fed-prefix : (rows : ℕ → List ℕ) (i n m : ℕ) → i ≤ n → m < length (fed rows i)
     → ((j : ℕ) → i ≤ j → j ≤ n → length (fed rows i) ≤ length (fed rows j))
@@ -47,9 +52,9 @@ fed-prefix rows i (suc n) m h l longer =
         let k : i ≤ n = omega (arith, d) in
         List·getD-append (fed rows n) (rows n) 0 m (omega (arith, longer n k (omega arith))) ∙ before k
 
-module _ {ρ : Rules} {names : ℕ} {xs : List Alternative} {n : ℕ} {rows : ℕ → List ℕ} {queues : ℕ → Queue}
-    {answers : ℕ → Answer}
-    {counts : ℕ → ℕ} (f : Feed ρ names xs n rows queues answers counts) (over : All (Asks (Over names)) xs)
+module _ {ρ : Rules} {names : ℕ} {xs : List Alternative} {n : ℕ} {rows : ℕ → List ℕ} {times : ℕ → ℕ}
+    {queues : ℕ → Queue} {answers : ℕ → Answer} {counts : ℕ → ℕ} {begans : ℕ → Began}
+    (f : Feed ρ names xs n rows times queues answers counts begans) (over : All (Asks (Over names)) xs)
     (some : 0 < longestOf xs) (i : ℕ) (l : i < n) where
   whole : (j : ℕ) → j ≤ n → length (fed rows j) ≡ j * names
   whole j h = fed-length names rows j (λ k m. f .full k (omega arith))
@@ -70,20 +75,39 @@ module _ {ρ : Rules} {names : ℕ} {xs : List Alternative} {n : ℕ} {rows : �
         agree = λ d a b c o. state-same names _ _ (λ k m. same-row (i - d) k (omega arith) m) _ c o;
       }
 
-  pub row-so-far : Matches (stateAt ρ names (fed rows n)) xs i (answers i) (counts i)
-  row-so-far =
-      let q = queue-answers f some i l in
+  -- the times of the rows fed so far are those of all rows fed
+  time-at : (m j : ℕ) → j < m → getD (listed 0 m times) j 0 ≡ times j
+  time-at m j h = listed-at 0 m j times 0 h ∙ ap times (zero-add j)
+
+  same-times : SameTimes (fed (λ j. times j ∷ []) (suc i)) (listed 0 n times) (longestOf xs) i i
+  same-times =
       record {
-        is = q .is ∙ answers-near (Over names) _ _ (longestOf xs) i i xs some near over (longest-within xs);
-        count = q .count ∙ tries-near (Over names) _ _ (longestOf xs) i i xs some near over (longest-within xs);
+        same = λ d a b.
+            ap (λ (ts : List ℕ). getD ts (i - d) 0) (fed-listed times (suc i))
+            ∙ time-at (suc i) (i - d) (omega arith) ∙ sym (time-at n (i - d) (omega arith));
       }
 
-  pub three-routes : (p : Vector) → xs ≡ alternatives p → {a : Answer} {t : ℕ}
-      → Matches (stateAt ρ names (fed rows n)) xs i a t
-      → (numberOf a ≡ rowAnswer (stateAt ρ names (fed rows n)) p i) × (answers i ≡ a) × (counts i ≡ t)
-  three-routes p same m =
+  pub row-so-far : Dates (stateAt ρ names (fed rows n)) (listed 0 n times) xs i (answers i) (counts i) (begans i)
+  row-so-far =
+      let q = queue-began f some i l in
+      let K = longestOf xs in
+      record {
+        matches =
+            record {
+              is = q .matches .is ∙ answers-near (Over names) _ _ K i i xs some near over (longest-within xs);
+              count = q .matches .count ∙ tries-near (Over names) _ _ K i i xs some near over (longest-within xs);
+            };
+        since = q .since ∙ began-near (Over names) _ _ _ _ K i i xs some near same-times over (longest-within xs);
+      }
+
+  pub three-routes : (p : Vector) → xs ≡ alternatives p → {a : Answer} {t : ℕ} {b : Began}
+      → Dates (stateAt ρ names (fed rows n)) (listed 0 n times) xs i a t b
+      → (numberOf a ≡ rowAnswer (stateAt ρ names (fed rows n)) p i) × (answers i ≡ a) × (counts i ≡ t) × (begans i ≡ b)
+  three-routes p same d =
+      let m = d .matches in
       let q = row-so-far in (
         matches-windows (stateAt ρ names (fed rows n)) p same m,
-        number-same _ _ (q .is ∙ sym (m .is)),
-        q .count ∙ sym (m .count),
+        number-same _ _ (q .matches .is ∙ sym (m .is)),
+        q .matches .count ∙ sym (m .count),
+        q .since ∙ sym (d .since),
       )

@@ -1,3 +1,3 @@
 // The listing of a pattern's answers, and that of an expression's values, each into a lent buffer.
 pub mod listings;
-mod totals;
+pub mod totals;

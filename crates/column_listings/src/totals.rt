@@ -20,7 +20,7 @@ pub struct Tally {
 }
 
 // 1 where two numbers are the same.
-fn same(x: u8, y: u8) -> u64
+pub fn same(x: u8, y: u8) -> u64
     ensures { λ r. ⌜ r ≡ (if eqb x y then 1 else 0) ⌝ }
 {
     if x == y { 1 } else { 0 }

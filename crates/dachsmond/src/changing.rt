@@ -6,6 +6,7 @@ ghost use Rattle.telling.specs.Handing.{Hands, told};
 ghost use Rattle.telling.specs.Matching.{queueOf, Pushes, toldPush};
 use alf::RowNo;
 use alf::Rules;
+use alf::Stamp;
 use queue_calls::pushing::push;
 use telling::Pushed;
 use telling::Queue;
@@ -37,25 +38,31 @@ pub extern "C" fn dachsmond_correct(
 // A queue before the first push.
 #[no_mangle]
 pub extern "C" fn dachsmond_empty_queue() -> Queue
-    ensures { λ q. ⌜ (q .kept ≡ 0) × (q .states ≡ replicate 512 0) ⌝ }
+    ensures { λ q. ⌜ (q .kept ≡ 0) × (q .states ≡ replicate 512 0) × (q .times ≡ replicate 16 0) ⌝ }
 {
     let states = [0u8; 512];
-    Queue { kept: 0, states }
+    let times = [0u64; 16];
+    Queue {
+        kept: 0,
+        states,
+        times,
+    }
 }
 
-// One row more: its answer, the number tried, and the queue then.
+// One row more, with its time: its answer, the number tried, the time where its match began, and the queue then.
 #[no_mangle]
 pub extern "C" fn dachsmond_push(
     rules: Rules,
     names: usize,
     tree: &[u8],
     queue: Queue,
+    time: u64,
     row: &[u8],
 ) -> Pushed
-    ensures { λ r. ⌜ Hands (Pushes rules names (now (tree .entry)) (queueOf queue)
+    ensures { λ r. ⌜ Hands (Pushes rules names (now (tree .entry)) (queueOf queue) time
         (now (row .entry))) toldPush r ⌝ }
 {
     let old = queue_of(queue);
-    let p = push(rules, names, tree, old, row);
+    let p = push(rules, names, tree, old, Stamp(time), row);
     tell_push(p)
 }

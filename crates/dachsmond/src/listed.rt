@@ -7,6 +7,7 @@ ghost use Rattle.telling.specs.Matching.{toldMatch, toldCounts, queueOf, toldPu
 ghost use Rattle.telling.specs.Listed.{ListedPushes};
 use alf::RowNo;
 use alf::Rules;
+use alf::Stamp;
 use listed_acceptance::accepting::count_listed;
 use listed_calls::listed::match_all;
 use listed_calls::listed::match_row;
@@ -39,7 +40,7 @@ pub extern "C" fn dachsmond_listed_fits(
     tell(count_listed(names, tree, steps, tests, edges, operands))
 }
 
-// Their answer at a row, and the number of them tried.
+// Their answer at a row, the number of them tried, and the time where the match began.
 #[no_mangle]
 pub extern "C" fn dachsmond_listed_match_row(
     rules: Rules,
@@ -50,12 +51,13 @@ pub extern "C" fn dachsmond_listed_match_row(
     tests: &[u8],
     edges: &[u8],
     operands: &[u16],
+    times: &[u64],
     states: &[u8],
     row: u32,
 ) -> Matched
     ensures { λ r. ⌜ Hands (ListedMatch rules names n (now (tree .entry)) (now (steps .entry))
-        (now (tests .entry))
-        (now (edges .entry)) (now (operands .entry)) (now (states .entry)) row) toldMatch r ⌝ }
+        (now (tests .entry)) (now (edges .entry)) (now (operands .entry)) (now (states .entry))
+        (now (times .entry)) row) toldMatch r ⌝ }
 {
     tell_match(match_row(
         rules,
@@ -66,6 +68,7 @@ pub extern "C" fn dachsmond_listed_match_row(
         tests,
         edges,
         operands,
+        times,
         states,
         RowNo(row),
     ))
@@ -82,14 +85,17 @@ pub extern "C" fn dachsmond_listed_match_all(
     tests: &[u8],
     edges: &[u8],
     operands: &[u16],
+    times: &[u64],
     states: &[u8],
     answers: &mut [u8],
     tried: &mut [u32],
+    given: &mut [u8],
+    began: &mut [u64],
 ) -> Told
     ensures { λ r. ⌜ Hands (ListedAll rules names n (now (tree .entry)) (now (steps .entry))
-        (now (tests .entry))
-        (now (edges .entry)) (now (operands .entry)) (now (states .entry)) (now (answers .entry)) (now (tried .entry))
-        (now (answers .exit)) (now (tried .exit))) told r ⌝ }
+        (now (tests .entry)) (now (edges .entry)) (now (operands .entry)) (now (states .entry))
+        (now (times .entry)) (now (answers .entry)) (now (tried .entry)) (now (given .entry)) (now (began .entry))
+        (now (answers .exit)) (now (tried .exit)) (now (given .exit)) (now (began .exit))) told r ⌝ }
 {
     tell(match_all(
         rules,
@@ -100,9 +106,12 @@ pub extern "C" fn dachsmond_listed_match_all(
         tests,
         edges,
         operands,
+        times,
         states,
         answers,
         tried,
+        given,
+        began,
     ))
 }
 
@@ -126,7 +135,7 @@ pub extern "C" fn dachsmond_listed_totals(
     tell_counts(totals(rules, names, n, tree, steps, tests, edges, operands, states))
 }
 
-// One row more: its answer, the number tried, and the queue then.
+// One row more, with its time: its answer, the number tried, the time where its match began, and the queue then.
 #[no_mangle]
 pub extern "C" fn dachsmond_listed_push(
     rules: Rules,
@@ -137,13 +146,25 @@ pub extern "C" fn dachsmond_listed_push(
     edges: &[u8],
     operands: &[u16],
     queue: Queue,
+    time: u64,
     row: &[u8],
 ) -> Pushed
     ensures { λ r. ⌜ Hands (ListedPushes rules names (now (tree .entry)) (now (steps .entry))
-        (now (tests .entry))
-        (now (edges .entry)) (now (operands .entry)) (queueOf queue) (now (row .entry))) toldPush r ⌝ }
+        (now (tests .entry)) (now (edges .entry)) (now (operands .entry)) (queueOf queue) time
+        (now (row .entry))) toldPush r ⌝ }
 {
     let old = queue_of(queue);
-    let p = push(rules, names, tree, steps, tests, edges, operands, old, row);
+    let p = push(
+        rules,
+        names,
+        tree,
+        steps,
+        tests,
+        edges,
+        operands,
+        old,
+        Stamp(time),
+        row,
+    );
     tell_push(p)
 }

@@ -18,20 +18,21 @@ use telling::matching::tell_counts;
 use telling::matching::tell_match;
 use telling::outcomes::tell;
 
-// The answer of a vector expression at a row, and the number of its alternatives tried.
+// The answer of a vector expression at a row, the number of its alternatives tried, and the time where the match began.
 #[no_mangle]
 pub extern "C" fn dachsmond_match_row(
     rules: Rules,
     names: usize,
     n: usize,
     tree: &[u8],
+    times: &[u64],
     states: &[u8],
     row: u32,
 ) -> Matched
-    ensures { λ r. ⌜ Hands (RowMatch rules names n (now (tree .entry))
+    ensures { λ r. ⌜ Hands (RowMatch rules names n (now (tree .entry)) (now (times .entry))
         (now (states .entry)) row) toldMatch r ⌝ }
 {
-    tell_match(match_row(rules, names, n, tree, states, RowNo(row)))
+    tell_match(match_row(rules, names, n, tree, times, states, RowNo(row)))
 }
 
 // The same for all rows, into lent lists.
@@ -41,15 +42,29 @@ pub extern "C" fn dachsmond_match_all(
     names: usize,
     n: usize,
     tree: &[u8],
+    times: &[u64],
     states: &[u8],
     answers: &mut [u8],
     tried: &mut [u32],
+    given: &mut [u8],
+    began: &mut [u64],
 ) -> Told
-    ensures { λ r. ⌜ Hands (AllMatched rules names n (now (tree .entry)) (now (states .entry))
-        (now (answers .entry))
-        (now (tried .entry)) (now (answers .exit)) (now (tried .exit))) told r ⌝ }
+    ensures { λ r. ⌜ Hands (AllMatched rules names n (now (tree .entry)) (now (times .entry)) (now (states .entry))
+        (now (answers .entry)) (now (tried .entry)) (now (given .entry)) (now (began .entry))
+        (now (answers .exit)) (now (tried .exit)) (now (given .exit)) (now (began .exit))) told r ⌝ }
 {
-    tell(match_all(rules, names, n, tree, states, answers, tried))
+    tell(match_all(
+        rules,
+        names,
+        n,
+        tree,
+        times,
+        states,
+        answers,
+        tried,
+        given,
+        began,
+    ))
 }
 
 // How many of the rows answer yes, no and unknown.

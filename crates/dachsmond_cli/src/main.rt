@@ -1,8 +1,9 @@
 // Dachsmond, the program: counts patterns of pin events in a trace. Here are the commands, their arguments, files and
 // complaints; `words` has the words. What is printed of an answer is made by one call of the library.
+mod began;
 mod words;
 
-use crate::words::expects;
+use crate::began::begin;
 use crate::words::help;
 use crate::words::named;
 use crate::words::option;
@@ -146,9 +147,6 @@ fn run(word: &[u8], more: usize) {
         unknown(word);
         return;
     }
-    if !expects(c, word, more) {
-        return;
-    }
     if c < VERSION {
         let rules = old_rules();
         let a = Asked {
@@ -156,11 +154,11 @@ fn run(word: &[u8], more: usize) {
             trace: 2,
             first: 3,
         };
-        on_trace(a, c);
+        begin(a, c, word, more);
         return;
     }
     if c == VERSION {
-        say(b"dachsmond 3.0\n");
+        say(b"dachsmond 4.0\n");
         return;
     }
     help();
@@ -190,9 +188,7 @@ fn run_ruled(a: Asked, word: &[u8], more: usize) {
         unfit(b"--steady-pins", b"table, list, values or rewrite\n", 0);
         return;
     }
-    if expects(c, word, more) {
-        on_trace(a, c);
-    }
+    begin(a, c, word, more);
 }
 
 // The command behind two options, which is argument 3; where it is missing, a word of no length is none.

@@ -41,6 +41,7 @@ pub fn help() {
   dachsmond table TRACE PATTERN..          times seen, share of all events, unknown, no
   dachsmond table TRACE -f FILE            the same for the patterns of a file, one a line
   dachsmond list TRACE PATTERN             a pattern's answer at each row
+  dachsmond list --began TRACE PATTERN     the same, with the time where each match began
   dachsmond values TRACE EXPRESSION        a boolean expression's value at each row
   dachsmond rewrite TRACE PATTERN          a pattern's alternatives, contradictory ones marked
   dachsmond show TRACE                     the trace as a table, with the pins that changed

@@ -5,6 +5,7 @@
 --   empty-queue-pushed, empty-queue-listed    the first push is done
 use Prim.Native.Nat.{ℕ, _*_}
 use native.Mathlib.Nat.{zero-mul}
+use native.Mathlib.Omega.{arith}
 use mathlib.Core.Path.{_≡_, sym, ap, subst, _∙_}
 use mathlib.Core.List.{List, []}
 use lib.ListN.{length, take}
@@ -14,8 +15,9 @@ use Rattle.alf.proofs.Outcomes.{refused-passed}
 use Rattle.acceptance.specs.Accepted.{Accepted}
 use Rattle.states.specs.FirstBadCode.{Codes}
 use Rattle.queue.specs.Queues.{heldOf}
-use Rattle.queue_calls.specs.Pushing.{RowFits, Keeps, Handed, pushOrder, Takes}
-use Rattle.call_laws.proofs.Routes.{holding-first, codes-passed}
+use Rattle.queue_calls.specs.Pushing.{RowFits, Keeps, Early, Handed, pushOrder, Takes}
+use Rattle.call_laws.proofs.Passing.{push-passed}
+use Rattle.call_laws.proofs.Routes.{holding-first}
 use Rattle.listed_acceptance.specs.Lists.{AcceptedAlternatives}
 use Rattle.listed_calls.specs.Listed as listed
 use Rattle.telling.specs.declared.Queue.{Queue}
@@ -28,10 +30,15 @@ use Rattle.dachsmond_laws.proofs.ReliableCalls.{push-reliable, listed-p
 
 pub empty-queue-unique : (p q : Queue) → EmptyQueue p → EmptyQueue q → p ≡ q
 empty-queue-unique p q a b =
-    λ i. record { kept = (a .0 ∙ sym (b .0)) i; states = (a .1 ∙ sym (b .1)) i }
+    λ i.
+    record {
+      kept = (a .0 ∙ sym (b .0)) i;
+      states = (a .1 ∙ sym (b .1)) i;
+      times = (a .2 ∙ sym (b .2)) i;
+    }
 
 module _ (q : Queue) (e : EmptyQueue q) where
-  pub empty-queue-holds : (names : ℕ) → heldOf names (queueOf q) ≡ []
+  pub empty-queue-holds : (names : ℕ) → heldOf names (queueOf q .rows) ≡ []
   unfolding queueOf
   empty-queue-holds names =
       ap (λ (j : ℕ). take (j * names) (q .states)) (e .0) ∙ ap (λ (j : ℕ). take j (q .states)) (zero-mul names)
@@ -39,28 +46,38 @@ module _ (q : Queue) (e : EmptyQueue q) where
   pub empty-queue-keeps : (names k : ℕ) → Keeps names k (queueOf q)
   unfolding queueOf
   empty-queue-keeps names k =
-      let h = holding-first names k (queueOf q) (e .0) in record { few = h .few; codes = h .codes }
+      let h = holding-first names k (queueOf q) (e .0) in
+      record { kept = record { few = h .few; codes = h .codes }; rising = h .rising }
 
-  pub empty-queue-pushed : {ρ : Rules} (names : ℕ) (tree row : List ℕ) (r : Pushed) → Accepted ρ names Vector tree
-      → RowFits names (length row) → Codes row → Hands (Pushes ρ names tree (queueOf q) row) toldPush r
+  -- no time comes too early for it
+  never-early : (time : ℕ) → Early (queueOf q) time → ⊥
+  unfolding queueOf
+  never-early time a = omega (arith, a .0, e .0)
+
+  pub empty-queue-pushed : {ρ : Rules} (names : ℕ) (tree : List ℕ) (time : ℕ) (row : List ℕ) (r : Pushed) → Accepted ρ
+      names Vector tree
+      → RowFits names (length row) → Codes row → Hands (Pushes ρ names tree (queueOf q) time row) toldPush r
       → r .number ≡ 0
   unfolding Takes
-  empty-queue-pushed {ρ} names tree row r a f s h =
+  empty-queue-pushed {ρ} names tree time row r a f s h =
       let handed : Handed ρ names tree (queueOf q) = record { accepted = a; kept = empty-queue-keeps names _ } in
-      push-reliable names tree q row .done-zero h
+      push-reliable names tree q time row .done-zero h
       (λ g d.
-      refused-passed (pushOrder ρ names tree (queueOf q) row) _ _ (codes-passed row f handed s)
-      (subst (Pushes ρ names tree (queueOf q) row) d (h .is-allowed) .comes .0 .by))
+      refused-passed (pushOrder ρ names tree (queueOf q) time row) _ _
+      (push-passed (queueOf q) time row f handed s (never-early time))
+      (subst (Pushes ρ names tree (queueOf q) time row) d (h .is-allowed) .comes .0 .by))
 
-  pub empty-queue-listed : {ρ : Rules} (names : ℕ) (tree steps tests edges operands row : List ℕ) (r : Pushed)
+  pub empty-queue-listed : {ρ : Rules} (names : ℕ) (tree steps tests edges operands : List ℕ) (time : ℕ)
+      (row : List ℕ) (r : Pushed)
       → AcceptedAlternatives names tree steps tests edges operands → RowFits names (length row) → Codes row
-      → Hands (ListedPushes ρ names tree steps tests edges operands (queueOf q) row) toldPush r → r .number ≡ 0
+      → Hands (ListedPushes ρ names tree steps tests edges operands (queueOf q) time row) toldPush r → r .number ≡ 0
   unfolding listed.Takes
-  empty-queue-listed {ρ} names tree steps tests edges operands row r a f s h =
+  empty-queue-listed {ρ} names tree steps tests edges operands time row r a f s h =
       let handed : listed.Handed names tree steps tests edges operands (queueOf q) =
       record { accepted = a; kept = empty-queue-keeps names _ } in
-      listed-push-reliable names tree steps tests edges operands q row .done-zero h
+      listed-push-reliable names tree steps tests edges operands q time row .done-zero h
       (λ g d.
-      refused-passed (listed.pushOrder names tree steps tests edges operands (queueOf q) row) _ _
-      (codes-passed row f handed s)
-      (subst (ListedPushes ρ names tree steps tests edges operands (queueOf q) row) d (h .is-allowed) .comes .0 .by))
+      refused-passed (listed.pushOrder names tree steps tests edges operands (queueOf q) time row) _ _
+      (push-passed (queueOf q) time row f handed s (never-early time))
+      (subst (ListedPushes ρ names tree steps tests edges operands (queueOf q) time row) d (h .is-allowed) .comes .0
+      .by))

@@ -8,7 +8,7 @@ use Rattle.alf.specs.declared.Rules.{Rules}
 use Rattle.alf.specs.Refusals.{Comes}
 use Rattle.names.specs.Check.{namesOrder}
 use Rattle.names.proofs.Unique.{names-unique}
-use Rattle.queue.specs.declared.queues.Queue.{Queue}
+use Rattle.timed_queue.specs.declared.queues.Queue.{Queue}
 use Rattle.listed_acceptance.specs.Fitting.{ListedFits}
 use Rattle.listed_calls.specs.Listed.{ListedMatch, ListedAll, ListedTotals}
 use Rattle.listed_acceptance.proofs.Fitting as fitting
@@ -40,19 +40,25 @@ module _ {tree steps tests edges operands : List ℕ} where
   listed-fits-unique x y = hands-unique (λ a b p q. fitting.listed-fits-unique p q) x y
 
   module _ {names n : ℕ} {states : List ℕ} where
-    pub listed-match-row-unique : {ρ : Rules} {row : ℕ} {r s : Matched}
-        → Hands (ListedMatch ρ names n tree steps tests edges operands states row) toldMatch r
-        → Hands (ListedMatch ρ names n tree steps tests edges operands states row) toldMatch s → r ≡ s
+    pub listed-match-row-unique : {ρ : Rules} {times : List ℕ} {row : ℕ} {r s : Matched}
+        → Hands (ListedMatch ρ names n tree steps tests edges operands states times row) toldMatch r
+        → Hands (ListedMatch ρ names n tree steps tests edges operands states times row) toldMatch s → r ≡ s
     listed-match-row-unique x y = hands-unique (λ a b p q. listed.listed-match-unique p q) x y
 
-    pub listed-match-all-unique : {ρ : Rules} {answers tried a t b u : List ℕ} {r s : Told}
-        → Hands (ListedAll ρ names n tree steps tests edges operands states answers tried a t) told r
-        → Hands (ListedAll ρ names n tree steps tests edges operands states answers tried b u) told s
-        → (r ≡ s) × (a ≡ b) × (t ≡ u)
+    pub listed-match-all-unique : {ρ : Rules} {times answers tried given began a t g c b u h d : List ℕ} {r s : Told}
+        → Hands (ListedAll ρ names n tree steps tests edges operands states times answers tried given began a t g c)
+        told
+        r
+        → Hands (ListedAll ρ names n tree steps tests edges operands states times answers tried given began b u h d)
+        told
+        s
+        → (r ≡ s) × (a ≡ b) × (t ≡ u) × (g ≡ h) × (c ≡ d)
     listed-match-all-unique x y = (
       hands-unique (λ a b p q. listed.listed-all-unique p q .0) x y,
       from-both (λ a b p q. listed.listed-all-unique p q .1) x y,
       from-both (λ a b p q. listed.listed-all-unique p q .2) x y,
+      from-both (λ a b p q. listed.listed-all-unique p q .3) x y,
+      from-both (λ a b p q. listed.listed-all-unique p q .4) x y,
     )
 
     pub listed-counted-unique : {ρ : Rules} {r s : Counted}
@@ -60,9 +66,9 @@ module _ {tree steps tests edges operands : List ℕ} where
         → Hands (ListedTotals ρ names n tree steps tests edges operands states) toldCounts s → r ≡ s
     listed-counted-unique x y = hands-unique (λ a b p q. listed.listed-totals-unique p q) x y
 
-  pub listed-pushed-unique : {ρ : Rules} {names : ℕ} {queue : Queue} {row : List ℕ} {r s : Pushed}
-      → Hands (ListedPushes ρ names tree steps tests edges operands queue row) toldPush r
-      → Hands (ListedPushes ρ names tree steps tests edges operands queue row) toldPush s → r ≡ s
+  pub listed-pushed-unique : {ρ : Rules} {names : ℕ} {queue : Queue} {time : ℕ} {row : List ℕ} {r s : Pushed}
+      → Hands (ListedPushes ρ names tree steps tests edges operands queue time row) toldPush r
+      → Hands (ListedPushes ρ names tree steps tests edges operands queue time row) toldPush s → r ≡ s
   listed-pushed-unique x y =
       hands-unique
       (λ a b p q. let e = listed.listed-push-unique p q in λ i. record { told = e .0 i; queue = e .1 i }) x y

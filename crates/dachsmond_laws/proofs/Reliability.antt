@@ -26,7 +26,7 @@ use Rattle.matching_calls.specs.declared.matching.Matching.{Matching}
 use Rattle.matching_calls.specs.declared.matching.Matching.the-variants as matching
 use Rattle.matching_calls.specs.declared.matching.Counting.{Counting}
 use Rattle.matching_calls.specs.declared.matching.Counting.the-variants as counting
-use Rattle.queue.specs.declared.queues.Queue as updates
+use Rattle.timed_queue.specs.declared.queues.Queue as updates
 use Rattle.queue_calls.specs.declared.pushing.Pushing.{Pushing}
 use Rattle.telling.specs.declared.Told.{Told}
 use Rattle.telling.specs.declared.Trace.{Trace}

@@ -89,16 +89,19 @@ module _ (names n : ℕ) (tree states : List ℕ) where
       → Reliable row-answers (WindowAnswer ρ names n tree states from to) Nothing
   window-answer-reliable from to = of-answer (refused-numbers .window-answer names n tree states from to)
 
-  pub match-row-reliable : {ρ : Rules} (row : ℕ) → Reliable matches (RowMatch ρ names n tree states row) Nothing
-  match-row-reliable row = of-match (refused-numbers .match-row names n tree states row)
+  pub match-row-reliable : {ρ : Rules} (times : List ℕ) (row : ℕ)
+      → Reliable matches (RowMatch ρ names n tree times states row) Nothing
+  match-row-reliable times row = of-match (refused-numbers .match-row names n tree times states row)
 
-  pub match-all-reliable : {ρ : Rules} (answers tried answers′ tried′ : List ℕ)
-      → Reliable outcomes (AllMatched ρ names n tree states answers tried answers′ tried′)
-      (λ r. (answers′ ≡ answers) × (tried′ ≡ tried))
+  pub match-all-reliable : {ρ : Rules} (times answers tried given began answers′ tried′ given′ began′ : List ℕ)
+      → Reliable outcomes (AllMatched ρ names n tree times states answers tried given began answers′ tried′ given′
+      began′)
+      (λ r. (answers′ ≡ answers) × (tried′ ≡ tried) × (given′ ≡ given) × (began′ ≡ began))
   unfolding after
-  match-all-reliable answers tried answers′ tried′ =
-      of-outcome (refused-numbers .match-all names n tree states answers tried answers′ tried′)
-      (λ f x. (x .answers-memory, x .tried-memory))
+  match-all-reliable times answers tried given began answers′ tried′ given′ began′ =
+      of-outcome
+      (refused-numbers .match-all names n tree times states answers tried given began answers′ tried′ given′ began′)
+      (λ f x. (x .answers-memory, x .tried-memory, x .given-memory, x .began-memory))
 
   pub totals-reliable : {ρ : Rules} → Reliable counts (RowTotals ρ names n tree states) Nothing
   totals-reliable = of-counts (refused-numbers .totals names n tree states)
@@ -112,12 +115,12 @@ module _ (names n : ℕ) (tree states : List ℕ) where
       (λ f x. (x .states-memory, x .answers-memory))
 
 -- the queue of a push is part of what is handed over
-pub push-reliable : {ρ : Rules} (names : ℕ) (tree : List ℕ) (queue : Queue) (row : List ℕ)
-    → Reliable (pushes queue) (Pushes ρ names tree (queueOf queue) row) (λ r. r .queue ≡ queue)
+pub push-reliable : {ρ : Rules} (names : ℕ) (tree : List ℕ) (queue : Queue) (time : ℕ) (row : List ℕ)
+    → Reliable (pushes queue) (Pushes ρ names tree (queueOf queue) time row) (λ r. r .queue ≡ queue)
 unfolding Takes
-push-reliable {ρ} names tree queue row =
-    of-push queue (Push ρ names tree (queueOf queue) row)
-    (refused-numbers {ρ = ρ} .push names tree (queueOf queue) row (queueOf queue)) (λ f s x. x .comes .1)
+push-reliable {ρ} names tree queue time row =
+    of-push queue (Push ρ names tree (queueOf queue) time row)
+    (refused-numbers {ρ = ρ} .push names tree (queueOf queue) time row (queueOf queue)) (λ f s x. x .comes .1)
 
 -- alternatives
 module _ {ρ : Rules} (names : ℕ) (tree : List ℕ) where
@@ -140,34 +143,36 @@ module _ {ρ : Rules} (names : ℕ) (tree : List ℕ) where
 
 -- alternatives in lists
 module _ (names n : ℕ) (tree steps tests edges operands states : List ℕ) where
-  pub listed-match-row-reliable : {ρ : Rules} (row : ℕ)
-      → Reliable matches (listed.ListedMatch ρ names n tree steps tests edges operands states row) Nothing
-  listed-match-row-reliable row =
-      of-match (refused-numbers .listed-match-row names n tree steps tests edges operands states row)
+  pub listed-match-row-reliable : {ρ : Rules} (times : List ℕ) (row : ℕ)
+      → Reliable matches (listed.ListedMatch ρ names n tree steps tests edges operands states times row) Nothing
+  listed-match-row-reliable times row =
+      of-match (refused-numbers .listed-match-row names n tree steps tests edges operands states times row)
 
-  pub listed-match-all-reliable : {ρ : Rules} (answers tried answers′ tried′ : List ℕ)
+  pub listed-match-all-reliable : {ρ : Rules} (times answers tried given began answers′ tried′ given′ began′ : List ℕ)
       → Reliable outcomes
-      (listed.ListedAll ρ names n tree steps tests edges operands states answers tried answers′ tried′)
-      (λ r. (answers′ ≡ answers) × (tried′ ≡ tried))
+      (listed.ListedAll ρ names n tree steps tests edges operands states times answers tried given began answers′ tried′
+      given′ began′)
+      (λ r. (answers′ ≡ answers) × (tried′ ≡ tried) × (given′ ≡ given) × (began′ ≡ began))
   unfolding after
-  listed-match-all-reliable answers tried answers′ tried′ =
+  listed-match-all-reliable times answers tried given began answers′ tried′ given′ began′ =
       of-outcome
-      (refused-numbers .listed-match-all names n tree steps tests edges operands states answers tried answers′ tried′)
-      (λ f x. (x .answers-memory, x .tried-memory))
+      (refused-numbers .listed-match-all names n tree steps tests edges operands states times answers tried given began
+      answers′ tried′ given′ began′)
+      (λ f x. (x .answers-memory, x .tried-memory, x .given-memory, x .began-memory))
 
   pub listed-totals-reliable : {ρ : Rules} → Reliable counts
       (listed.ListedTotals ρ names n tree steps tests edges operands states) Nothing
   listed-totals-reliable = of-counts (refused-numbers .listed-totals names n tree steps tests edges operands states)
 
 pub listed-push-reliable : {ρ : Rules} (names : ℕ) (tree steps tests edges operands : List ℕ) (queue : Queue)
-    (row : List ℕ)
-    → Reliable (pushes queue) (ListedPushes ρ names tree steps tests edges operands (queueOf queue) row)
+    (time : ℕ) (row : List ℕ)
+    → Reliable (pushes queue) (ListedPushes ρ names tree steps tests edges operands (queueOf queue) time row)
     (λ r. r .queue ≡ queue)
 unfolding listed.Takes
-listed-push-reliable {ρ} names tree steps tests edges operands queue row =
-    of-push queue (listed.ListedPush ρ names tree steps tests edges operands (queueOf queue) row)
-    (refused-numbers {ρ = ρ} .listed-push names tree steps tests edges operands (queueOf queue) row (queueOf queue))
-    (λ f s x. x .comes .1)
+listed-push-reliable {ρ} names tree steps tests edges operands queue time row =
+    of-push queue (listed.ListedPush ρ names tree steps tests edges operands (queueOf queue) time row)
+    (refused-numbers {ρ = ρ} .listed-push names tree steps tests edges operands (queueOf queue) time row
+    (queueOf queue)) (λ f s x. x .comes .1)
 
 pub listed-fits-reliable : (names : ℕ) (tree steps tests edges operands : List ℕ)
     → Reliable outcomes (ListedFits names tree steps tests edges operands) Nothing

@@ -5,7 +5,7 @@ use mathlib.Core.List.{List}
 use Prim.Native.Nat.{ℕ}
 use Rattle.alf.specs.declared.Rules.{Rules}
 use Rattle.alf.specs.declared.Sort.{Sort}
-use Rattle.queue.specs.declared.queues.Queue as updates
+use Rattle.timed_queue.specs.declared.queues.Queue as updates
 use Rattle.reader.specs.Reading.{ReadsText}
 use Rattle.reader.proofs.Unique.{read-unique}
 use Rattle.writer.specs.Writing as writer
@@ -103,18 +103,21 @@ module _ {names n : ℕ} {tree states : List ℕ} where
       → Hands (WindowAnswer ρ names n tree states from to) toldAnswer s → r ≡ s
   window-answer-unique x y = hands-unique (λ a b p q. window-unique p q) x y
 
-  pub match-row-unique : {ρ : Rules} {row : ℕ} {r s : Matched} → Hands (RowMatch ρ names n tree states row) toldMatch r
-      → Hands (RowMatch ρ names n tree states row) toldMatch s → r ≡ s
+  pub match-row-unique : {ρ : Rules} {times : List ℕ} {row : ℕ} {r s : Matched}
+      → Hands (RowMatch ρ names n tree times states row) toldMatch r
+      → Hands (RowMatch ρ names n tree times states row) toldMatch s → r ≡ s
   match-row-unique x y = hands-unique (λ a b p q. match-unique p q) x y
 
-  pub match-all-unique : {ρ : Rules} {answers tried a t b u : List ℕ} {r s : Told}
-      → Hands (AllMatched ρ names n tree states answers tried a t) told r
-      → Hands (AllMatched ρ names n tree states answers tried b u) told s
-      → (r ≡ s) × (a ≡ b) × (t ≡ u)
+  pub match-all-unique : {ρ : Rules} {times answers tried given began a t g c b u h d : List ℕ} {r s : Told}
+      → Hands (AllMatched ρ names n tree times states answers tried given began a t g c) told r
+      → Hands (AllMatched ρ names n tree times states answers tried given began b u h d) told s
+      → (r ≡ s) × (a ≡ b) × (t ≡ u) × (g ≡ h) × (c ≡ d)
   match-all-unique x y = (
     hands-unique (λ a b p q. all-unique p q .0) x y,
     from-both (λ a b p q. all-unique p q .1) x y,
     from-both (λ a b p q. all-unique p q .2) x y,
+    from-both (λ a b p q. all-unique p q .3) x y,
+    from-both (λ a b p q. all-unique p q .4) x y,
   )
 
   pub counted-unique : {ρ : Rules} {r s : Counted} → Hands (RowTotals ρ names n tree states) toldCounts r
@@ -132,8 +135,9 @@ module _ {names n : ℕ} {tree states : List ℕ} where
   )
 
 -- the queue is part of what is told
-pub pushed-unique : {ρ : Rules} {names : ℕ} {tree : List ℕ} {queue : updates.Queue} {row : List ℕ} {r s : Pushed}
-    → Hands (Pushes ρ names tree queue row) toldPush r → Hands (Pushes ρ names tree queue row) toldPush s → r ≡ s
+pub pushed-unique : {ρ : Rules} {names : ℕ} {tree : List ℕ} {queue : updates.Queue} {time : ℕ} {row : List ℕ}
+    {r s : Pushed} → Hands (Pushes ρ names tree queue time row) toldPush r
+    → Hands (Pushes ρ names tree queue time row) toldPush s → r ≡ s
 pushed-unique x y =
     hands-unique
     (λ a b p q. let e = push-unique p q in λ i. record { told = e .0 i; queue = e .1 i }) x y
@@ -161,5 +165,5 @@ contradictions-unique {ρ} {names} {tree} {flags} x y = (
 )
 
 -- the version, which takes nothing
-pub version-unique : (r s : ℕ) → r ≡ 196608 → s ≡ 196608 → r ≡ s
+pub version-unique : (r s : ℕ) → r ≡ 262144 → s ≡ 262144 → r ≡ s
 version-unique r s x y = x ∙ sym y

@@ -100,4 +100,4 @@ pushes q =
 
 -- a queue that keeps nothing, all zeros
 abbrev pub EmptyQueue : Queue → Type 0
-EmptyQueue q = (q .kept ≡ 0) × (q .states ≡ replicate 512 0)
+EmptyQueue q = (q .kept ≡ 0) × (q .states ≡ replicate 512 0) × (q .times ≡ replicate 16 0)

@@ -82,11 +82,12 @@ demand-1 =
           record { one = λ a b m o x y. values-unique x y; stays = λ r m x. x .memory };
       row-answer = λ names n tree states row a b x y. answer-unique x y;
       window-answer = λ names n tree states from to a b x y. window-unique x y;
-      match-row = λ names n tree states row a b x y. match-unique x y;
-      match-all = λ names n tree states answers tried.
+      match-row = λ names n tree times states row a b x y. match-unique x y;
+      match-all = λ names n tree times states answers tried given began.
           record {
-            one = λ a b m o x y. let e = all-unique x y in (e .0, λ i. (e .1 i, e .2 i));
-            stays = λ r m x. λ i. (x .answers-memory i, x .tried-memory i);
+            one = λ a b m o x y. let e = all-unique x y in (e .0, λ i. (e .1 i, e .2 i, e .3 i, e .4 i));
+            stays = λ r m x. λ i.
+                (x .answers-memory i, x .tried-memory i, x .given-memory i, x .began-memory i);
           };
       totals = λ names n tree states a b x y. totals-unique x y;
       correct = λ names n tree states answers row new.
@@ -94,18 +95,20 @@ demand-1 =
             one = λ a b m o x y. let e = correction-unique x y in (e .0, λ i. (e .1 i, e .2 i));
             stays = λ r m x. λ i. (x .states-memory i, x .answers-memory i);
           };
-      push = λ names tree queue row.
+      push = λ names tree queue time row.
           record { one = λ a b p q x y. push-unique x y; stays = λ r q x. x .comes .1 };
       listed-fits = λ names tree steps tests edges operands a b x y. listed-fits-unique x y;
-      listed-match-row = λ names n tree steps tests edges operands states row a b x y.
+      listed-match-row = λ names n tree steps tests edges operands states times row a b x y.
           listed-laws.listed-match-unique x y;
-      listed-match-all = λ names n tree steps tests edges operands states answers tried.
+      listed-match-all = λ names n tree steps tests edges operands states times answers tried given began.
           record {
-            one = λ a b m o x y. let e = listed-laws.listed-all-unique x y in (e .0, λ i. (e .1 i, e .2 i));
-            stays = λ r m x. λ i. (x .answers-memory i, x .tried-memory i);
+            one = λ a b m o x y.
+                let e = listed-laws.listed-all-unique x y in (e .0, λ i. (e .1 i, e .2 i, e .3 i, e .4 i));
+            stays = λ r m x. λ i.
+                (x .answers-memory i, x .tried-memory i, x .given-memory i, x .began-memory i);
           };
       listed-totals = λ names n tree steps tests edges operands states a b x y. listed-laws.listed-totals-unique x y;
-      listed-push = λ names tree steps tests edges operands queue row.
+      listed-push = λ names tree steps tests edges operands queue time row.
           record { one = λ a b p q x y. listed-laws.listed-push-unique x y; stays = λ r q x. x .comes .1 };
       list = λ names n tree states times out.
           record { one = λ a b m o x y. list-unique x y; stays = λ r m x. x .memory };

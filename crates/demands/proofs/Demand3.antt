@@ -18,7 +18,7 @@ use Rattle.states.specs.FirstBadCode.{Codes}
 use Rattle.basics.specs.Memory.{after}
 use Rattle.matching_calls.specs.Matching.{expression}
 use Rattle.update_calls.specs.Correcting.{correctionOrder}
-use Rattle.call_laws.proofs.Routes.{codes-never}
+use Rattle.call_laws.proofs.Passing.{codes-never}
 use Rattle.call_laws.proofs.Theorems.{correction-reaches, correction-stays, correction-keeps-right}
 use Rattle.demands.specs.Questions.{Question, namesOf, treeOf, answerOn, answerAt, K}
 use Rattle.demands.specs.Demand3.{Corrects, last, Demand3}

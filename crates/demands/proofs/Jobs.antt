@@ -3,6 +3,7 @@ use Rattle.basics.specs.Memory.{after}
 use Rattle.alternative_listings.proofs.Theorems.{alternatives-unique}
 use Rattle.column_listings.proofs.Theorems.{values-unique}
 use Rattle.row_listings.proofs.ListingTheorems.{list-text-unique, values-text-unique, lists-stays}
+use Rattle.began_texts.proofs.Theorems.{began-text-unique, began-text-stays}
 use Rattle.alternative_listings.proofs.AlternativesLaws.{text-unique}
 use Rattle.jobs.proofs.TextCounts.{counts-unique}
 use Rattle.jobs.proofs.TableLines.{table-line-unique}
@@ -18,6 +19,11 @@ demand-1-jobs =
       table-line = λ names n states text out. record { one = λ a b m o x y. table-line-unique x y };
       list-text = λ names times states text out.
           record { one = λ a b m o x y. list-text-unique _ x y; stays = λ r m x. lists-stays x };
+      list-began-text = λ names times states text out.
+          record {
+            one = λ a b m o x y. began-text-unique _ _ _ _ _ x y;
+            stays = λ r m x. began-text-stays _ _ _ _ _ x;
+          };
       values-text = λ names times states text out.
           record { one = λ a b m o x y. values-text-unique _ x y; stays = λ r m x. lists-stays x };
       list-values = λ times values out.

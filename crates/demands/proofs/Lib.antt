@@ -5,6 +5,7 @@ pub mod Surviving
 pub mod Demand1
 pub mod Jobs
 pub mod Flagging
+pub mod Feeding
 pub mod Demand2
 pub mod Values
 pub mod Demand3

@@ -86,15 +86,16 @@ numbers ρ =
       contradictions = λ names tree xs flags. refl;
       row-state = λ names n tree states row. refl;
       values = λ names n tree states out. refl;
-      match-row = λ names n tree states row. refl;
-      match-all = λ names n tree states answers tried. refl;
+      row-answer = λ names n tree states row. refl;
+      match-row = λ names n tree times states row. refl;
+      match-all = λ names n tree times states answers tried given began. refl;
       totals = λ names n tree states. refl;
       correct = λ names n tree states answers row new. refl;
-      push = λ names tree queue row. refl;
-      listed-match-row = λ names n tree steps tests edges operands states row. refl;
-      listed-match-all = λ names n tree steps tests edges operands states answers tried. refl;
+      push = λ names tree queue time row. refl;
+      listed-match-row = λ names n tree steps tests edges operands states times row. refl;
+      listed-match-all = λ names n tree steps tests edges operands states times answers tried given began. refl;
       listed-totals = λ names n tree steps tests edges operands states. refl;
-      listed-push = λ names tree steps tests edges operands queue row. refl;
+      listed-push = λ names tree steps tests edges operands queue time row. refl;
       listed-fits = λ names tree steps tests edges operands. refl;
       list = λ names n tree times states text room. refl;
       table-line = λ names n tree states text room. refl;
@@ -185,28 +186,30 @@ refused-numbers {ρ} =
       values = λ names n tree states out out′.
           by-order _ (numbers ρ .values names n tree states out) refl (λ r x. x .comes);
       row-answer = λ names n tree states row.
-          by-order _ (numbers ρ .match-row names n tree states row) refl (λ r x. x .comes);
+          by-order _ (numbers ρ .row-answer names n tree states row) refl (λ r x. x .comes);
       window-answer = λ names n tree states from to.
-          by-order _ (numbers ρ .match-row names n tree states (max from to)) refl (λ r x. x .comes);
-      match-row = λ names n tree states row.
-          by-order _ (numbers ρ .match-row names n tree states row) refl (λ r x. x .comes);
-      match-all = λ names n tree states answers tried answers′ tried′.
-          by-order _ (numbers ρ .match-all names n tree states answers tried) refl (λ r x. x .comes);
+          by-order _ (numbers ρ .row-answer names n tree states (max from to)) refl (λ r x. x .comes);
+      match-row = λ names n tree times states row.
+          by-order _ (numbers ρ .match-row names n tree times states row) refl (λ r x. x .comes);
+      match-all = λ names n tree times states answers tried given began answers′ tried′ given′ began′.
+          by-order _ (numbers ρ .match-all names n tree times states answers tried given began) refl (λ r x. x .comes);
       totals = λ names n tree states. by-order _ (numbers ρ .totals names n tree states) refl (λ r x. x .comes);
       correct = λ names n tree states answers row new states′ answers′.
           by-order _ (numbers ρ .correct names n tree states answers row new) refl (λ r x. x .comes);
-      push = λ names tree queue row queue′.
-          by-order _ (numbers ρ .push names tree queue row) refl (λ r x. x .comes .0);
-      listed-match-row = λ names n tree steps tests edges operands states row.
-          by-order _ (numbers ρ .listed-match-row names n tree steps tests edges operands states row) refl
+      push = λ names tree queue time row queue′.
+          by-order _ (numbers ρ .push names tree queue time row) refl (λ r x. x .comes .0);
+      listed-match-row = λ names n tree steps tests edges operands states times row.
+          by-order _ (numbers ρ .listed-match-row names n tree steps tests edges operands states times row) refl
           (λ r x. x .comes);
-      listed-match-all = λ names n tree steps tests edges operands states answers tried answers′ tried′.
-          by-order _ (numbers ρ .listed-match-all names n tree steps tests edges operands states answers tried) refl
-          (λ r x. x .comes);
+      listed-match-all = λ names n tree steps tests edges operands states times answers tried given began answers′
+          tried′ given′ began′.
+          by-order _
+          (numbers ρ .listed-match-all names n tree steps tests edges operands states times answers tried given began)
+          refl (λ r x. x .comes);
       listed-totals = λ names n tree steps tests edges operands states.
           by-order _ (numbers ρ .listed-totals names n tree steps tests edges operands states) refl (λ r x. x .comes);
-      listed-push = λ names tree steps tests edges operands queue row queue′.
-          by-order _ (numbers ρ .listed-push names tree steps tests edges operands queue row) refl
+      listed-push = λ names tree steps tests edges operands queue time row queue′.
+          by-order _ (numbers ρ .listed-push names tree steps tests edges operands queue time row) refl
           (λ r x. x .comes .0);
       listed-fits = λ names tree steps tests edges operands.
           by-order _ (numbers ρ .listed-fits names tree steps tests edges operands) refl (λ r x. x .comes);

@@ -12,7 +12,7 @@ use Rattle.alf.specs.Values.{stateAt, valueAt}
 use Rattle.alf.specs.Refusals.{Comes}
 use Rattle.alf.proofs.Outcomes.{refused-passed}
 use Rattle.row_calls.specs.Written.{RowState, RowValue, AllValues}
-use Rattle.call_laws.proofs.Routes.{row-passed, codes-passed}
+use Rattle.call_laws.proofs.Passing.{row-passed, codes-passed}
 use Rattle.demands.specs.Questions.{Formula, namesOf, treeOf, valueOf, stateOf}
 use Rattle.demands.specs.Values.{Demand2Values}
 use Rattle.demands.proofs.Asked.{lists-fit, codes-good, tree-accepted, formula-is}

@@ -49,6 +49,13 @@ partNumbers n = 18 ∷ 12 ∷ 19 ∷ (rowByRow n ++ (9 ∷ []))
 abbrev pub rowsNumbers : List ℕ
 rowsNumbers = 18 ∷ 10 ∷ 15 ∷ []
 
+-- with times (document 02, [12]): "13 .. after 15"
+abbrev pub timedNumbers : List ℕ
+timedNumbers = 18 ∷ 10 ∷ 15 ∷ 13 ∷ []
+
+abbrev pub timedRowNumbers : List ℕ
+timedRowNumbers = 18 ∷ 10 ∷ 15 ∷ 13 ∷ 19 ∷ []
+
 abbrev pub rowNumbers : List ℕ
 rowNumbers = 18 ∷ 10 ∷ 15 ∷ 19 ∷ []
 

@@ -23,7 +23,7 @@ use Rattle.text_reading.specs.Reading.{MakesTrace}
 use Rattle.changes.specs.Call.{RowChanged}
 use Rattle.rewriting_calls.specs.Calls.{Rewrites}
 use Rattle.contradictions.specs.Calls.{Contradicts}
-use Rattle.queue.specs.declared.queues.Queue.{Queue}
+use Rattle.timed_queue.specs.declared.queues.Queue.{Queue}
 use Rattle.matching_calls.specs.declared.matching.Matching.the-variants as matching
 use Rattle.row_calls.specs.Written.{RowState, RowValue, AllValues, RowAnswer}
 use Rattle.row_calls.specs.Windows.{WindowAnswer}
@@ -76,30 +76,34 @@ pub record Demand1 (ρ : Rules) : Type 0 where
   pub row-answer : (names n : ℕ) (tree states : List ℕ) (row : ℕ) → One (RowAnswer ρ names n tree states row)
   pub window-answer : (names n : ℕ) (tree states : List ℕ) (from to : ℕ)
       → One (WindowAnswer ρ names n tree states from to)
-  pub match-row : (names n : ℕ) (tree states : List ℕ) (row : ℕ) → One (RowMatch ρ names n tree states row)
-  pub match-all : (names n : ℕ) (tree states answers tried : List ℕ)
-      → Promised {M = Two} Refused (λ r m. AllMatched ρ names n tree states answers tried (m .0) (m .1) r)
-      (answers, tried)
+  pub match-row : (names n : ℕ) (tree times states : List ℕ) (row : ℕ) → One (RowMatch ρ names n tree times states row)
+  pub match-all : (names n : ℕ) (tree times states answers tried given began : List ℕ)
+      → Promised {M = Four} Refused
+      (λ r m. AllMatched ρ names n tree times states answers tried given began (m .0) (m .1) (m .2) (m .3) r)
+      (answers, tried, given, began)
   pub totals : (names n : ℕ) (tree states : List ℕ) → One (RowTotals ρ names n tree states)
   pub correct : (names n : ℕ) (tree states answers : List ℕ) (row : ℕ) (new : List ℕ)
       → Promised {M = Two} Refused (λ r m. Correction ρ names n tree states answers row new (m .0) (m .1) r)
       (states, answers)
-  pub push : (names : ℕ) (tree : List ℕ) (queue : Queue) (row : List ℕ)
-      → Promised matching.Refused (λ r q. Push ρ names tree queue row r q) queue
+  pub push : (names : ℕ) (tree : List ℕ) (queue : Queue) (time : ℕ) (row : List ℕ)
+      → Promised matching.Refused (λ r q. Push ρ names tree queue time row r q) queue
   -- rows, for alternatives handed in; whether they are accepted
   pub listed-fits : (names : ℕ) (tree steps tests edges operands : List ℕ)
       → One (ListedFits names tree steps tests edges operands)
-  pub listed-match-row : (names n : ℕ) (tree steps tests edges operands states : List ℕ) (row : ℕ)
-      → One (listed.ListedMatch ρ names n tree steps tests edges operands states row)
-  pub listed-match-all : (names n : ℕ) (tree steps tests edges operands states answers tried : List ℕ)
-      → Promised {M = Two} Refused
-      (λ r m. listed.ListedAll ρ names n tree steps tests edges operands states answers tried (m .0) (m .1) r)
-      (answers, tried)
+  pub listed-match-row : (names n : ℕ) (tree steps tests edges operands states times : List ℕ) (row : ℕ)
+      → One (listed.ListedMatch ρ names n tree steps tests edges operands states times row)
+  pub listed-match-all : (names n : ℕ)
+      (tree steps tests edges operands states times answers tried given began : List ℕ)
+      → Promised {M = Four} Refused
+      (λ r m.
+      listed.ListedAll ρ names n tree steps tests edges operands states times answers tried given began (m .0) (m .1)
+      (m .2) (m .3) r)
+      (answers, tried, given, began)
   pub listed-totals : (names n : ℕ) (tree steps tests edges operands states : List ℕ)
       → One (listed.ListedTotals ρ names n tree steps tests edges operands states)
-  pub listed-push : (names : ℕ) (tree steps tests edges operands : List ℕ) (queue : Queue) (row : List ℕ)
+  pub listed-push : (names : ℕ) (tree steps tests edges operands : List ℕ) (queue : Queue) (time : ℕ) (row : List ℕ)
       → Promised matching.Refused
-      (λ r q. listed.ListedPush ρ names tree steps tests edges operands queue row r q) queue
+      (λ r q. listed.ListedPush ρ names tree steps tests edges operands queue time row r q) queue
   -- the listing, and the lines of the table: of a pattern, and any other
   pub list : (names n : ℕ) (tree states times out : List ℕ)
       → Promised Refused (λ r m. ListsTree ρ names n tree times states out m r) out

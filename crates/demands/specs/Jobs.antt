@@ -9,6 +9,7 @@ use Rattle.basics.specs.declared.Outcome.the-variants.{Refused}
 use Rattle.alternative_listings.specs.Calls.{WritesAlternatives}
 use Rattle.column_listings.specs.Calls.{ValuesText}
 use Rattle.row_listings.specs.Listings.{ListsPattern, ListsValues}
+use Rattle.began_texts.specs.TextBegan.{ListsBeganText}
 use Rattle.jobs.specs.Counting.{CountsText}
 use Rattle.jobs.specs.Lines.{TableLine}
 use Rattle.letter_corrections.specs.Correcting.{CorrectsLetters}
@@ -26,6 +27,8 @@ pub record Demand1Jobs (ρ : Rules) : Type 0 where
       → Single (λ r m. TableLine ρ names n states text out m r)
   pub list-text : (names times states text out : List ℕ)
       → Promised Refused (λ r m. ListsPattern ρ names times states text out m r) out
+  pub list-began-text : (names times states text out : List ℕ)
+      → Promised Refused (λ r m. ListsBeganText ρ names times states text out m r) out
   pub values-text : (names times states text out : List ℕ)
       → Promised Refused (λ r m. ListsValues ρ names times states text out m r) out
   pub list-values : (times values out : List ℕ) → Promised Refused (λ r m. ValuesText times values out m r) out

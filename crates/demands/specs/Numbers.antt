@@ -30,14 +30,15 @@ use Rattle.changes.specs.declared.RowChanges.the-variants as row-changes
 use Rattle.changes.specs.Call as changes
 use Rattle.rewriting_calls.specs.Calls as rewriting
 use Rattle.contradictions.specs.Calls as flagging
-use Rattle.queue.specs.declared.queues.Queue.{Queue}
+use Rattle.timed_queue.specs.declared.queues.Queue.{Queue}
+use Rattle.judging.specs.TimedOrders.{timedOrder, timedRowOrder}
 use Rattle.judging.specs.Orders as judging
 use Rattle.row_calls.specs.declared.written.Told.the-variants as told
 use Rattle.row_calls.specs.Written.{RowState, RowValue, AllValues, RowAnswer}
 use Rattle.row_calls.specs.Windows.{WindowAnswer}
 use Rattle.matching_calls.specs.declared.matching.Matching.the-variants as matching
 use Rattle.matching_calls.specs.declared.matching.Counting.the-variants as counting
-use Rattle.matching_calls.specs.Matching.{RowMatch, AllMatched, RowTotals}
+use Rattle.matching_calls.specs.Matching.{Lent, RowMatch, AllMatched, RowTotals}
 use Rattle.update_calls.specs.Correcting.{correctionOrder, Correction}
 use Rattle.queue_calls.specs.Pushing.{pushOrder, Push}
 use Rattle.listed_calls.specs.Listed as listed
@@ -59,6 +60,8 @@ use Rattle.demands.specs.CallNumbers.{
   partNumbers,
   rowsNumbers,
   rowNumbers,
+  timedNumbers,
+  timedRowNumbers,
   correctionNumbers,
   changesNumbers,
   rewritingNumbers,
@@ -102,27 +105,32 @@ pub record Numbers (ρ : Rules) : Type 0 where
       → numbersOf (judging.rowOrder ρ names n tree Boolean states row) ≡ rowNumbers
   pub values : (names n : ℕ) (tree states out : List ℕ)
       → numbersOf (judging.rowsOrder ρ names n (length out ≡ n) tree Boolean states) ≡ rowsNumbers
-  pub match-row : (names n : ℕ) (tree states : List ℕ) (row : ℕ)
+  pub row-answer : (names n : ℕ) (tree states : List ℕ) (row : ℕ)
       → numbersOf (judging.rowOrder ρ names n tree Vector states row) ≡ rowNumbers
-  pub match-all : (names n : ℕ) (tree states answers tried : List ℕ)
-      → numbersOf (judging.rowsOrder ρ names n ((length answers ≡ n) × (length tried ≡ n)) tree Vector states)
-      ≡ rowsNumbers
+  pub match-row : (names n : ℕ) (tree times states : List ℕ) (row : ℕ)
+      → numbersOf (timedRowOrder ρ names n tree times states row) ≡ timedRowNumbers
+  pub match-all : (names n : ℕ) (tree times states answers tried given began : List ℕ)
+      → numbersOf (timedOrder ρ names n
+      (Lent n (length times) (length answers) (length tried) (length given) (length began)) tree times states)
+      ≡ timedNumbers
   pub totals : (names n : ℕ) (tree states : List ℕ)
       → numbersOf (judging.traceOrder ρ names n tree Vector states) ≡ rowsNumbers
   pub correct : (names n : ℕ) (tree states answers : List ℕ) (row : ℕ) (new : List ℕ)
       → numbersOf (correctionOrder ρ names n tree states answers row new) ≡ correctionNumbers
-  pub push : (names : ℕ) (tree : List ℕ) (queue : Queue) (row : List ℕ)
-      → numbersOf (pushOrder ρ names tree queue row) ≡ rowsNumbers
-  pub listed-match-row : (names n : ℕ) (tree steps tests edges operands states : List ℕ) (row : ℕ)
-      → numbersOf (listed.rowOrder names n tree steps tests edges operands states row) ≡ rowNumbers
-  pub listed-match-all : (names n : ℕ) (tree steps tests edges operands states answers tried : List ℕ)
-      → numbersOf (listed.rowsOrder names n tree steps tests edges operands states
-      (((length answers ≡ n) × (length tried ≡ n)) × judging.Rows names n (length states))) ≡ rowsNumbers
+  pub push : (names : ℕ) (tree : List ℕ) (queue : Queue) (time : ℕ) (row : List ℕ)
+      → numbersOf (pushOrder ρ names tree queue time row) ≡ timedNumbers
+  pub listed-match-row : (names n : ℕ) (tree steps tests edges operands states times : List ℕ) (row : ℕ)
+      → numbersOf (listed.rowOrder names n tree steps tests edges operands states times row) ≡ timedRowNumbers
+  pub listed-match-all : (names n : ℕ)
+      (tree steps tests edges operands states times answers tried given began : List ℕ)
+      → numbersOf (listed.timedOrder names n tree steps tests edges operands states
+      (Lent n (length times) (length answers) (length tried) (length given) (length began)
+      × judging.Rows names n (length states)) times) ≡ timedNumbers
   pub listed-totals : (names n : ℕ) (tree steps tests edges operands states : List ℕ)
       → numbersOf (listed.rowsOrder names n tree steps tests edges operands states
       (judging.Rows names n (length states))) ≡ rowsNumbers
-  pub listed-push : (names : ℕ) (tree steps tests edges operands : List ℕ) (queue : Queue) (row : List ℕ)
-      → numbersOf (listed.pushOrder names tree steps tests edges operands queue row) ≡ rowsNumbers
+  pub listed-push : (names : ℕ) (tree steps tests edges operands : List ℕ) (queue : Queue) (time : ℕ) (row : List ℕ)
+      → numbersOf (listed.pushOrder names tree steps tests edges operands queue time row) ≡ timedNumbers
   pub listed-fits : (names : ℕ) (tree steps tests edges operands : List ℕ)
       → numbersOf (fitsOrder names tree steps tests edges operands) ≡ fitsNumbers
   pub list : (names n : ℕ) (tree times states text : List ℕ) (room : ℕ)
@@ -178,29 +186,32 @@ pub record RefusedNumbers (ρ : Rules) : Type 0 where
       → Refuses told.Refused (RowAnswer ρ names n tree states row) rowNumbers
   pub window-answer : (names n : ℕ) (tree states : List ℕ) (from to : ℕ)
       → Refuses told.Refused (WindowAnswer ρ names n tree states from to) rowNumbers
-  pub match-row : (names n : ℕ) (tree states : List ℕ) (row : ℕ)
-      → Refuses matching.Refused (RowMatch ρ names n tree states row) rowNumbers
-  pub match-all : (names n : ℕ) (tree states answers tried answers′ tried′ : List ℕ)
-      → Refuses Refused (AllMatched ρ names n tree states answers tried answers′ tried′) rowsNumbers
+  pub match-row : (names n : ℕ) (tree times states : List ℕ) (row : ℕ)
+      → Refuses matching.Refused (RowMatch ρ names n tree times states row) timedRowNumbers
+  pub match-all : (names n : ℕ) (tree times states answers tried given began answers′ tried′ given′ began′ : List ℕ)
+      → Refuses Refused
+      (AllMatched ρ names n tree times states answers tried given began answers′ tried′ given′ began′) timedNumbers
   pub totals : (names n : ℕ) (tree states : List ℕ)
       → Refuses counting.Refused (RowTotals ρ names n tree states) rowsNumbers
   pub correct : (names n : ℕ) (tree states answers : List ℕ) (row : ℕ) (new states′ answers′ : List ℕ)
       → Refuses Refused (Correction ρ names n tree states answers row new states′ answers′) correctionNumbers
-  pub push : (names : ℕ) (tree : List ℕ) (queue : Queue) (row : List ℕ) (queue′ : Queue)
-      → Refuses matching.Refused (λ r. Push ρ names tree queue row r queue′) rowsNumbers
-  pub listed-match-row : (names n : ℕ) (tree steps tests edges operands states : List ℕ) (row : ℕ)
-      → Refuses matching.Refused (listed.ListedMatch ρ names n tree steps tests edges operands states row) rowNumbers
-  pub listed-match-all :
-      (names n : ℕ) (tree steps tests edges operands states answers tried answers′ tried′ : List ℕ) →
-      Refuses Refused
-      (listed.ListedAll ρ names n tree steps tests edges operands states answers tried answers′ tried′)
-      rowsNumbers
+  pub push : (names : ℕ) (tree : List ℕ) (queue : Queue) (time : ℕ) (row : List ℕ) (queue′ : Queue)
+      → Refuses matching.Refused (λ r. Push ρ names tree queue time row r queue′) timedNumbers
+  pub listed-match-row : (names n : ℕ) (tree steps tests edges operands states times : List ℕ) (row : ℕ)
+      → Refuses matching.Refused (listed.ListedMatch ρ names n tree steps tests edges operands states times row)
+      timedRowNumbers
+  pub listed-match-all : (names n : ℕ) (tree steps tests edges operands states times answers tried given began answers′
+      tried′ given′ began′ : List ℕ)
+      → Refuses Refused
+      (listed.ListedAll ρ names n tree steps tests edges operands states times answers tried given began answers′ tried′
+      given′ began′) timedNumbers
   pub listed-totals : (names n : ℕ) (tree steps tests edges operands states : List ℕ)
       → Refuses counting.Refused (listed.ListedTotals ρ names n tree steps tests edges operands states) rowsNumbers
-  pub listed-push : (names : ℕ) (tree steps tests edges operands : List ℕ) (queue : Queue) (row : List ℕ)
+  pub listed-push : (names : ℕ) (tree steps tests edges operands : List ℕ) (queue : Queue) (time : ℕ) (row : List ℕ)
       (queue′ : Queue)
-      → Refuses matching.Refused (λ r. listed.ListedPush ρ names tree steps tests edges operands queue row r queue′)
-      rowsNumbers
+      → Refuses matching.Refused (λ r. listed.ListedPush ρ names tree steps tests edges operands queue time row r
+      queue′)
+      timedNumbers
   pub listed-fits : (names : ℕ) (tree steps tests edges operands : List ℕ)
       → Refuses Refused (ListedFits names tree steps tests edges operands) fitsNumbers
   pub list : (names n : ℕ) (tree times states out out′ : List ℕ)

@@ -6,8 +6,9 @@
 --   Asked                     the file, the text, and what document 01 reads in them
 --   Question, Formula         asked for a vector expression, a pattern; for a boolean expression
 --   meantBy                   a pattern as the rules read it (document 02, [2])
---   answerOn, triesOn         a pattern's answer at a row of a trace, and how many alternatives are tried there
---   answerAt, triesAt         the same on the question's own trace
+--   answerOn, triesOn, beganOn     a pattern's answer at a row of a trace, how many alternatives are tried there, and
+--                             the time where the match began
+--   answerAt, triesAt, beganAt     the same on the question's own trace
 --   valueOf, stateOf          a boolean expression's value and state at a row of the question's trace
 --   K                         the steps of a pattern's longest alternative
 --   treeOf                    the bytes that the calls take for the expression
@@ -24,7 +25,9 @@ use Rattle.alf.specs.declared.Rules.{Rules}
 use Rattle.alf.specs.Values.{stateAt, valueAt}
 use Rattle.alf.specs.Windows.{rowAnswer}
 use Rattle.alf.specs.Alternatives.{alternatives, tries, stepsOf}
+use Rattle.alf.specs.declared.Began.{Began}
 use Rattle.alf.specs.Steady.{meant}
+use Rattle.alf.specs.Beginnings.{began}
 use Rattle.trace_format.specs.Format.{Trace, Fitting, fileIn}
 use Rattle.reader.specs.Reading.{Gives}
 
@@ -68,12 +71,19 @@ module _ {file text : List ℕ} where
   abbrev pub triesOn : Question file text → List ℕ → ℕ → ℕ
   triesOn q states = tries (stateAt (q .rules) (namesOf q) states) (alternatives (meantBy q))
 
+  -- and where the match began, with the times of the rows (document 02, [12])
+  abbrev pub beganOn : Question file text → List ℕ → List ℕ → ℕ → Began
+  beganOn q times states = began (stateAt (q .rules) (namesOf q) states) times (alternatives (meantBy q))
+
   -- on the question's own trace
   abbrev pub answerAt : Question file text → ℕ → ℕ
   answerAt q = answerOn q (q .states)
 
   abbrev pub triesAt : Question file text → ℕ → ℕ
   triesAt q = triesOn q (q .states)
+
+  abbrev pub beganAt : Question file text → ℕ → Began
+  beganAt q = beganOn q (q .times) (q .states)
 
   -- the steps of the longest alternative
   abbrev pub K : Question file text → ℕ

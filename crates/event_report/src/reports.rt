@@ -93,6 +93,21 @@ pub fn time_of(report: &[u8], i: usize) -> usize
     number_from(part(part(report, i + 3, b' '), 0, b':'), 0)
 }
 
+fn no_times() -> [u64; 64] {
+    [0u64; 64]
+}
+
+// The times of the rows.
+pub fn times_of(report: &[u8]) -> [u64; 64] {
+    let mut out = no_times();
+    let mut i: usize = 0;
+    while i < 64 {
+        out[i] = time_of(report, i) as u64;
+        i += 1;
+    }
+    out
+}
+
 fn no_names() -> [u8; 160] {
     [0u8; 160]
 }

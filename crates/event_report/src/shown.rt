@@ -7,6 +7,7 @@ use crate::reports::rows_of;
 use crate::reports::size_of;
 use crate::reports::states_of;
 use crate::reports::time_of;
+use crate::reports::times_of;
 use alf::RowNo;
 use alf::Rules;
 use basics::Outcome;
@@ -101,14 +102,20 @@ fn alternatives(rules: Rules, report: &[u8], n: usize, tree: &[u8], states: &[u8
 {
     let mut answers = zeros();
     let mut tried = [0u32; 64];
+    let mut given = zeros();
+    let mut began = [0u64; 64];
+    let times = times_of(report);
     let r = match_all(
         rules,
         names_of(report),
         n,
         tree,
+        &times[0..n],
         states,
         &mut answers[0..n],
         &mut tried[0..n],
+        &mut given[0..n],
+        &mut began[0..n],
     );
     say_all(report, n, r, &answers);
 }

@@ -1,4 +1,5 @@
 -- What the rows of a trace come to, listed, for a tree that is accepted: 18, 15, 9.
+--   lent-comes                       lists that are right and a tree that is accepted are asked no more
 --   pattern-listed                   of a pattern: the call for its tree, of whose refusals 10 is not given
 --   states-refused, states-listed    of a boolean expression: the call over rows, and what it wrote is listed
 --   too-many                         more than 65,535 rows
@@ -62,7 +63,7 @@ module _ (lent P Q : Type 0) (l : lent) (q : Q) (rest : Order) where
   unfolding Passed
   lent-passed (k, (m, h)) = (lent-18 lent P k, h)
 
-  lent-comes : (made : ℕ → Type 0) (r : Outcome) → Comes (order (lent × P) Q rest) made r
+  pub lent-comes : (made : ℕ → Type 0) (r : Outcome) → Comes (order (lent × P) Q rest) made r
       → Comes (check 18 (bad-lists P) ∷ rest) made r
   unfolding Comes
   lent-comes made (Done m) (h, e) = (lent-passed h, e)

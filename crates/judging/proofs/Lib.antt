@@ -1,3 +1,4 @@
 -- The laws of the calls over rows.
 pub mod Verdicts
 pub mod Checked
+pub mod TimedChecks

@@ -19,7 +19,7 @@ pub enum Column {
 }
 
 // The length of an answer's word.
-fn word_size(a: u8) -> usize
+pub fn word_size(a: u8) -> usize
     requires { ⌜ a ≤ 3 ⌝ }
     ensures { λ r. ⌜ Sized (word a) 7 r ⌝ }
 {
@@ -35,7 +35,7 @@ fn word_size(a: u8) -> usize
     4
 }
 
-fn put_word(a: u8, out: &mut [u8], at: usize) -> usize
+pub fn put_word(a: u8, out: &mut [u8], at: usize) -> usize
     requires { ⌜ Wording 3 a (now out) at (word a) ⌝ }
     ensures { λ r. ⌜ Put (now (out .entry)) at (word a) (now (out .exit)) r ⌝ }
 {

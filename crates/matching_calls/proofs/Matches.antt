@@ -9,10 +9,10 @@ use Rattle.basics.specs.declared.Refusal.{Refusal}
 use Rattle.alf.specs.declared.Rules.{Rules}
 use Rattle.alf.specs.declared.Sort.the-variants.{Vector}
 use Rattle.basics.specs.declared.Outcome.the-variants as outcome
-use Rattle.alf.specs.Refusals.{Comes}
+use Rattle.alf.specs.Refusals.{Comes, Rising}
 use Rattle.acceptance.specs.Accepted.{Accepted}
 use Rattle.basics.specs.Deciding.{Decides}
-use Rattle.matcher.specs.declared.answers.Matched.{Matched}
+use Rattle.beginnings.specs.declared.times.Dated.{Dated}
 use Rattle.matcher.specs.declared.tables.Total.{Total}
 use Rattle.matcher.specs.Tables as tables
 use Rattle.states.specs.FirstBadCode.{Codes}
@@ -20,13 +20,14 @@ use Rattle.judging.specs.declared.checks.Verdict.{Verdict}
 use Rattle.judging.specs.declared.checks.Verdict.the-variants.{Good, Refused}
 use Rattle.matching_calls.specs.declared.matching.Matching.the-variants as matching
 use Rattle.matching_calls.specs.declared.matching.Counting.the-variants as counting
-use Rattle.judging.specs.Orders.{Rows, rowsOrder, traceOrder, Judged, ChecksRow, ChecksRows}
+use Rattle.judging.specs.Orders.{Rows, traceOrder, Judged, ChecksRows}
+use Rattle.judging.specs.TimedOrders.{timedOrder, ChecksTimed, ChecksTimedRow}
 use Rattle.basics.specs.Memory.{after}
 use Rattle.matching_calls.specs.Matching.{MatchesTree, Finds, RowMatch, FillsTree, AllMatched, TotalsTree, Counts}
-use Rattle.matching_calls.specs.Matching.{RowTotals, TreeRow, TreeRows, TreeLists}
+use Rattle.matching_calls.specs.Matching.{Lent, RowTotals, TreeRow, TreeRows, TreeLists}
 use Rattle.judging.proofs.Verdicts.{judged-good, judged-not, lists-as}
-use Rattle.judging.proofs.Checked.{lent-as}
-use Rattle.row_calls.proofs.AsWritten.{row-there, row-accepted}
+use Rattle.judging.proofs.TimedChecks.{timed-as}
+use Rattle.matcher.proofs.Filling.{row-within}
 
 -- rows that fit are rows as matching asks for them
 pub rows-asked : {names n : ℕ} {states : List ℕ} → Rows names n (length states) → Codes states
@@ -41,48 +42,63 @@ rows-asked l s =
     }
 
 -- a row
-module _ {ρ : Rules} {names n : ℕ} {tree states : List ℕ} {row : ℕ} {v : Verdict}
-    (c : ChecksRow ρ names n tree Vector states row v) where
-  pub match-asked : v ≡ Good → TreeRow ρ names tree states row
-  match-asked e = record { accepted = row-accepted c e; there = row-there c e }
+module _ {ρ : Rules} {names n : ℕ} {tree times states : List ℕ} {row : ℕ} {v : Verdict}
+    (c : ChecksTimedRow ρ names n tree times states row v) where
+  pub match-asked : v ≡ Good → TreeRow ρ names tree times states row
+  match-asked e =
+      let ((m, l), a, (s, t, h)) = judged-good (c .is) e .1 in
+      record { accepted = a; there = row-within row (rows-asked l s) h; timed = omega arith }
 
   pub match-refused : {r : Refusal} → v ≡ Refused r
-      → RowMatch ρ names n tree states row (matching.Refused r)
+      → RowMatch ρ names n tree times states row (matching.Refused r)
   unfolding Finds
   match-refused e = record { comes = judged-not (c .is) e }
 
-  pub match-told : {m : Matched} → v ≡ Good → MatchesTree ρ names tree states row (m .answer) (m .tries)
-      → RowMatch ρ names n tree states row (matching.Found m)
+  pub match-told : {m : Dated} → v ≡ Good → MatchesTree ρ names tree times states row (m .answer) (m .tries) (m .began)
+      → RowMatch ρ names n tree times states row (matching.Found m)
   unfolding Finds
   match-told e s = record { comes = (judged-good (c .is) e .0, s) }
 
 -- all rows
-module _ {ρ : Rules} {names n : ℕ} {tree states : List ℕ} (answers tried : List ℕ) {lent : Bool} {v : Verdict}
-    (d : Decides lent ((length answers ≡ n) × (length tried ≡ n)))
-    (c : ChecksRows ρ names n lent tree Vector states v) where
-  as-lists : Judged (rowsOrder ρ names n ((length answers ≡ n) × (length tried ≡ n)) tree Vector states)
-      ((((length answers ≡ n) × (length tried ≡ n)) × Rows names n (length states))
-      × Accepted ρ names Vector tree × Codes states) v
-  as-lists = lent-as ρ names n tree Vector states lent ((length answers ≡ n) × (length tried ≡ n)) d c
+module _ {ρ : Rules} {names n : ℕ} {tree times states : List ℕ} (answers tried given began : List ℕ) {lent : Bool}
+    {v : Verdict}
+    (d : Decides lent (Lent n (length times) (length answers) (length tried) (length given) (length began)))
+    (c : ChecksTimed ρ names n lent tree times states v) where
+  abbrev all : Type 0
+  all = Lent n (length times) (length answers) (length tried) (length given) (length began)
 
-  pub all-asked : v ≡ Good → TreeLists ρ names n tree states answers tried
+  as-lists : Judged (timedOrder ρ names n all tree times states)
+      ((all × Rows names n (length states)) × Accepted ρ names Vector tree × (Codes states × Rising times)) v
+  as-lists = timed-as ρ names n tree times states lent all d c
+
+  pub all-asked : v ≡ Good → TreeLists ρ names n tree times states answers tried given began
   all-asked e =
-      let (((x, y), l), a, s) = judged-good as-lists e .1 in
-      record { asked = record { accepted = a; rows = rows-asked l s }; room = x; space = y }
+      let ((x, l), a, (s, t)) = judged-good as-lists e .1 in
+      record { asked = record { accepted = a; rows = rows-asked l s }; lent = x }
 
   pub all-refused : {r : Refusal} → v ≡ Refused r
-      → AllMatched ρ names n tree states answers tried answers tried (outcome.Refused r)
+      → AllMatched ρ names n tree times states answers tried given began answers tried given began (outcome.Refused r)
   unfolding Comes after
-  all-refused e = record { comes = judged-not as-lists e; answers-memory = refl; tried-memory = refl }
+  all-refused e =
+      record {
+        comes = judged-not as-lists e;
+        answers-memory = refl;
+        tried-memory = refl;
+        given-memory = refl;
+        began-memory = refl;
+      }
 
-  pub all-told : {answers′ tried′ : List ℕ} → v ≡ Good → FillsTree ρ names n tree states answers′ tried′
-      → AllMatched ρ names n tree states answers tried answers′ tried′ (outcome.Done n)
+  pub all-told : {answers′ tried′ given′ began′ : List ℕ} → v ≡ Good
+      → FillsTree ρ names n tree times states answers′ tried′ given′ began′
+      → AllMatched ρ names n tree times states answers tried given began answers′ tried′ given′ began′ (outcome.Done n)
   unfolding Comes after
   all-told e f =
       record {
         comes = (judged-good as-lists e .0, refl);
         answers-memory = f .answers;
         tried-memory = f .counts;
+        given-memory = f .flags;
+        began-memory = f .stamps;
       }
 
 -- the totals

@@ -1,23 +1,26 @@
-// Matching by the alternatives of a tree: a row's answer and the number tried, those of all rows, the totals.
-ghost use mathlib.Core.Path.{_≡_};
+// Matching by the alternatives of a tree: a row's answer, the number tried and the time where the match began, those of
+// all rows, the totals.
 ghost use Rattle.basics.specs.Deciding.{Decides};
 ghost use Rattle.matching_calls.specs.Matching.{TreeRow, TreeRows, TreeLists, MatchesTree, FillsTree, TotalsTree};
-ghost use Rattle.matching_calls.specs.Matching.{RowMatch, AllMatched, RowTotals};
+ghost use Rattle.matching_calls.specs.Matching.{Lent, RowMatch, AllMatched, RowTotals};
 use alf::RowNo;
 use alf::Rules;
 use alf::Sort;
 use basics::Outcome;
 use basics::Refusal;
+use beginnings::times::Dated;
+use beginnings::times::date;
+use beginnings::times::mark;
 use judging::checks::Verdict;
-use judging::checks::check_row;
 use judging::checks::check_rows;
-use matcher::answers::Matched;
+use judging::timed::check_timed;
+use judging::timed::check_timed_row;
 use matcher::tables::Total;
 use rewriting::lists::alternatives_of;
 
-// A row's answer and the number of alternatives tried, or a refusal.
+// A row's answer, the number of alternatives tried and the time where the match began, or a refusal.
 pub enum Matching {
-    Found(Matched),
+    Found(Dated),
     Refused(Refusal),
 }
 
@@ -28,9 +31,17 @@ pub enum Counting {
 }
 
 // An accepted tree, at a row that is there.
-fn match_tree(rules: Rules, names: usize, tree: &[u8], states: &[u8], row: usize) -> Matched
-    requires { ⌜ TreeRow rules names (now tree) (now states) row ⌝ }
-    ensures { λ r. ⌜ MatchesTree rules names (now (tree .entry)) (now (states .entry)) row (r .answer) (r .tries) ⌝ }
+fn match_tree(
+    rules: Rules,
+    names: usize,
+    tree: &[u8],
+    times: &[u64],
+    states: &[u8],
+    row: usize,
+) -> Dated
+    requires { ⌜ TreeRow rules names (now tree) (now times) (now states) row ⌝ }
+    ensures { λ r. ⌜ MatchesTree rules names (now (tree .entry)) (now (times .entry)) (now (states .entry)) row
+        (r .answer) (r .tries) (r .began) ⌝ }
 {
     let a = alternatives_of(rules, tree, names);
     let count = a.count;
@@ -40,7 +51,7 @@ fn match_tree(rules: Rules, names: usize, tree: &[u8], states: &[u8], row: usize
     let tests = a.tests;
     let edges = a.edges;
     let operands = a.operands;
-    matcher::answers::match_row(
+    let found = matcher::answers::match_row(
         rules,
         tree,
         names,
@@ -50,7 +61,8 @@ fn match_tree(rules: Rules, names: usize, tree: &[u8], states: &[u8], row: usize
         &edges[..test_count],
         &operands[..test_count],
         row,
-    )
+    );
+    date(times, &steps[..count], row, found)
 }
 
 // At all n rows, into lists of n entries.
@@ -59,13 +71,17 @@ fn match_tree_all(
     names: usize,
     n: usize,
     tree: &[u8],
+    times: &[u64],
     states: &[u8],
     answers: &mut [u8],
     tried: &mut [u32],
+    given: &mut [u8],
+    began: &mut [u64],
 )
-    requires { ⌜ TreeLists rules names n (now tree) (now states) (now answers) (now tried) ⌝ }
-    ensures { λ _. ⌜ FillsTree rules names n (now (tree .entry)) (now (states .entry)) (now (answers .exit))
-        (now (tried .exit)) ⌝ }
+    requires { ⌜ TreeLists rules names n (now tree) (now times) (now states) (now answers) (now tried) (now given)
+        (now began) ⌝ }
+    ensures { λ _. ⌜ FillsTree rules names n (now (tree .entry)) (now (times .entry)) (now (states .entry))
+        (now (answers .exit)) (now (tried .exit)) (now (given .exit)) (now (began .exit)) ⌝ }
 {
     let a = alternatives_of(rules, tree, names);
     let count = a.count;
@@ -87,7 +103,8 @@ fn match_tree_all(
         n,
         answers,
         tried,
-    )
+    );
+    mark(times, &steps[..count], n, answers, tried, given, began);
 }
 
 // The totals of n rows.
@@ -117,33 +134,51 @@ fn total_tree(rules: Rules, names: usize, n: usize, tree: &[u8], states: &[u8]) 
     )
 }
 
-// The answer of a vector expression at a row, and the number of its alternatives tried.
+// The answer of a vector expression at a row, the number of its alternatives tried, and the time where the match began.
 pub fn match_row(
     rules: Rules,
     names: usize,
     n: usize,
     tree: &[u8],
+    times: &[u64],
     states: &[u8],
     row: RowNo,
 ) -> Matching
-    ensures { λ r. ⌜ RowMatch rules names n (now (tree .entry)) (now (states .entry)) (row .0) r ⌝ }
+    ensures { λ r. ⌜ RowMatch rules names n (now (tree .entry)) (now (times .entry)) (now (states .entry)) (row .0)
+        r ⌝ }
 {
     let at = row.0 as usize;
-    let v = check_row(rules, names, n, tree, Sort::Vector, states, at);
+    let v = check_timed_row(rules, names, n, tree, times, states, at);
     match v {
         Verdict::Refused(r) => Matching::Refused(r),
-        Verdict::Good => Matching::Found(match_tree(rules, names, tree, states, at)),
+        Verdict::Good => Matching::Found(match_tree(rules, names, tree, times, states, at)),
     }
 }
 
-// Whether two lists are of n entries.
-pub fn both_are(n: usize, x: usize, y: usize) -> bool
-    ensures { λ r. ⌜ Decides r ((x ≡ n) × (y ≡ n)) ⌝ }
+// Whether the lists of times, answers, numbers tried, flags and times where the matches began are of n entries.
+pub fn lists_are(
+    n: usize,
+    times: usize,
+    answers: usize,
+    tried: usize,
+    given: usize,
+    began: usize,
+) -> bool
+    ensures { λ r. ⌜ Decides r (Lent n times answers tried given began) ⌝ }
 {
-    if x != n {
+    if times != n {
         return false;
     }
-    y == n
+    if answers != n {
+        return false;
+    }
+    if tried != n {
+        return false;
+    }
+    if given != n {
+        return false;
+    }
+    began == n
 }
 
 // The same for all rows, by document 01's numbers, into lent lists; how many.
@@ -152,19 +187,41 @@ pub fn match_all(
     names: usize,
     n: usize,
     tree: &[u8],
+    times: &[u64],
     states: &[u8],
     answers: &mut [u8],
     tried: &mut [u32],
+    given: &mut [u8],
+    began: &mut [u64],
 ) -> Outcome
-    ensures { λ r. ⌜ AllMatched rules names n (now (tree .entry)) (now (states .entry)) (now (answers .entry))
-        (now (tried .entry)) (now (answers .exit)) (now (tried .exit)) r ⌝ }
+    ensures { λ r. ⌜ AllMatched rules names n (now (tree .entry)) (now (times .entry)) (now (states .entry))
+        (now (answers .entry)) (now (tried .entry)) (now (given .entry)) (now (began .entry))
+        (now (answers .exit)) (now (tried .exit)) (now (given .exit)) (now (began .exit)) r ⌝ }
 {
-    let lent = both_are(n, answers.len(), tried.len());
-    let v = check_rows(rules, names, n, lent, tree, Sort::Vector, states);
+    let lent = lists_are(
+        n,
+        times.len(),
+        answers.len(),
+        tried.len(),
+        given.len(),
+        began.len(),
+    );
+    let v = check_timed(rules, names, n, lent, tree, times, states);
     match v {
         Verdict::Refused(r) => Outcome::Refused(r),
         Verdict::Good => {
-            match_tree_all(rules, names, n, tree, states, answers, tried);
+            match_tree_all(
+                rules,
+                names,
+                n,
+                tree,
+                times,
+                states,
+                answers,
+                tried,
+                given,
+                began,
+            );
             Outcome::Done(n)
         }
     }

@@ -4,6 +4,7 @@ use alf::Rules;
 use alf::Sort;
 use reader::Read;
 use reader::read_expression;
+use run_calls::clocks::is_behind;
 use run_lists::lend;
 use run_printing::printing::broken;
 use run_printing::printing::character;
@@ -120,26 +121,19 @@ fn show_rest(rules: Rules, kind: u8, line: &[u8], rest: &[u8]) {
     }
 }
 
-// Whether a line's kind stands behind a mark: behind `=` a case is under the rule of equal branches, behind `~` its
-// pins are steady.
-fn is_behind(line: &[u8], mark: u8) -> bool {
-    if line.len() < 2 {
-        return false;
-    }
-    line[0] == mark
-}
-
+// A kind may stand behind a mark.
 fn kind_of(line: &[u8]) -> u8 {
     if line.len() < 2 {
         return b'#';
     }
     match line[0] {
-        b'=' | b'~' => line[1],
+        b'=' | b'~' | b'-' | b'+' => line[1],
         _ => line[0],
     }
 }
 
-// A line that is empty or starts with `#` is a remark.
+// A line that is empty or starts with `#` is a remark. Behind `=` a case is under the rule of equal branches, behind
+// `~` its pins are steady; `-` and `+` are marks of its times.
 fn show_line(line: &[u8]) {
     let kind = kind_of(line);
     if kind == b'#' {

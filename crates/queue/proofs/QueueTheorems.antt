@@ -1,6 +1,7 @@
 -- The queue answers at push i what the document defines for row i of the trace fed so far, and tries as many
 -- alternatives, for any feed of any length.
 --   keeps              before push i the queue keeps the last K of the i rows fed, or all
+--   near               what is kept with the row pushed agrees with the last rows fed
 --   queue-answers      push i's answer and number tried are row i's
 --   queue-windows      of a vector expression, push i's answer is the greatest over the windows that end at row i
 use mathlib.Core.Path.{_≡_, ap, sym, _∙_, fun-ext}
@@ -30,7 +31,7 @@ use Rattle.alternatives.proofs.Longest.{longest-within}
 use Rattle.queue.proofs.LastRows.{fed-length, last-length, last-push, last-again, drop-row, held-stored}
 
 -- nothing is asked of the operands
-abbrev Anything : Boolean → Type 0
+abbrev pub Anything : Boolean → Type 0
 Anything c = Unit {0}
 
 tests-any : (s : List Test) → All (AsksTest Anything) s
@@ -41,7 +42,7 @@ steps-any : (x : Alternative) → Asks Anything x
 steps-any [] = none
 steps-any (s ∷ x) = more (tests-any s) (steps-any x)
 
-any-asks : (xs : List Alternative) → All (Asks Anything) xs
+pub any-asks : (xs : List Alternative) → All (Asks Anything) xs
 any-asks [] = none
 any-asks (x ∷ xs) = more (steps-any x) (any-asks xs)
 
@@ -91,7 +92,7 @@ module _ {ρ : Rules} {names : ℕ} {xs : List Alternative} {n : ℕ} {rows : �
       }
   keeps (suc i) h = kept-next i h (keeps i (omega arith))
 
-  near : (i : ℕ) → i < n → Kept i
+  pub near : (i : ℕ) → i < n → Kept i
       → Near Anything (stateAt ρ names (traceOf names (queues i) (rows i))) (stateAt ρ names (fed rows (suc i))) K
       (queues i .kept .0) i
   near i l k =

@@ -1,17 +1,15 @@
 -- What a push comes to, case by case.
---   held-fits, held-whole                 what a queue keeps stands in its array
---   keeps-not, keeps-decided              whether a queue may be handed in
 --   steps-over, steps-within, few-steps   K is counted, and at most 16
 --   queue-many, queue-tree, queue-kept    whether a queue may be handed in with a tree
 --   push-asked; push-good, push-refused, push-told
 use mathlib.Core.Path.{_≡_, refl, ap, sym, _∙_}
 use mathlib.Core.Bool.{Bool, true, false}
 use mathlib.Core.List.{List}
-use Prim.Native.Nat.{ℕ, _*_, _<_, _≤_}
+use Prim.Native.Nat.{ℕ, _<_, _≤_}
 use native.Mathlib.Omega.{arith}
-use lib.Dec.{eqb, ltb}
+use lib.Dec.{ltb}
 use lib.ListN.{length, take}
-use borrow.Author.Tests.{eqb-true, eqb-false, ltb-false}
+use borrow.Author.Tests.{ltb-false}
 use Rattle.basics.specs.declared.Refusal.{Refusal}
 use Rattle.alf.specs.declared.Rules.{Rules}
 use Rattle.alf.specs.declared.Sort.the-variants.{Vector}
@@ -24,53 +22,25 @@ use Rattle.acceptance.specs.declared.sizes.Measured.the-variants.{Over, Within}
 use Rattle.acceptance.specs.Sizes.{measured}
 use Rattle.acceptance.specs.Accepted.{Accepted}
 use Rattle.basics.specs.Deciding.{Decides}
-use Rattle.matcher.specs.declared.answers.Matched.{Matched}
-use Rattle.states.specs.FirstBadCode.{FirstBad}
-use Rattle.queue.specs.declared.queues.Queue.{Queue}
+use Rattle.beginnings.specs.declared.times.Dated.{Dated}
+use Rattle.timed_queue.specs.declared.queues.Queue.{Queue}
 use Rattle.states.specs.FirstBadCode.{Codes}
-use Rattle.queue.specs.Queues.{heldOf, PushAsked}
-use Rattle.queue.proofs.Keeping.{rows-fit, held-length}
+use Rattle.queue.specs.Queues.{PushAsked}
 use Rattle.rewriting.specs.declared.lists.Alternatives.{Alternatives}
 use Rattle.rewriting.specs.Lists.{Holds}
 use Rattle.rewriting.proofs.Bounds.{accepted-limited}
 use Rattle.judging.specs.declared.checks.Verdict.{Verdict}
 use Rattle.judging.specs.declared.checks.Verdict.the-variants.{Good, Refused}
+use Rattle.matching_calls.specs.declared.matching.Matching.{Matching}
 use Rattle.matching_calls.specs.declared.matching.Matching.the-variants as matching
-use Rattle.judging.specs.Orders.{Judged, JudgesTrace}
+use Rattle.judging.specs.Orders.{Judged}
 use Rattle.matching_calls.specs.Matching.{expression}
-use Rattle.queue_calls.specs.Pushing.{RowFits, Keeps, Handed, pushOrder}
-use Rattle.queue_calls.specs.Pushing.{PushesTree, Takes, Push, Small, DecidesQueue}
+use Rattle.queue_calls.specs.Pushing.{RowFits, Keeps, Early, Handed, pushOrder}
+use Rattle.queue_calls.specs.Pushing.{PushesTree, Takes, Push, DecidesQueue, JudgesPush}
 use Rattle.queue_calls.specs.Pushing.{TreePush}
 use Rattle.basics.proofs.Deciding.{same-decided}
 use Rattle.judging.proofs.Verdicts.{judged-as, judged-good, judged-not}
 use Rattle.matching_calls.proofs.ByAlternatives.{longest-steps}
-
--- what a queue of at most 16 rows keeps
-module _ {names k : ℕ} (q : Queue) (s : Small names k) (h : q .kept .0 ≤ k) where
-  pub held-fits : q .kept .0 * names ≤ 512
-  held-fits = rows-fit (q .kept .0) (omega (arith, s .few)) (s .most)
-
-  pub held-whole : length (q .states) ≡ 512 → length (heldOf names q) ≡ q .kept .0 * names
-  held-whole e = held-length q (omega (arith, s .few)) (s .most) e
-
-module _ (names k : ℕ) (q : Queue) where
-  pub keeps-not : k < q .kept .0 → Decides false (Keeps names k q)
-  unfolding Decides
-  keeps-not h = λ s. omega (arith, h, s .few)
-
-  module _ (h : q .kept .0 ≤ k) (l : length (heldOf names q) ≡ q .kept .0 * names) where
-    keeps-cases : {bad : ℕ} → FirstBad (heldOf names q) bad → (t : Bool) → eqb bad (q .kept .0 * names) ≡ t
-        → Decides t (Keeps names k q)
-    unfolding Decides
-    keeps-cases {bad} b true e =
-        record { few = h; codes = λ i m. b .before i (omega (arith, eqb-true bad (q .kept .0 * names) e, l)) }
-    keeps-cases {bad} b false e = λ s.
-        let d : bad < length (heldOf names q) = omega (arith, b .within, l, eqb-false bad (q .kept .0 * names) e) in
-        omega (arith, b .there d, s .codes bad d)
-
-    pub keeps-decided : {bad : ℕ} → FirstBad (heldOf names q) bad
-        → Decides (eqb bad (q .kept .0 * names)) (Keeps names k q)
-    keeps-decided b = keeps-cases b _ refl
 
 -- K of an accepted tree
 stepsIn : Measured → ℕ
@@ -117,7 +87,7 @@ pub push-asked : {ρ : Rules} {names : ℕ} {tree : List ℕ} {q : Queue} {row :
     → TreePush ρ names tree q row
     → Holds ρ tree names a
     → PushAsked tree names (take (a .count) (a .steps)) (take (a .«step_count») (a .tests))
-    (take (a .«test_count») (a .edges)) (take (a .«test_count») (a .operands)) q row
+    (take (a .«test_count») (a .edges)) (take (a .«test_count») (a .operands)) (q .rows) row
 push-asked {ρ} {names} {tree} {q} t h =
     let k = longest-steps h in
     let few = few-steps (expression ρ tree names) (accepted-limited tree names (t .handed .accepted)) in
@@ -128,8 +98,8 @@ push-asked {ρ} {names} {tree} {q} t h =
             some = t .fits .name-count .0;
             most = t .fits .name-count .1;
             few = omega (arith, k);
-            kept = omega (arith, k, t .handed .kept .few);
-            codes = t .handed .kept .codes;
+            kept = omega (arith, k, t .handed .kept .kept .few);
+            codes = t .handed .kept .kept .codes;
           };
       full = t .fits .full;
       codes = t .codes;
@@ -137,20 +107,21 @@ push-asked {ρ} {names} {tree} {q} t h =
 
 module _ {ρ : Rules} {names : ℕ} {tree : List ℕ} {q : Queue} {row : List ℕ} {fits good : Bool} {v : Verdict}
     (f : Decides fits (RowFits names (length row))) (g : DecidesQueue ρ names tree q good)
-    (j : JudgesTrace fits good row v) where
-  as-push : Judged (pushOrder ρ names tree q row)
-      (RowFits names (length row) × Handed ρ names tree q × Codes row) v
+    {time : ℕ} (j : JudgesPush fits good q time row v) where
+  as-push : Judged (pushOrder ρ names tree q time row)
+      (RowFits names (length row) × Handed ρ names tree q × (Codes row × (Early q time → ⊥))) v
   as-push = judged-as fits good _ _ f (λ x. g .is (x .name-count .1)) _ (j .is)
 
   pub push-good : v ≡ Good → TreePush ρ names tree q row
-  push-good e = let (l, h, s) = judged-good as-push e .1 in record { handed = h; fits = l; codes = s }
+  push-good e = let (l, h, (s, t)) = judged-good as-push e .1 in record { handed = h; fits = l; codes = s }
 
-  pub push-refused : {r : Refusal} → v ≡ Refused r → Push ρ names tree q row (matching.Refused r) q
+  pub push-refused : {r : Refusal} → v ≡ Refused r → Push ρ names tree q time row (matching.Refused r) q
   unfolding Takes
   push-refused e = record { comes = (judged-not as-push e, refl) }
 
-  pub push-told : {m : Matched} {q′ : Queue} → v ≡ Good
-      → PushesTree ρ names tree q row (m .answer) (m .tries) q′
-      → Push ρ names tree q row (matching.Found m) q′
+  pub push-told : {m : Dated} {p q′ : Queue} {told : Matching} → v ≡ Good
+      → PushesTree ρ names tree q time row (m .answer) (m .tries) (m .began) p
+      → told ≡ matching.Found m → q′ ≡ p
+      → Push ρ names tree q time row told q′
   unfolding Takes
-  push-told e p = record { comes = (judged-good as-push e .0, p) }
+  push-told e p d f = rw (d, f) (record { comes = (judged-good as-push e .0, p) })

@@ -19,10 +19,12 @@ use Rattle.alf.specs.Alternatives.{Alternative, alternatives, tries, stepsOf, a
 use Rattle.alf.specs.Refusals.{Order, RefusedWith, RefusedBy, Passed, Comes}
 use Rattle.acceptance.specs.Accepted.{Accepted}
 use Rattle.alternatives.specs.InMemory.{alternativesOf, longestOf}
-use Rattle.matcher.specs.Answers.{Matches}
+use Rattle.alf.specs.declared.Began.{Began}
+use Rattle.alf.specs.Beginnings.{began}
+use Rattle.beginnings.specs.Dated.{Dates, flagsOn, timesOn}
 use Rattle.matcher.proofs.Agreement.{matches-windows, totals-windows}
-use Rattle.queue.specs.declared.queues.Queue.{Queue}
-use Rattle.queue.specs.Queues.{Pushes}
+use Rattle.timed_queue.specs.declared.queues.Queue.{Queue}
+use Rattle.timed_queue.specs.TimedQueues.{Pushes}
 use Rattle.judging.specs.Orders.{order}
 use Rattle.matching_calls.specs.declared.matching.Matching.{Matching}
 use Rattle.matching_calls.specs.declared.matching.Matching.the-variants.{Found, Refused}
@@ -65,19 +67,21 @@ module _ {ρ : Rules} {names : ℕ} {tree steps tests edges operands : List ℕ}
   to-lists : Accepted ρ names Vector tree → AcceptedAlternatives names tree steps tests edges operands
   to-lists x = lists
 
-  matches-tree : {states : List ℕ} {row t : ℕ} {answer : Answer}
-      → Matches (stateAt ρ names states) xs row answer t
-      → MatchesTree ρ names tree states row answer t
-  matches-tree {states} {row} m =
+  matches-tree : {times states : List ℕ} {row t : ℕ} {answer : Answer} {b : Began}
+      → Dates (stateAt ρ names states) times xs row answer t b
+      → MatchesTree ρ names tree times states row answer t b
+  matches-tree {times} {states} {row} d =
+      let m = d .matches in
       record {
         is = matches-windows (stateAt ρ names states) (expression ρ tree names) stand m;
         count = m .count ∙ ap (λ (ys : List Alternative). tries (stateAt ρ names states) ys row) stand;
+        start = d .since ∙ ap (λ (ys : List Alternative). began (stateAt ρ names states) times ys row) stand;
       }
 
   module _ {n : ℕ} {states : List ℕ} where
-    pub match-same : {row : ℕ} (r : Matching)
-        → ListedMatch ρ names n tree steps tests edges operands states row r
-        → RowMatch ρ names n tree states row r
+    pub match-same : {times : List ℕ} {row : ℕ} (r : Matching)
+        → ListedMatch ρ names n tree steps tests edges operands states times row r
+        → RowMatch ρ names n tree times states row r
     unfolding Finds
     match-same (Found m) w =
         record { comes = (passed-same _ _ to-tree to-lists (w .comes .0), matches-tree (w .comes .1)) }
@@ -95,11 +99,12 @@ module _ {ρ : Rules} {names : ℕ} {tree steps tests edges operands : List ℕ}
         }
     totals-same (counting.Refused r) w = record { comes = refused-same _ _ to-tree to-lists r (w .comes) }
 
-    pub all-same : {answers tried answers′ tried′ : List ℕ} (r : Outcome)
-        → ListedAll ρ names n tree steps tests edges operands states answers tried answers′ tried′ r
-        → AllMatched ρ names n tree states answers tried answers′ tried′ r
+    pub all-same : {times answers tried given since answers′ tried′ given′ since′ : List ℕ} (r : Outcome)
+        → ListedAll ρ names n tree steps tests edges operands states times answers tried given since answers′ tried′
+        given′ since′ r
+        → AllMatched ρ names n tree times states answers tried given since answers′ tried′ given′ since′ r
     unfolding Comes after
-    all-same (outcome.Done k) w =
+    all-same {times} (outcome.Done k) w =
         record {
           comes = (passed-same _ _ to-tree to-lists (w .comes .0), w .comes .1);
           answers-memory =
@@ -109,12 +114,20 @@ module _ {ρ : Rules} {names : ℕ} {tree steps tests edges operands : List ℕ}
           tried-memory =
               w .tried-memory
               ∙ ap (λ (ys : List Alternative). listed 0 n (tries (stateAt ρ names states) ys)) stand;
+          given-memory =
+              w .given-memory
+              ∙ ap (λ (ys : List Alternative). listed 0 n (flagsOn (stateAt ρ names states) times ys)) stand;
+          began-memory =
+              w .began-memory
+              ∙ ap (λ (ys : List Alternative). listed 0 n (timesOn (stateAt ρ names states) times ys)) stand;
         }
     all-same (outcome.Refused r) w =
         record {
           comes = refused-same _ _ to-tree to-lists r (w .comes);
           answers-memory = w .answers-memory;
           tried-memory = w .tried-memory;
+          given-memory = w .given-memory;
+          began-memory = w .began-memory;
         }
 
   -- a push
@@ -129,18 +142,19 @@ module _ {ρ : Rules} {names : ℕ} {tree steps tests edges operands : List ℕ}
     handed-lists : pushing.Handed ρ names tree q → Handed names tree steps tests edges operands q
     handed-lists h = record { accepted = lists; kept = rw longest-same (h .kept) }
 
-    pushes-tree : {q′ : Queue} {row : List ℕ} {t : ℕ} {answer : Answer}
-        → Pushes ρ names xs q row answer t q′
-        → PushesTree ρ names tree q row answer t q′
+    pushes-tree : {q′ : Queue} {time : ℕ} {row : List ℕ} {t : ℕ} {answer : Answer} {b : Began}
+        → Pushes ρ names xs q time row answer t b q′
+        → PushesTree ρ names tree q time row answer t b q′
     pushes-tree p =
         record {
-          matched = matches-tree (p .matched);
-          kept = rw longest-same at (p .kept);
-          states = rw longest-same at (p .states);
+          matched = matches-tree (record { matches = p .pushed .matched; since = p .since });
+          kept = rw longest-same at (p .pushed .kept);
+          states = rw longest-same at (p .pushed .states);
+          times = rw longest-same at (p .times);
         }
 
-    pub push-same : {row : List ℕ} {q′ : Queue} (z : Matching)
-        → ListedPush ρ names tree steps tests edges operands q row z q′ → Push ρ names tree q row z q′
+    pub push-same : {time : ℕ} {row : List ℕ} {q′ : Queue} (z : Matching)
+        → ListedPush ρ names tree steps tests edges operands q time row z q′ → Push ρ names tree q time row z q′
     unfolding Takes pushing.Takes
     push-same (Found m) w =
         record { comes = (passed-same _ _ handed-tree handed-lists (w .comes .0), pushes-tree (w .comes .1)) }

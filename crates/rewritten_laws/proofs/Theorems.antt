@@ -19,11 +19,12 @@ use lib.ListN.{length}
 use Rattle.basics.specs.declared.Outcome.{Outcome}
 use Rattle.basics.specs.declared.Outcome.the-variants as outcome
 use Rattle.basics.specs.Memory.{after}
+use Rattle.basics.specs.Words.{listed}
 use Rattle.basics.proofs.Stable.{le-stable}
 use Rattle.alf.specs.declared.Rules.{Rules}
 use Rattle.alf.specs.declared.Sort.the-variants.{Vector}
 use Rattle.alf.specs.Alternatives.{Alternative, alternatives, numberOfAlternatives}
-use Rattle.alf.specs.Refusals.{NameCount, Passed, Comes}
+use Rattle.alf.specs.Refusals.{NameCount, Rising, Passed, Comes}
 use Rattle.alf.proofs.Outcomes.{refused-passed}
 use Rattle.acceptance.specs.Accepted.{Accepted}
 use Rattle.states.specs.FirstBadCode.{Codes}
@@ -31,7 +32,7 @@ use Rattle.alternatives.specs.InMemory.{sum, alternativesOf}
 use Rattle.steady_pins.specs.Finding.{pinsOf}
 use Rattle.text_laws.proofs.AcceptedStable.{accepted-stable}
 use Rattle.matcher.specs.declared.tables.Total.{Total}
-use Rattle.queue.specs.declared.queues.Queue.{Queue}
+use Rattle.timed_queue.specs.declared.queues.Queue.{Queue}
 use Rattle.queue.specs.Queues.{fed}
 use Rattle.rewriting.specs.Lists.{joined, alternativesAt, stepList, testList, edgeList, operandList}
 use Rattle.rewriting_calls.specs.Calls.{treeOrder, roomOrder, Rewrites}
@@ -44,10 +45,12 @@ use Rattle.matching_calls.specs.declared.matching.Matching.{Matching}
 use Rattle.matching_calls.specs.declared.matching.Matching.the-variants.{Found}
 use Rattle.matching_calls.specs.declared.matching.Counting.{Counting}
 use Rattle.matching_calls.specs.declared.matching.Counting.the-variants as counting
-use Rattle.matching_calls.specs.Matching.{expression, answersOn, triesOn, FoundAs, RowMatch, FillsTree, AllMatched}
+use Rattle.matching_calls.specs.Matching.{expression, Lent, RowMatch, FillsTree, AllMatched}
 use Rattle.matching_calls.specs.Matching.{TotalsTree, Counts, RowTotals}
 use Rattle.queue_calls.specs.Pushing.{Push}
-use Rattle.call_laws.proofs.Routes.{codes-passed, matched, told-by, never-refused, pushed-found}
+use Rattle.call_laws.proofs.Passing.{codes-passed, timed-passed}
+use Rattle.call_laws.proofs.Routes.{FoundAt, matched, told-by, never-refused}
+use Rattle.call_laws.proofs.Routes.{pushed-found}
 use Rattle.listed_acceptance.specs.Lists.{AcceptedAlternatives}
 use Rattle.listed_calls.specs.Listed.{ListedMatch, ListedAll, ListedTotals, ListedPush}
 use Rattle.rewritten_laws.specs.WrittenOut.{WrittenOut}
@@ -152,41 +155,55 @@ module _ {ρ : Rules} {names : ℕ} {tree steps tests edges operands : List ℕ}
 
   -- each call by the lists comes to what the call by the tree comes to
   module _ {n : ℕ} {states : List ℕ} where
-    pub match-as-tree : {row : ℕ} (y : Matching)
-        → ListedMatch ρ names n tree steps tests edges operands states row y
-        → RowMatch ρ names n tree states row y
+    pub match-as-tree : {times : List ℕ} {row : ℕ} (y : Matching)
+        → ListedMatch ρ names n tree steps tests edges operands states times row y
+        → RowMatch ρ names n tree times states row y
     match-as-tree = same.match-same written-tree rewritten-accepted written-are
 
-    pub all-as-tree : {answers tried answers′ tried′ : List ℕ} (r : Outcome)
-        → ListedAll ρ names n tree steps tests edges operands states answers tried answers′ tried′ r
-        → AllMatched ρ names n tree states answers tried answers′ tried′ r
+    pub all-as-tree : {times answers tried given began answers′ tried′ given′ began′ : List ℕ} (r : Outcome)
+        → ListedAll ρ names n tree steps tests edges operands states times answers tried given began answers′ tried′
+        given′ began′ r
+        → AllMatched ρ names n tree times states answers tried given began answers′ tried′ given′ began′ r
     all-as-tree = same.all-same written-tree rewritten-accepted written-are
 
     pub totals-as-tree : (z : Counting) → ListedTotals ρ names n tree steps tests edges operands states z
         → RowTotals ρ names n tree states z
     totals-as-tree = same.totals-same written-tree rewritten-accepted written-are
 
-  pub push-as-tree : {q q′ : Queue} {row : List ℕ} (z : Matching)
-      → ListedPush ρ names tree steps tests edges operands q row z q′ → Push ρ names tree q row z q′
+  pub push-as-tree : {q q′ : Queue} {time : ℕ} {row : List ℕ} (z : Matching)
+      → ListedPush ρ names tree steps tests edges operands q time row z q′ → Push ρ names tree q time row z q′
   push-as-tree = same.push-same written-tree rewritten-accepted written-are
 
   -- so, for every trace whose rows fit and hold codes, no call is refused, and what it tells is the document's
   module _ {n : ℕ} {states : List ℕ} (fit : Rows names n (length states)) (codes : Codes states) where
-    pub rewritten-found : {row : ℕ} → row < n → (y : Matching)
-        → ListedMatch ρ names n tree steps tests edges operands states row y
-        → FoundAs (answersOn ρ names tree states row) (triesOn ρ names tree states row) y
-    rewritten-found l y m = matched fit written-tree codes l y (match-as-tree y m)
+    module _ {times : List ℕ} (stamped : length times ≡ n) (rising : Rising times) where
+      pub rewritten-found : {row : ℕ} → row < n → (y : Matching)
+          → ListedMatch ρ names n tree steps tests edges operands states times row y
+          → FoundAt ρ names tree times states row y
+      rewritten-found l y m = matched fit written-tree codes l stamped rising y (match-as-tree y m)
 
-    pub rewritten-filled : {answers tried answers′ tried′ : List ℕ} → length answers ≡ n → length tried ≡ n
-        → (r : Outcome) → ListedAll ρ names n tree steps tests edges operands states answers tried answers′ tried′ r
-        → (r ≡ outcome.Done n) × FillsTree ρ names n tree states answers′ tried′
-    unfolding Comes after
-    rewritten-filled a t (outcome.Done k) m =
-        let x = all-as-tree (outcome.Done k) m in
-        (ap outcome.Done (x .comes .1), record { answers = x .answers-memory; counts = x .tried-memory })
-    rewritten-filled a t (outcome.Refused r) m =
-        let x = all-as-tree (outcome.Refused r) m in
-        absurd (refused-passed _ _ _ (codes-passed states ((a, t), fit) written-tree codes) (x .comes .by))
+      pub rewritten-filled : {answers tried given began answers′ tried′ given′ began′ : List ℕ} → length answers ≡ n
+          → length tried ≡ n → length given ≡ n → length began ≡ n → (r : Outcome)
+          → ListedAll ρ names n tree steps tests edges operands states times answers tried given began answers′ tried′
+          given′ began′ r
+          → (r ≡ outcome.Done n) × FillsTree ρ names n tree times states answers′ tried′ given′ began′
+      unfolding Comes after
+      rewritten-filled a t g b (outcome.Done k) m =
+          let x = all-as-tree (outcome.Done k) m in (
+            ap outcome.Done (x .comes .1),
+            record {
+              answers = x .answers-memory;
+              counts = x .tried-memory;
+              flags = x .given-memory;
+              stamps = x .began-memory;
+            },
+          )
+      rewritten-filled a t g b (outcome.Refused r) m =
+          let x = all-as-tree (outcome.Refused r) m in
+          let lent : Lent n (length times) _ _ _ _ =
+          record { times-all = stamped; answers-all = a; tried-all = t; given-all = g; began-all = b } in
+          absurd
+          (refused-passed _ _ _ (timed-passed states times (lent, fit) written-tree codes rising) (x .comes .by))
 
     pub rewritten-counted : (z : Counting)
         → ListedTotals ρ names n tree steps tests edges operands states z
@@ -197,18 +214,19 @@ module _ {ρ : Rules} {names : ℕ} {tree steps tests edges operands : List ℕ}
         let x = totals-as-tree (counting.Refused r) m in
         absurd (refused-passed _ _ _ (codes-passed states fit written-tree codes) (x .comes .by))
 
-  -- and for every feed of rows that hold codes, the first pushed into a queue that keeps nothing
-  module _ {n : ℕ} {rows : ℕ → List ℕ} {queues : ℕ → Queue} {results : ℕ → Matching}
-      (first : queues 0 .kept .0 ≡ 0) (full : (i : ℕ) → i < n → length (rows i) ≡ names)
-      (good : (i : ℕ) → i < n → Codes (rows i))
+  -- and for every feed of rows that hold codes, with times that rise, the first pushed into a queue that keeps nothing
+  module _ {n : ℕ} {rows : ℕ → List ℕ} {times : ℕ → ℕ} {queues : ℕ → Queue} {results : ℕ → Matching}
+      (first : queues 0 .rows .kept .0 ≡ 0) (full : (i : ℕ) → i < n → length (rows i) ≡ names)
+      (good : (i : ℕ) → i < n → Codes (rows i)) (rise : (i : ℕ) → suc i < n → times i < times (suc i))
       (pushed : (i : ℕ) → i < n
-      → ListedPush ρ names tree steps tests edges operands (queues i) (rows i) (results i) (queues (suc i))) where
-    pushed-tree : (i : ℕ) → i < n → Push ρ names tree (queues i) (rows i) (results i) (queues (suc i))
-    pushed-tree i l = push-as-tree (results i) (pushed i l)
+      → ListedPush ρ names tree steps tests edges operands (queues i) (times i) (rows i) (results i) (queues (suc i)))
+    where
+      pushed-tree : (i : ℕ) → i < n → Push ρ names tree (queues i) (times i) (rows i) (results i) (queues (suc i))
+      pushed-tree i l = push-as-tree (results i) (pushed i l)
 
-    pub rewritten-never-refused : (i : ℕ) → i < n → results i ≡ Found (told-by (results i))
-    rewritten-never-refused = never-refused written-names written-tree first full good pushed-tree
+      pub rewritten-never-refused : (i : ℕ) → i < n → results i ≡ Found (told-by (results i))
+      rewritten-never-refused = never-refused written-names written-tree first full good rise pushed-tree
 
-    pub rewritten-pushed : (i : ℕ) → i < n
-        → FoundAs (answersOn ρ names tree (fed rows n) i) (triesOn ρ names tree (fed rows n) i) (results i)
-    rewritten-pushed = pushed-found written-names written-tree first full good pushed-tree
+      pub rewritten-pushed : (i : ℕ) → i < n
+          → FoundAt ρ names tree (listed 0 n times) (fed rows n) i (results i)
+      rewritten-pushed = pushed-found written-names written-tree first full good rise pushed-tree

@@ -10,6 +10,7 @@ use mathlib.Core.List.{List, [], _∷_, _++_}
 use lib.ListN.{length, length-append}
 use Rattle.basics.specs.Words.{listed}
 use Rattle.basics.specs.Memory.{Put, Room}
+use Rattle.basics.proofs.Listed.{listed-same}
 use Rattle.basics.proofs.PartByPart.{flat, Going, going-start, going-room, going-on, going-parts, going-end}
 use Rattle.basics.proofs.PartByPart.{going-length}
 use Rattle.basics.specs.Text.{joined}
@@ -108,15 +109,6 @@ module _ {f : ℕ → List ℕ} {n most i size : ℕ} (g : Measured f n most i s
             );
         few = rw e at (g .few);
       }
-
--- two rules that agree below n
-listed-same : (f g : ℕ → List ℕ) (a n : ℕ) → ((i : ℕ) → i < a + n → f i ≡ g i) → listed a n f ≡ listed a n g
-unfolding listed
-listed-same f g a zero h = refl
-listed-same f g a (suc n) h =
-    let e = h a (omega arith) in
-    let l = listed-same f g (a + 1) n (λ i k. h i (omega arith)) in
-    cc
 
 pub parts-same : (f g : ℕ → List ℕ) (n : ℕ) → ((i : ℕ) → i < n → f i ≡ g i)
     → joined (listed 0 n f) ≡ joined (listed 0 n g)

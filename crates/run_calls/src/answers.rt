@@ -1,4 +1,5 @@
-// Answers by document 01's numbers, numbers tried, totals.
+// Answers by document 01's numbers, numbers tried, where a match began, totals.
+use alf::Began;
 use matcher::tables::number_of;
 use matching_calls::matching::Counting;
 use matching_calls::matching::Matching;
@@ -17,15 +18,28 @@ pub fn told(r: Told) {
     }
 }
 
-// An answer and the number tried.
+// The time where a match began, behind an `@`, where one is given.
+fn since(b: Began) {
+    match b {
+        Began::At(t) => {
+            character(b'@');
+            number(t.0 as usize);
+        }
+        Began::Nowhere => return,
+    }
+}
+
+// An answer, the number tried, and where the match began.
 pub fn matching(r: Matching) {
     match r {
         Matching::Found(m) => {
             let answer = m.answer;
             let tries = m.tries;
+            let began = m.began;
             entry(number_of(answer), false);
             character(b'/');
             number(wide(tries));
+            since(began);
         }
         Matching::Refused(f) => refusal(f),
     }

@@ -19,12 +19,13 @@ pub fn at_row(
     names: usize,
     n: usize,
     tree: &[u8],
+    times: &[u64],
     states: &[u8],
     row: RowNo,
 ) {
     match call {
         b'w' => told(row_answer(rules, names, n, tree, states, row)),
-        b'r' => matching(match_row(rules, names, n, tree, states, row)),
+        b'r' => matching(match_row(rules, names, n, tree, times, states, row)),
         b'v' => state(row_value(rules, names, n, tree, states, row)),
         _ => state(row_state(rules, names, n, tree, states, row)),
     }
@@ -37,12 +38,13 @@ pub fn at_rows(
     names: usize,
     n: usize,
     tree: &[u8],
+    times: &[u64],
     states: &[u8],
     from: usize,
 ) {
     let mut i = from;
     while i < n {
-        at_row(rules, call, names, n, tree, states, RowNo(narrow(i)));
+        at_row(rules, call, names, n, tree, times, states, RowNo(narrow(i)));
         i += 1;
     }
 }

@@ -5,6 +5,9 @@ use alf::RowNo;
 use alf::Rules;
 use basics::Outcome;
 use matching_calls::matching::match_all;
+use run_calls::clocks::count_of;
+use run_calls::clocks::is_behind;
+use run_calls::clocks::times_of;
 use run_printing::printing::character;
 use run_printing::printing::number;
 use run_printing::printing::outcome;
@@ -25,15 +28,23 @@ fn match_in(
     tree: &[u8],
     answers: &mut [u8],
     tried: &mut [u32],
+    given: &mut [u8],
+    began: &mut [u64],
 ) -> Outcome {
+    let n = number_in(line, 2);
+    let times = times_of(is_behind(line, b'-'));
+    let c = count_of(line, n);
     match_all(
         rules,
         number_in(line, 1),
-        number_in(line, 2),
+        n,
         tree,
+        &times[0..c],
         list_in(line, 3),
         answers,
         tried,
+        given,
+        began,
     )
 }
 
@@ -128,16 +139,28 @@ fn lend_behind(
 }
 
 // All answers, and a correction. Words 3 and 6 are the states and the answers that are lent; word 7 says how many
-// numbers tried are lent. Of a case only one of the two calls is not refused: without a new row there is no
-// correction, and with no number tried lent there are no answers.
+// numbers tried are lent. There are as many flags as answers, and as many times as numbers tried. Of a case only one of
+// the two calls is not refused: without a new row there is no correction, and with no number tried lent there are no
+// answers.
 pub fn lend(rules: Rules, kind: u8, line: &[u8], tree: &[u8]) {
     let mut answers = copy_of(list_in(line, 6));
     let a = least(list_in(line, 6).len());
     let mut tried = [7u32; 64];
     let t = least(number_in(line, 7));
-    let m = match_in(rules, line, tree, &mut answers[0..a], &mut tried[0..t]);
+    let mut given = [7u8; 64];
+    let mut began = [7u64; 64];
+    let m = match_in(
+        rules,
+        line,
+        tree,
+        &mut answers[0..a],
+        &mut tried[0..t],
+        &mut given[0..a],
+        &mut began[0..t],
+    );
     lend_behind(rules, kind, line, tree, m, answers, a);
     show_tried(kind, &tried, t);
+    show_began(kind, &given, a, &began, t);
 }
 
 // The numbers tried.
@@ -145,5 +168,29 @@ fn show_tried(kind: u8, tried: &[u32; 64], t: usize) {
     if kind != b'c' {
         list_tried(tried, t);
     }
+    character(b'\n');
+}
+
+// The first times where matches began.
+fn list_began(entries: &[u64], count: usize) {
+    write(b" began");
+    let mut i: usize = 0;
+    while i < entries.len() {
+        if i >= count {
+            return;
+        }
+        character(b' ');
+        number(entries[i] as usize);
+        i += 1;
+    }
+}
+
+// Whether a time is given, and the times.
+fn show_began(kind: u8, given: &[u8; 64], a: usize, began: &[u64; 64], t: usize) {
+    if kind == b'c' {
+        return;
+    }
+    list(b" given", given, a, false);
+    list_began(began, t);
     character(b'\n');
 }

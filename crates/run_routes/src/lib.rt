@@ -1,10 +1,13 @@
 // The calls that write no list, as a line of `matching_runs` asks for them: at a row, at all rows one by one, by the
-// queue, the totals, a push. Words 1 to 5 of a line are the names, the rows, the states, the row and the new row. All
-// are proved to be safe and to end.
+// queue, the totals, a push. Words 1 to 5 of a line are the names, the rows, the states, the row and the new row; the
+// times of the rows are those of `run_calls`. All are proved to be safe and to end.
 use alf::RowNo;
 use alf::Rules;
 use matching_calls::matching::totals;
 use run_calls::answers::counting;
+use run_calls::clocks::count_of;
+use run_calls::clocks::is_behind;
+use run_calls::clocks::times_of;
 use run_calls::queues::by_push;
 use run_calls::queues::by_queue;
 use run_calls::rows::at_row;
@@ -20,7 +23,18 @@ pub fn row_in(rules: Rules, call: u8, line: &[u8], tree: &[u8]) {
     let names = number_in(line, 1);
     let n = number_in(line, 2);
     let row = narrow(number_in(line, 4));
-    at_row(rules, call, names, n, tree, list_in(line, 3), RowNo(row));
+    let times = times_of(is_behind(line, b'-'));
+    let c = count_of(line, n);
+    at_row(
+        rules,
+        call,
+        names,
+        n,
+        tree,
+        &times[0..c],
+        list_in(line, 3),
+        RowNo(row),
+    );
     character(b',');
 }
 
@@ -28,12 +42,24 @@ pub fn row_in(rules: Rules, call: u8, line: &[u8], tree: &[u8]) {
 pub fn rows_in(rules: Rules, call: u8, line: &[u8], tree: &[u8], from: usize) {
     let names = number_in(line, 1);
     let n = number_in(line, 2);
-    at_rows(rules, call, names, n, tree, list_in(line, 3), from);
+    let times = times_of(is_behind(line, b'-'));
+    let c = count_of(line, n);
+    at_rows(
+        rules,
+        call,
+        names,
+        n,
+        tree,
+        &times[0..c],
+        list_in(line, 3),
+        from,
+    );
     character(b'\n');
 }
 
 pub fn queue_in(rules: Rules, line: &[u8], tree: &[u8]) {
-    by_queue(rules, number_in(line, 1), tree, list_in(line, 3));
+    let early = is_behind(line, b'-');
+    by_queue(rules, number_in(line, 1), tree, early, list_in(line, 3));
     character(b'\n');
 }
 
@@ -68,6 +94,7 @@ pub fn push_in(rules: Rules, line: &[u8], tree: &[u8]) {
         rules,
         names,
         tree,
+        is_behind(line, b'-'),
         kept,
         first_of(list_in(line, 3)),
         list_in(line, 5),

@@ -13,6 +13,7 @@ use mathlib.Core.List.{List, [], _∷_, _++_}
 use lib.ListN.{length, getD, drop, replicate}
 use Rattle.alf.specs.declared.Rules.{Rules}
 use Rattle.alf.specs.declared.Answer.{Answer}
+use Rattle.alf.specs.declared.Began.{Began}
 use Rattle.alf.specs.declared.Answer.the-variants.{No, NoEvent}
 use Rattle.basics.specs.declared.Outcome.{Outcome}
 use Rattle.basics.specs.declared.Outcome.the-variants as outcome
@@ -31,8 +32,8 @@ use Rattle.alf.specs.Alternatives.{isName, halves, literalsAt, possible, contra
 use Rattle.alf.specs.Alternatives.{alternatives, tries, tried}
 use Rattle.alf.specs.Traces.{changed, mask, changeMask}
 use Rattle.alf.specs.Refusals.{Comes}
-use Rattle.alf.specs.TableT.{names, rows, states}
-use Rattle.matcher.specs.declared.answers.Matched.{Matched}
+use Rattle.alf.specs.TableT.{times, names, rows, states}
+use Rattle.beginnings.specs.declared.times.Dated.{Dated}
 use Rattle.contradictions.specs.Possible.{flagOf, flagList}
 use Rattle.rewriting_calls.specs.Calls as rewriting
 use Rattle.contradictions.specs.Calls.{ownAt, Contradicts}
@@ -44,12 +45,12 @@ use Rattle.matching_calls.specs.declared.matching.Matching.{Matching}
 use Rattle.matching_calls.specs.declared.matching.Matching.the-variants as matching
 use Rattle.row_calls.specs.Written.{Tells, RowAnswer, AllValues}
 use Rattle.basics.specs.Memory.{after}
-use Rattle.matching_calls.specs.Matching.{expression, Finds, RowMatch, AllMatched}
+use Rattle.matching_calls.specs.Matching.{Lent, expression, Finds, RowMatch, AllMatched}
 use Rattle.call_laws.proofs.Routes.{answered, matched}
 use Rattle.shut_out.specs.Asked as T
 use Rattle.shut_out.specs.Asked.{rises, just-A}
 use Rattle.shut_out.proofs.RefusingRows.{match-all}
-use Rattle.shut_out.proofs.OnT.{trace-good, rises-accepted, rises-is}
+use Rattle.shut_out.proofs.OnT.{times-good, trace-good, rises-accepted, rises-is}
 
 -- what is answered at a row of T, by document 01's number
 abbrev pub at : Rules → Vector → ℕ → ℕ
@@ -90,11 +91,12 @@ row-number {ρ} i l x w =
     let a = answered (trace-good .lists) rises-accepted (trace-good .codes) l x w in
     ap number (a .is) ∙ (rw (rises-is ρ) at (a .numbered))
 
-row-found : {ρ : Rules} (i : ℕ) → i < rows → (x : Matching) → RowMatch ρ names rows (T.asked rises) states i x
+row-found : {ρ : Rules} (i : ℕ) → i < rows → (x : Matching) → RowMatch ρ names rows (T.asked rises) times states i x
     → numberFound x ≡ at ρ rises i
 unfolding numberFound
 row-found {ρ} i l x w =
-    let a = matched (trace-good .lists) rises-accepted (trace-good .codes) l x w in
+    let a = matched (trace-good .lists) rises-accepted (trace-good .codes) l (times-good .all) (times-good .rising) x
+    w in
     ap numberFound (a .is) ∙ (rw (rises-is ρ) at (a .numbered))
 
 -- "one answer for all rows"
@@ -106,7 +108,7 @@ one-answer-for-all {ρ} x w =
     omega (arith, a, rises-0 ρ, rises-1 ρ)
 
 pub one-match-for-all : {ρ : Rules} (x : Matching)
-    → ((i : ℕ) → i < rows → RowMatch ρ names rows (T.asked rises) states i x) → ⊥
+    → ((i : ℕ) → i < rows → RowMatch ρ names rows (T.asked rises) times states i x) → ⊥
 one-match-for-all {ρ} x w =
     let a = sym (row-found 0 (omega arith) x (w 0 (omega arith))) ∙ row-found 1 (omega arith) x (w 1 (omega arith)) in
     omega (arith, a, rises-0 ρ, rises-1 ρ)
@@ -116,27 +118,32 @@ pub unknown-as-no : {ρ : Rules} → RowAnswer ρ names rows (T.asked rises) sta
 unfolding number numberOf
 unknown-as-no {ρ} w = omega (arith, row-number 4 (omega arith) _ w, rises-4 ρ)
 
-pub unknown-as-no-matched : {ρ : Rules} (t : ℕ)
-    → RowMatch ρ names rows (T.asked rises) states 4 (matching.Found (record { answer = No; tries = t })) → ⊥
+pub unknown-as-no-matched : {ρ : Rules} (t : ℕ) (b : Began)
+    → RowMatch ρ names rows (T.asked rises) times states 4
+    (matching.Found (record { answer = No; tries = t; began = b }))
+    → ⊥
 unfolding numberFound numberOf
-unknown-as-no-matched {ρ} t w = omega (arith, row-found 4 (omega arith) _ w, rises-4 ρ)
+unknown-as-no-matched {ρ} t b w = omega (arith, row-found 4 (omega arith) _ w, rises-4 ρ)
 
 -- the same of a whole list of answers, and of values: case 8
 at-front : (l m : List ℕ) → l ≡ m → (i : ℕ) → getD l i 0 ≡ getD m i 0
 at-front l m e i = ap (λ (x : List ℕ). getD x i 0) e
 
-module _ {answers tried answers′ tried′ : List ℕ} (room : length answers ≡ rows) (space : length tried ≡ rows) where
+module _ {answers tried given began answers′ tried′ given′ began′ : List ℕ}
+    (room : Lent rows (length times) (length answers) (length tried) (length given) (length began)) where
   list-right : {ρ : Rules} (o : Outcome)
-      → AllMatched ρ names rows (T.asked rises) states answers tried answers′ tried′ o
+      → AllMatched ρ names rows (T.asked rises) times states answers tried given began answers′ tried′ given′ began′ o
       → answers′ ≡ listed 0 rows (at ρ (expression ρ (T.asked rises) names))
   unfolding Comes after
   list-right (outcome.Done k) w = w .answers-memory
   list-right (outcome.Refused r) w =
       absurd
-      (match-all names rows (T.asked rises) states answers tried .no-refusal
-      (record { trace = trace-good; accepted = rises-accepted; room = (room, space) }) r (answers′, tried′) w)
+      (match-all names rows (T.asked rises) states times answers tried given began .no-refusal
+      (record { trace = trace-good; accepted = rises-accepted; rising = times-good .rising; room = room }) r
+      (answers′, tried′, given′, began′) w)
 
-  entry : {ρ : Rules} (o : Outcome) → AllMatched ρ names rows (T.asked rises) states answers tried answers′ tried′ o
+  entry : {ρ : Rules} (o : Outcome)
+      → AllMatched ρ names rows (T.asked rises) times states answers tried given began answers′ tried′ given′ began′ o
       → (getD answers′ 0 0 ≡ 3) × (getD answers′ 1 0 ≡ 1) × (getD answers′ 4 0 ≡ 2)
   unfolding listed
   entry {ρ} o w =
@@ -144,14 +151,14 @@ module _ {answers tried answers′ tried′ : List ℕ} (room : length answers �
       (at-front _ _ e 0 ∙ rises-0 ρ, at-front _ _ e 1 ∙ rises-1 ρ, at-front _ _ e 4 ∙ rises-4 ρ)
 
   pub one-number-for-all : {ρ : Rules} (o : Outcome) (k : ℕ)
-      → AllMatched ρ names rows (T.asked rises) states answers tried answers′ tried′ o
+      → AllMatched ρ names rows (T.asked rises) times states answers tried given began answers′ tried′ given′ began′ o
       → answers′ ≡ replicate rows k → ⊥
   one-number-for-all o k w e =
       let x = entry o w in
       omega (arith, x .0, x .1, at-front _ _ e 0, at-front _ _ e 1)
 
   pub unknown-as-no-listed : {ρ : Rules} (o : Outcome)
-      → AllMatched ρ names rows (T.asked rises) states answers tried answers′ tried′ o
+      → AllMatched ρ names rows (T.asked rises) times states answers tried given began answers′ tried′ given′ began′ o
       → getD answers′ 4 0 ≡ 0 → ⊥
   unknown-as-no-listed o w e = omega (arith, entry o w .2, e)
 
@@ -162,8 +169,8 @@ pub row-0-answered : {ρ : Rules} {k n : ℕ} {tree codes : List ℕ} (a : Answe
 unfolding Tells rowAnswer numberOf
 row-0-answered a w differ = differ (number-same a NoEvent (w .comes .1))
 
-pub row-0-tried : {ρ : Rules} {k n : ℕ} {tree codes : List ℕ} (m : Matched)
-    → RowMatch ρ k n tree codes 0 (matching.Found m)
+pub row-0-tried : {ρ : Rules} {k n : ℕ} {tree times codes : List ℕ} (m : Dated)
+    → RowMatch ρ k n tree times codes 0 (matching.Found m)
     → 0 < m .tries → ⊥
 unfolding Finds tries
 row-0-tried m w h = omega (arith, h, w .comes .1 .count)

@@ -144,17 +144,19 @@ pub window-answer : (κs : Lfts 2) (a : Dens κs window-answer-kinds.ps) → win
     .1 .1 .1 .1 .0) .0) r)
 window-answer κs a = (tt, λ r e p. p)
 
-pub match-row : (κs : Lfts 2) (a : Dens κs match-row-kinds.ps) → match-row-says.Pre κs a
+pub match-row : (κs : Lfts 3) (a : Dens κs match-row-kinds.ps) → match-row-says.Pre κs a
     × ((r : Matching) (e : Dens κs match-row-kinds.ps) → match-row-says.Post κs a r e
     → RowMatch (a .0) (a .1 .0) (a .1 .1 .0) (now (a .1 .1 .1 .0)) (now (a .1 .1 .1 .1 .0))
-    ((a .1 .1 .1 .1 .1 .0) .0) r)
+    (now (a .1 .1 .1 .1 .1 .0)) ((a .1 .1 .1 .1 .1 .1 .0) .0) r)
 match-row κs a = (tt, λ r e p. p)
 
-pub match-all : (κs : Lfts 4) (a : Dens κs match-all-kinds.ps) → match-all-says.Pre κs a
+pub match-all : (κs : Lfts 7) (a : Dens κs match-all-kinds.ps) → match-all-says.Pre κs a
     × ((r : Outcome) (e : Dens κs match-all-kinds.ps) → match-all-says.Post κs a r e
     → AllMatched (a .0) (a .1 .0) (a .1 .1 .0) (now (a .1 .1 .1 .0)) (now (a .1 .1 .1 .1 .0))
-    (now (a .1 .1 .1 .1 .1 .0)) (now (a .1 .1 .1 .1
-    .1 .1 .0)) (now (e .1 .1 .1 .1 .1 .0)) (now (e .1 .1 .1 .1 .1 .1 .0)) r)
+    (now (a .1 .1 .1 .1 .1 .0)) (now (a .1 .1 .1 .1 .1 .1 .0)) (now (a .1 .1 .1 .1 .1 .1 .1 .0))
+    (now (a .1 .1 .1 .1 .1 .1 .1 .1 .0)) (now (a .1 .1 .1 .1 .1 .1 .1 .1 .1 .0))
+    (now (e .1 .1 .1 .1 .1 .1 .0)) (now (e .1 .1 .1 .1 .1 .1 .1 .0))
+    (now (e .1 .1 .1 .1 .1 .1 .1 .1 .0)) (now (e .1 .1 .1 .1 .1 .1 .1 .1 .1 .0)) r)
 match-all κs a = (tt, λ r e p. p)
 
 pub totals : (κs : Lfts 2) (a : Dens κs totals-kinds.ps) → totals-says.Pre κs a
@@ -171,5 +173,6 @@ correct κs a = (tt, λ r e p. p)
 
 pub push : (κs : Lfts 2) (a : Dens κs push-kinds.ps) → push-says.Pre κs a
     × ((r : Pushing) (e : Dens κs push-kinds.ps) → push-says.Post κs a r e
-    → Push (a .0) (a .1 .0) (now (a .1 .1 .0)) (a .1 .1 .1 .0) (now (a .1 .1 .1 .1 .0)) (r .told) (r .queue))
+    → Push (a .0) (a .1 .0) (now (a .1 .1 .0)) (a .1 .1 .1 .0) ((a .1 .1 .1 .1 .0) .0) (now (a .1 .1 .1 .1 .1 .0))
+    (r .told) (r .queue))
 push κs a = (tt, λ r e p. p)

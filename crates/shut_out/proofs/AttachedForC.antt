@@ -141,17 +141,19 @@ pub window-answer : (κs : Lfts 2) (a : Dens κs window-answer-kinds.ps) → win
     (now (a .1 .1 .1 .1 .0)) (a .1 .1 .1 .1 .1 .0) (a .1 .1 .1 .1 .1 .1 .0)) toldAnswer r)
 window-answer κs a = (tt, λ r e p. p)
 
-pub match-row : (κs : Lfts 2) (a : Dens κs match-row-kinds.ps) → match-row-says.Pre κs a
+pub match-row : (κs : Lfts 3) (a : Dens κs match-row-kinds.ps) → match-row-says.Pre κs a
     × ((r : Matched) (e : Dens κs match-row-kinds.ps) → match-row-says.Post κs a r e
     → Hands (RowMatch (a .0) (a .1 .0) (a .1 .1 .0) (now (a .1 .1 .1 .0)) (now (a .1 .1 .1 .1 .0))
-    (a .1 .1 .1 .1 .1 .0)) toldMatch r)
+    (now (a .1 .1 .1 .1 .1 .0)) (a .1 .1 .1 .1 .1 .1 .0)) toldMatch r)
 match-row κs a = (tt, λ r e p. p)
 
-pub match-all : (κs : Lfts 4) (a : Dens κs match-all-kinds.ps) → match-all-says.Pre κs a
+pub match-all : (κs : Lfts 7) (a : Dens κs match-all-kinds.ps) → match-all-says.Pre κs a
     × ((r : Told) (e : Dens κs match-all-kinds.ps) → match-all-says.Post κs a r e
     → Hands (AllMatched (a .0) (a .1 .0) (a .1 .1 .0) (now (a .1 .1 .1 .0)) (now (a .1 .1 .1 .1 .0))
-    (now (a .1 .1 .1 .1 .1 .0)) (now (a .1 .1 .1 .1 .1 .1 .0)) (now (e .1 .1 .1 .1 .1 .0))
-    (now (e .1 .1 .1 .1 .1 .1 .0))) told r)
+    (now (a .1 .1 .1 .1 .1 .0)) (now (a .1 .1 .1 .1 .1 .1 .0)) (now (a .1 .1 .1 .1 .1 .1 .1 .0))
+    (now (a .1 .1 .1 .1 .1 .1 .1 .1 .0)) (now (a .1 .1 .1 .1 .1 .1 .1 .1 .1 .0))
+    (now (e .1 .1 .1 .1 .1 .1 .0)) (now (e .1 .1 .1 .1 .1 .1 .1 .0))
+    (now (e .1 .1 .1 .1 .1 .1 .1 .1 .0)) (now (e .1 .1 .1 .1 .1 .1 .1 .1 .1 .0))) told r)
 match-all κs a = (tt, λ r e p. p)
 
 pub totals : (κs : Lfts 2) (a : Dens κs totals-kinds.ps) → totals-says.Pre κs a
@@ -180,7 +182,7 @@ pub correct : (κs : Lfts 4) (a : Dens κs correct-kinds.ps) → correct-says.Pr
 correct κs a = (tt, λ r e p. p)
 
 pub version : (κs : Lfts 0) (a : Dens κs version-kinds.ps) → version-says.Pre κs a
-    × ((r : ℕ) (e : Dens κs version-kinds.ps) → version-says.Post κs a r e → r ≡ 196608)
+    × ((r : ℕ) (e : Dens κs version-kinds.ps) → version-says.Post κs a r e → r ≡ 262144)
 version κs a = (tt, λ r e p. p)
 
 pub old-rules : (κs : Lfts 0) (a : Dens κs old-rules-kinds.ps) → old-rules-says.Pre κs a
@@ -189,11 +191,11 @@ old-rules κs a = (tt, λ r e p. p)
 
 pub empty-queue : (κs : Lfts 0) (a : Dens κs empty-queue-kinds.ps) → empty-queue-says.Pre κs a
     × ((r : Queue) (e : Dens κs empty-queue-kinds.ps) → empty-queue-says.Post κs a r e
-    → (r .kept ≡ 0) × (r .states ≡ replicate 512 0))
+    → (r .kept ≡ 0) × (r .states ≡ replicate 512 0) × (r .times ≡ replicate 16 0))
 empty-queue κs a = (tt, λ r e p. p)
 
 pub push : (κs : Lfts 2) (a : Dens κs push-kinds.ps) → push-says.Pre κs a
     × ((r : Pushed) (e : Dens κs push-kinds.ps) → push-says.Post κs a r e
-    → Hands (Pushes (a .0) (a .1 .0) (now (a .1 .1 .0)) (queueOf (a .1 .1 .1 .0))
-    (now (a .1 .1 .1 .1 .0))) toldPush r)
+    → Hands (Pushes (a .0) (a .1 .0) (now (a .1 .1 .0)) (queueOf (a .1 .1 .1 .0)) (a .1 .1 .1 .1 .0)
+    (now (a .1 .1 .1 .1 .1 .0))) toldPush r)
 push κs a = (tt, λ r e p. p)

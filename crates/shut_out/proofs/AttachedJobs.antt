@@ -3,7 +3,7 @@
 --   count-text, table-line, add, no-sums          the totals of a text, its line, the sums of a table
 --   correct-letters, row-number                   the correction by letters, and the row number that digits are
 --   alternatives-text, write-alternatives         the alternatives of a text, of a tree
---   list-text, values-text, list-values           listings
+--   list-text, list-began-text, values-text, list-values     listings
 -- `add`, `no-sums` and `row-number` are equations: what they give is what is defined, and they refuse nothing.
 use Prim.Native.Nat.{ℕ}
 use mathlib.Core.Path.{_≡_}
@@ -17,6 +17,7 @@ use Rattle.column_listings.specs.Calls.{ValuesText}
 use Rattle.alternative_listings.specs.declared.Lines.{Lines}
 use Rattle.alternative_listings.specs.Calls.{WritesAlternatives}
 use Rattle.row_listings.specs.Listings.{ListsPattern, ListsValues}
+use Rattle.began_texts.specs.TextBegan.{ListsBeganText}
 use Rattle.jobs.specs.declared.table.Line.{Line}
 use Rattle.jobs.specs.declared.sums.Adding.{Adding}
 use Rattle.jobs.specs.Counting.{CountsText}
@@ -41,6 +42,8 @@ use Rattle.alternative_listings.proofs.texts.alternatives_text.Reads as alterna
 use Rattle.alternative_listings.proofs.texts.alternatives_text.Kinds as alternatives-text-kinds
 use Rattle.alternative_listings.proofs.write_alternatives.Reads as write-alternatives-says
 use Rattle.alternative_listings.proofs.write_alternatives.Kinds as write-alternatives-kinds
+use Rattle.began_texts.proofs.listings.list_began_text.Reads as list-began-text-says
+use Rattle.began_texts.proofs.listings.list_began_text.Kinds as list-began-text-kinds
 use Rattle.row_listings.proofs.listings.list_text.Reads as list-text-says
 use Rattle.row_listings.proofs.listings.list_text.Kinds as list-text-kinds
 use Rattle.row_listings.proofs.listings.values_text.Reads as values-text-says
@@ -95,6 +98,13 @@ pub list-text : (κs : Lfts 5) (a : Dens κs list-text-kinds.ps) → list-text-s
     (now (a .1 .1 .1 .1 .1 .0))
     (now (e .1 .1 .1 .1 .1 .0)) r)
 list-text κs a = (tt, λ r e p. p)
+
+pub list-began-text : (κs : Lfts 5) (a : Dens κs list-began-text-kinds.ps) → list-began-text-says.Pre κs a
+    × ((r : Outcome) (e : Dens κs list-began-text-kinds.ps) → list-began-text-says.Post κs a r e
+    → ListsBeganText (a .0) (now (a .1 .0)) (now (a .1 .1 .0)) (now (a .1 .1 .1 .0)) (now (a .1 .1 .1 .1 .0))
+    (now (a .1 .1 .1 .1 .1 .0))
+    (now (e .1 .1 .1 .1 .1 .0)) r)
+list-began-text κs a = (tt, λ r e p. p)
 
 pub values-text : (κs : Lfts 5) (a : Dens κs values-text-kinds.ps) → values-text-says.Pre κs a
     × ((r : Outcome) (e : Dens κs values-text-kinds.ps) → values-text-says.Post κs a r e

@@ -39,23 +39,23 @@ pub listed-fits : (κs : Lfts 5) (a : Dens κs listed-fits-kinds.ps) → listed-
     (now (a .1 .1 .1 .1 .1 .0)) r)
 listed-fits κs a = (tt, λ r e p. p)
 
-pub listed-match-row : (κs : Lfts 6) (a : Dens κs listed-match-row-kinds.ps) → listed-match-row-says.Pre κs a
+pub listed-match-row : (κs : Lfts 7) (a : Dens κs listed-match-row-kinds.ps) → listed-match-row-says.Pre κs a
     × ((r : Matching) (e : Dens κs listed-match-row-kinds.ps) → listed-match-row-says.Post κs a r e
     → ListedMatch (a .0) (a .1 .0) (a .1 .1 .0) (now (a .1 .1 .1 .0)) (now (a .1 .1 .1 .1 .0))
-    (now (a .1 .1 .1 .1 .1 .0)) (now (a .1 .1 .1
-    .1 .1 .1 .0)) (now (a .1 .1 .1 .1 .1 .1 .1 .0)) (now (a .1 .1 .1 .1 .1 .1 .1 .1 .0))
-    ((a .1 .1 .1 .1 .1 .1 .1 .1 .1 .0) .0) r)
+    (now (a .1 .1 .1 .1 .1 .0)) (now (a .1 .1 .1 .1 .1 .1 .0)) (now (a .1 .1 .1 .1 .1 .1 .1 .0))
+    (now (a .1 .1 .1 .1 .1 .1 .1 .1 .1 .0)) (now (a .1 .1 .1 .1 .1 .1 .1 .1 .0))
+    ((a .1 .1 .1 .1 .1 .1 .1 .1 .1 .1 .0) .0) r)
 listed-match-row κs a = (tt, λ r e p. p)
 
-pub listed-match-all : (κs : Lfts 8) (a : Dens κs listed-match-all-kinds.ps) → listed-match-all-says.Pre κs a
+pub listed-match-all : (κs : Lfts 11) (a : Dens κs listed-match-all-kinds.ps) → listed-match-all-says.Pre κs a
     × ((r : Outcome) (e : Dens κs listed-match-all-kinds.ps) → listed-match-all-says.Post κs a r e
     → ListedAll (a .0) (a .1 .0) (a .1 .1 .0) (now (a .1 .1 .1 .0)) (now (a .1 .1 .1 .1 .0))
-    (now (a .1 .1 .1 .1 .1 .0)) (now (a .1 .1 .1 .1
-    .1 .1 .0)) (now (a .1 .1 .1 .1 .1 .1 .1 .0)) (now (a .1 .1 .1 .1 .1 .1 .1 .1 .0))
-    (now (a .1 .1 .1 .1 .1 .1 .1 .1 .1 .0))
-    (now (a .1 .1 .1 .1 .1 .1 .1 .1 .1 .1 .0)) (now (e .1 .1 .1 .1 .1 .1 .1 .1 .1 .0))
-    (now (e .1 .1 .1 .1 .1 .1 .1 .1 .1 .1
-    .0)) r)
+    (now (a .1 .1 .1 .1 .1 .0)) (now (a .1 .1 .1 .1 .1 .1 .0)) (now (a .1 .1 .1 .1 .1 .1 .1 .0))
+    (now (a .1 .1 .1 .1 .1 .1 .1 .1 .1 .0)) (now (a .1 .1 .1 .1 .1 .1 .1 .1 .0))
+    (now (a .1 .1 .1 .1 .1 .1 .1 .1 .1 .1 .0)) (now (a .1 .1 .1 .1 .1 .1 .1 .1 .1 .1 .1 .0))
+    (now (a .1 .1 .1 .1 .1 .1 .1 .1 .1 .1 .1 .1 .0)) (now (a .1 .1 .1 .1 .1 .1 .1 .1 .1 .1 .1 .1 .1 .0))
+    (now (e .1 .1 .1 .1 .1 .1 .1 .1 .1 .1 .0)) (now (e .1 .1 .1 .1 .1 .1 .1 .1 .1 .1 .1 .0))
+    (now (e .1 .1 .1 .1 .1 .1 .1 .1 .1 .1 .1 .1 .0)) (now (e .1 .1 .1 .1 .1 .1 .1 .1 .1 .1 .1 .1 .1 .0)) r)
 listed-match-all κs a = (tt, λ r e p. p)
 
 pub listed-totals : (κs : Lfts 6) (a : Dens κs listed-totals-kinds.ps) → listed-totals-says.Pre κs a
@@ -68,8 +68,9 @@ listed-totals κs a = (tt, λ r e p. p)
 pub listed-push : (κs : Lfts 6) (a : Dens κs listed-push-kinds.ps) → listed-push-says.Pre κs a
     × ((r : Pushing) (e : Dens κs listed-push-kinds.ps) → listed-push-says.Post κs a r e
     → ListedPush (a .0) (a .1 .0) (now (a .1 .1 .0)) (now (a .1 .1 .1 .0)) (now (a .1 .1 .1 .1 .0))
-    (now (a .1 .1 .1 .1 .1 .0)) (now (a .1 .1
-    .1 .1 .1 .1 .0)) (a .1 .1 .1 .1 .1 .1 .1 .0) (now (a .1 .1 .1 .1 .1 .1 .1 .1 .0)) (r .told) (r .queue))
+    (now (a .1 .1 .1 .1 .1 .0)) (now (a .1 .1 .1 .1 .1 .1 .0)) (a .1 .1 .1 .1 .1 .1 .1 .0)
+    ((a .1 .1 .1 .1 .1 .1 .1 .1 .0) .0)
+    (now (a .1 .1 .1 .1 .1 .1 .1 .1 .1 .0)) (r .told) (r .queue))
 listed-push κs a = (tt, λ r e p. p)
 
 pub list : (κs : Lfts 4) (a : Dens κs list-kinds.ps) → list-says.Pre κs a

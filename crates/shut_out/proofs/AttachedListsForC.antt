@@ -41,20 +41,23 @@ pub listed-fits : (κs : Lfts 5) (a : Dens κs listed-fits-kinds.ps) → listed-
     (now (a .1 .1 .1 .1 .0)) (now (a .1 .1 .1 .1 .1 .0))) told r)
 listed-fits κs a = (tt, λ r e p. p)
 
-pub listed-match-row : (κs : Lfts 6) (a : Dens κs listed-match-row-kinds.ps) → listed-match-row-says.Pre κs a
+pub listed-match-row : (κs : Lfts 7) (a : Dens κs listed-match-row-kinds.ps) → listed-match-row-says.Pre κs a
     × ((r : Matched) (e : Dens κs listed-match-row-kinds.ps) → listed-match-row-says.Post κs a r e
     → Hands (ListedMatch (a .0) (a .1 .0) (a .1 .1 .0) (now (a .1 .1 .1 .0)) (now (a .1 .1 .1 .1 .0))
     (now (a .1 .1 .1 .1 .1 .0)) (now (a .1 .1 .1 .1 .1 .1 .0)) (now (a .1 .1 .1 .1 .1 .1 .1 .0))
-    (now (a .1 .1 .1 .1 .1 .1 .1 .1 .0)) (a .1 .1 .1 .1 .1 .1 .1 .1 .1 .0)) toldMatch r)
+    (now (a .1 .1 .1 .1 .1 .1 .1 .1 .1 .0)) (now (a .1 .1 .1 .1 .1 .1 .1 .1 .0))
+    (a .1 .1 .1 .1 .1 .1 .1 .1 .1 .1 .0)) toldMatch r)
 listed-match-row κs a = (tt, λ r e p. p)
 
-pub listed-match-all : (κs : Lfts 8) (a : Dens κs listed-match-all-kinds.ps) → listed-match-all-says.Pre κs a
+pub listed-match-all : (κs : Lfts 11) (a : Dens κs listed-match-all-kinds.ps) → listed-match-all-says.Pre κs a
     × ((r : Told) (e : Dens κs listed-match-all-kinds.ps) → listed-match-all-says.Post κs a r e
     → Hands (ListedAll (a .0) (a .1 .0) (a .1 .1 .0) (now (a .1 .1 .1 .0)) (now (a .1 .1 .1 .1 .0))
-    (now (a .1 .1 .1 .1 .1 .0))
-    (now (a .1 .1 .1 .1 .1 .1 .0)) (now (a .1 .1 .1 .1 .1 .1 .1 .0)) (now (a .1 .1 .1 .1 .1 .1 .1 .1 .0))
-    (now (a .1 .1 .1 .1 .1 .1 .1 .1 .1 .0)) (now (a .1 .1 .1 .1 .1 .1 .1 .1 .1 .1 .0))
-    (now (e .1 .1 .1 .1 .1 .1 .1 .1 .1 .0)) (now (e .1 .1 .1 .1 .1 .1 .1 .1 .1 .1 .0))) told r)
+    (now (a .1 .1 .1 .1 .1 .0)) (now (a .1 .1 .1 .1 .1 .1 .0)) (now (a .1 .1 .1 .1 .1 .1 .1 .0))
+    (now (a .1 .1 .1 .1 .1 .1 .1 .1 .1 .0)) (now (a .1 .1 .1 .1 .1 .1 .1 .1 .0))
+    (now (a .1 .1 .1 .1 .1 .1 .1 .1 .1 .1 .0)) (now (a .1 .1 .1 .1 .1 .1 .1 .1 .1 .1 .1 .0))
+    (now (a .1 .1 .1 .1 .1 .1 .1 .1 .1 .1 .1 .1 .0)) (now (a .1 .1 .1 .1 .1 .1 .1 .1 .1 .1 .1 .1 .1 .0))
+    (now (e .1 .1 .1 .1 .1 .1 .1 .1 .1 .1 .0)) (now (e .1 .1 .1 .1 .1 .1 .1 .1 .1 .1 .1 .0))
+    (now (e .1 .1 .1 .1 .1 .1 .1 .1 .1 .1 .1 .1 .0)) (now (e .1 .1 .1 .1 .1 .1 .1 .1 .1 .1 .1 .1 .1 .0))) told r)
 listed-match-all κs a = (tt, λ r e p. p)
 
 pub listed-totals : (κs : Lfts 6) (a : Dens κs listed-totals-kinds.ps) → listed-totals-says.Pre κs a
@@ -68,7 +71,7 @@ pub listed-push : (κs : Lfts 6) (a : Dens κs listed-push-kinds.ps) → listed-
     × ((r : Pushed) (e : Dens κs listed-push-kinds.ps) → listed-push-says.Post κs a r e
     → Hands (ListedPushes (a .0) (a .1 .0) (now (a .1 .1 .0)) (now (a .1 .1 .1 .0)) (now (a .1 .1 .1 .1 .0))
     (now (a .1 .1 .1 .1 .1 .0)) (now (a .1 .1 .1 .1 .1 .1 .0)) (queueOf (a .1 .1 .1 .1 .1 .1 .1 .0))
-    (now (a .1 .1 .1 .1 .1 .1 .1 .1 .0))) toldPush r)
+    (a .1 .1 .1 .1 .1 .1 .1 .1 .0) (now (a .1 .1 .1 .1 .1 .1 .1 .1 .1 .0))) toldPush r)
 listed-push κs a = (tt, λ r e p. p)
 
 pub list : (κs : Lfts 4) (a : Dens κs list-kinds.ps) → list-says.Pre κs a

@@ -15,7 +15,7 @@ use Rattle.alf.specs.Bytes.{booleanBytes, bytesOf}
 use Rattle.alf.specs.Decoder.{leafAt, operationAt, run, stackAt, Decodes}
 use Rattle.alf.specs.Alternatives.{alternatives}
 use Rattle.alf.specs.Refusals.{NameCount}
-use Rattle.alf.specs.TableT.{names, rows, states, A}
+use Rattle.alf.specs.TableT.{names, rows, times, states, A}
 use Rattle.alf.proofs.TraceNearness.{steps-pos}
 use Rattle.trees.specs.Brackets.{booleanDepth, depthOf}
 use Rattle.alf.proofs.FewNames.{decodes-encoded}
@@ -27,14 +27,14 @@ use Rattle.contradictions.specs.Possible.{flagList}
 use Rattle.rewriting_calls.specs.Calls.{Rewrites}
 use Rattle.rewriting_calls.proofs.Theorems.{steps-own, tests-own, edges-own}
 use Rattle.contradictions.specs.Calls.{ownAt, Contradicts}
-use Rattle.queue.specs.declared.queues.Queue.{Queue}
+use Rattle.timed_queue.specs.declared.queues.Queue.{Queue}
 use Rattle.states.specs.FirstBadCode.{Codes}
 use Rattle.row_calls.specs.declared.written.Told.the-variants as told
 use Rattle.matching_calls.specs.declared.matching.Matching.the-variants as matching
 use Rattle.matching_calls.specs.declared.matching.Counting.the-variants as counting
 use Rattle.row_calls.specs.Written.{RowState, RowValue, AllValues, RowAnswer}
 use Rattle.row_calls.specs.Windows.{WindowAnswer}
-use Rattle.matching_calls.specs.Matching.{expression, RowMatch, AllMatched, RowTotals}
+use Rattle.matching_calls.specs.Matching.{Lent, expression, RowMatch, AllMatched, RowTotals}
 use Rattle.update_calls.specs.Correcting.{Correction}
 use Rattle.queue_calls.specs.Pushing.{Push}
 use Rattle.call_laws.proofs.Routes.{holding-first}
@@ -44,7 +44,7 @@ use Rattle.shut_out.proofs.Reasons.{Four}
 use Rattle.shut_out.proofs.Refusing as texts
 use Rattle.shut_out.proofs.RefusingRows as over-rows
 use Rattle.shut_out.proofs.RefusingUpdates as updating
-use Rattle.shut_out.proofs.OnT.{trace-good, rises-accepted, rises-is}
+use Rattle.shut_out.proofs.OnT.{times-good, trace-good, rises-accepted, rises-is}
 
 -- Rewriting.
 module _ (ρ : Rules) where
@@ -128,8 +128,10 @@ module _ (r : Refusal) where
     pub row-answer : {ρ : Rules} → RowAnswer ρ names rows (asked rises) states i (told.Refused r) → ⊥
     row-answer w = over-rows.row-answer names rows (asked rises) states i .no-refusal good-rises r tt w
 
-    pub match-row : {ρ : Rules} → RowMatch ρ names rows (asked rises) states i (matching.Refused r) → ⊥
-    match-row w = over-rows.match-row names rows (asked rises) states i .no-refusal good-rises r tt w
+    pub match-row : {ρ : Rules} → RowMatch ρ names rows (asked rises) times states i (matching.Refused r) → ⊥
+    match-row w =
+        over-rows.match-row names rows (asked rises) states i times .no-refusal
+        (record { good = good-rises; stamps = times-good }) r tt w
 
   pub window-answer : {ρ : Rules} (a b : ℕ) → max a b < rows
       → WindowAnswer ρ names rows (asked rises) states a b (told.Refused r)
@@ -143,11 +145,14 @@ module _ (r : Refusal) where
       over-rows.values names rows just-A states out .no-refusal
       (record { trace = trace-good; accepted = A-accepted; room = room }) r out′ w
 
-  pub match-all : {ρ : Rules} {answers tried answers′ tried′ : List ℕ} → length answers ≡ rows → length tried ≡ rows
-      → AllMatched ρ names rows (asked rises) states answers tried answers′ tried′ (outcome.Refused r) → ⊥
-  match-all {ρ} {answers} {tried} {answers′} {tried′} a t w =
-      over-rows.match-all names rows (asked rises) states answers tried .no-refusal
-      (record { trace = trace-good; accepted = rises-accepted; room = (a, t) }) r (answers′, tried′) w
+  pub match-all : {ρ : Rules} {answers tried given began answers′ tried′ given′ began′ : List ℕ}
+      → Lent rows (length times) (length answers) (length tried) (length given) (length began)
+      → AllMatched ρ names rows (asked rises) times states answers tried given began answers′ tried′ given′ began′
+      (outcome.Refused r) → ⊥
+  match-all {ρ} {answers} {tried} {given} {began} {answers′} {tried′} {given′} {began′} room w =
+      over-rows.match-all names rows (asked rises) states times answers tried given began .no-refusal
+      (record { trace = trace-good; accepted = rises-accepted; rising = times-good .rising; room = room }) r
+      (answers′, tried′, given′, began′) w
 
   pub totals : {ρ : Rules} → RowTotals ρ names rows (asked rises) states (counting.Refused r) → ⊥
   totals w =
@@ -164,23 +169,29 @@ module _ (r : Refusal) where
       (states′, answers′) w
 
   -- a queue that keeps nothing yet
-  pub push : {ρ : Rules} {queue queue′ : Queue} {row : List ℕ} → queue .kept .0 ≡ 0 → length row ≡ names → Codes row
-      → Push ρ names (asked rises) queue row (matching.Refused r) queue′ → ⊥
-  push {ρ} {queue} {queue′} {row} e f c w =
+  pub push : {ρ : Rules} {queue queue′ : Queue} {time : ℕ} {row : List ℕ} → queue .rows .kept .0 ≡ 0
+      → length row ≡ names → Codes row
+      → Push ρ names (asked rises) queue time row (matching.Refused r) queue′ → ⊥
+  push {ρ} {queue} {queue′} {time} {row} e f c w =
       let h = holding-first names 1 queue e in
-      updating.push ρ names (asked rises) queue row .no-refusal
+      updating.push ρ names (asked rises) queue time row .no-refusal
       (record {
         handed =
             record {
               accepted = rises-accepted;
               kept =
                   record {
-                    few = omega (arith, e, steps-pos (expression ρ (asked rises) names));
-                    codes = h .codes;
+                    kept =
+                        record {
+                          few = omega (arith, e, steps-pos (expression ρ (asked rises) names));
+                          codes = h .codes;
+                        };
+                    rising = h .rising;
                   };
             };
         fits = record { name-count = three; full = f };
         codes = c;
+        above = λ a. omega (arith, a .0, e);
       }) r queue′ w
 
   -- Each line of the table but a pattern's: where there is room.

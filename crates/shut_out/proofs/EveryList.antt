@@ -12,10 +12,11 @@ use Rattle.alf.specs.Bytes.{halfNumber, edgeNumber, booleanBytes, vectorBytes, 
 use Rattle.alf.specs.Decoder.{halfAt, edgeAt, leafAt, operationAt}
 use Rattle.alf.specs.Decoder.{isBoolean, topBoolean, under, run, stackAt}
 use Rattle.alf.specs.Alternatives.{overLimit, tests}
-use Rattle.alf.specs.TableT.{names, rows, states}
+use Rattle.alf.specs.TableT.{names, rows, times, states}
+use Rattle.matching_calls.specs.Matching.{Lent}
 use Rattle.trees.specs.Parts.{top}
 use Rattle.alternatives.specs.InMemory.{cut, sum, testsOf, alternativesOf}
-use Rattle.queue.specs.declared.queues.Queue.{Queue}
+use Rattle.timed_queue.specs.declared.queues.Queue.{Queue}
 use Rattle.states.specs.FirstBadCode.{Codes}
 use Rattle.matching_calls.specs.declared.matching.Matching.the-variants as matching
 use Rattle.matching_calls.specs.declared.matching.Counting.the-variants as counting
@@ -25,7 +26,7 @@ use Rattle.listed_acceptance.specs.Fitting.{ListedFits}
 use Rattle.listed_calls.specs.Listed as listed
 use Rattle.shut_out.specs.Asked.{asked, rises}
 use Rattle.shut_out.proofs.RefusingLists as over-lists
-use Rattle.shut_out.proofs.OnT.{trace-good}
+use Rattle.shut_out.proofs.OnT.{times-good, trace-good}
 use Rattle.shut_out.proofs.EveryCall.{A-accepted, three}
 
 -- one alternative of one step of one test: edge 11 is 01, and its operand ends behind byte 0 of the tree
@@ -81,18 +82,19 @@ module _ (r : Refusal) where
       (record { name-count = three; accepted = one-accepted }) r tt w
 
   pub listed-match-row : {ρ : Rules} (i : ℕ) → i < rows
-      → listed.ListedMatch ρ names rows (asked rises) one one edge-01 one states i (matching.Refused r) → ⊥
+      → listed.ListedMatch ρ names rows (asked rises) one one edge-01 one states times i (matching.Refused r) → ⊥
   listed-match-row i l w =
-      over-lists.listed-match-row names rows (asked rises) one one edge-01 one states i .no-refusal
-      (record { trace = trace-good; accepted = one-accepted; asked = l }) r tt w
+      over-lists.listed-match-row names rows (asked rises) one one edge-01 one states times i .no-refusal
+      (record { trace = trace-good; accepted = one-accepted; asked = (times-good, l) }) r tt w
 
-  pub listed-match-all : {ρ : Rules} {answers tried answers′ tried′ : List ℕ} → length answers ≡ rows
-      → length tried ≡ rows
-      → listed.ListedAll ρ names rows (asked rises) one one edge-01 one states answers tried answers′ tried′
-      (outcome.Refused r) → ⊥
-  listed-match-all {ρ} {answers} {tried} {answers′} {tried′} a t w =
-      over-lists.listed-match-all names rows (asked rises) one one edge-01 one states answers tried .no-refusal
-      (record { trace = trace-good; accepted = one-accepted; asked = (a, t) }) r (answers′, tried′) w
+  pub listed-match-all : {ρ : Rules} {answers tried given began answers′ tried′ given′ began′ : List ℕ}
+      → Lent rows (length times) (length answers) (length tried) (length given) (length began)
+      → listed.ListedAll ρ names rows (asked rises) one one edge-01 one states times answers tried given began answers′
+      tried′ given′ began′ (outcome.Refused r) → ⊥
+  listed-match-all {ρ} {answers} {tried} {given} {began} {answers′} {tried′} {given′} {began′} room w =
+      over-lists.listed-match-all names rows (asked rises) one one edge-01 one states times answers tried given began
+      .no-refusal (record { trace = trace-good; accepted = one-accepted; asked = (room, times-good .rising) }) r
+      (answers′, tried′, given′, began′) w
 
   pub listed-totals : {ρ : Rules}
       → listed.ListedTotals ρ names rows (asked rises) one one edge-01 one states (counting.Refused r) → ⊥
@@ -100,14 +102,19 @@ module _ (r : Refusal) where
       over-lists.listed-totals names rows (asked rises) one one edge-01 one states .no-refusal
       (record { trace = trace-good; accepted = one-accepted; asked = tt }) r tt w
 
-  pub listed-push : {ρ : Rules} {queue queue′ : Queue} {row : List ℕ} → queue .kept .0 ≡ 0 → length row ≡ names
-      → Codes row
-      → listed.ListedPush ρ names (asked rises) one one edge-01 one queue row (matching.Refused r) queue′ → ⊥
-  listed-push {ρ} {queue} {queue′} {row} e f c w =
+  pub listed-push : {ρ : Rules} {queue queue′ : Queue} {time : ℕ} {row : List ℕ} → queue .rows .kept .0 ≡ 0
+      → length row ≡ names → Codes row
+      → listed.ListedPush ρ names (asked rises) one one edge-01 one queue time row (matching.Refused r) queue′ → ⊥
+  listed-push {ρ} {queue} {queue′} {time} {row} e f c w =
       let h = holding-first names 1 queue e in
-      over-lists.listed-push names (asked rises) one one edge-01 one queue row .no-refusal
+      over-lists.listed-push names (asked rises) one one edge-01 one queue time row .no-refusal
       (record {
-        handed = record { accepted = one-accepted; kept = record { few = omega (arith, e); codes = h .codes } };
+        handed =
+            record {
+              accepted = one-accepted;
+              kept = record { kept = record { few = omega (arith, e); codes = h .codes }; rising = h .rising };
+            };
         fits = record { name-count = three; full = f };
         codes = c;
+        above = λ a. omega (arith, a .0, e);
       }) r queue′ w

@@ -21,6 +21,9 @@
 --     `unknown-as-no`, `unknown-as-no-matched`, `unknown-as-no-listed` (Answering)
 -- the rule of steady pins dropped where it is on, or had where it is off: cases 2 and 3
 --     `rule-dropped`, `rule-dropped-under`, `rule-dropped-counted`, `rule-forced`, `rule-forced-under` (SteadyRule)
+--   a time with another answer than yes, or another time than the first yes' start (document 02, [12]):
+--     `time-without-yes`, `time-elsewhere`, `longest-start`, `mirror-start` (Beginning)
+--     `time-not-above`, `queue-not-rising`, `push-not-above` (Accepting): times that do not rise are refused
 -- a time cut to 32 bits; `RL` for 2^32 - 1
 --     `long-listing`, `long-file` (LongTimes)
 -- row 0 answered, tried, changed
@@ -72,6 +75,7 @@ pub mod RefusingLists
 pub mod RefusingTexts
 pub mod RefusingTreeTexts
 pub mod RefusingJobs
+pub mod RefusingBegan
 pub mod RefusingAlternatives
 pub mod OnT
 pub mod EveryText
@@ -83,6 +87,7 @@ pub mod EveryAlternatives
 pub mod Accepting
 pub mod Answering
 pub mod SteadyRule
+pub mod Beginning
 pub mod Counting
 pub mod Correcting
 pub mod Writing

@@ -35,14 +35,15 @@ use Rattle.rewriting.specs.Lists.{alternativesAt, stepList, testList, edgeList,
 use Rattle.contradictions.specs.Possible.{flagList}
 use Rattle.rewriting_calls.specs.Calls as rewriting
 use Rattle.contradictions.specs.Calls as flagging
-use Rattle.matcher.specs.declared.answers.Matched.{Matched}
+use Rattle.beginnings.specs.declared.times.Dated.{Dated}
 use Rattle.matcher.specs.declared.tables.Total.{Total}
 use Rattle.alternatives.specs.InMemory.{alternativesOf}
-use Rattle.matcher.specs.Answers.{Matches}
+use Rattle.beginnings.specs.Dated.{Dates, flagsOn, timesOn}
+use Rattle.alf.specs.Beginnings.{isGiven, timeOf}
 use Rattle.matcher.specs.Tables as tables
-use Rattle.queue.specs.declared.queues.Queue.{Queue}
+use Rattle.timed_queue.specs.declared.queues.Queue.{Queue}
 use Rattle.alternatives.specs.InMemory.{longestOf}
-use Rattle.queue.specs.Queues.{Pushes}
+use Rattle.timed_queue.specs.TimedQueues.{Pushes}
 use Rattle.row_calls.specs.declared.written.Told.the-variants.{Answered}
 use Rattle.matching_calls.specs.declared.matching.Matching.the-variants.{Found}
 use Rattle.matching_calls.specs.declared.matching.Counting.the-variants.{Counted}
@@ -50,7 +51,7 @@ use Rattle.row_calls.specs.Written.{RowState, RowValue, AllValues, RowAnswer, T
 use Rattle.basics.specs.Memory.{after, front}
 use Rattle.row_calls.specs.Windows.{WindowAnswer, answerOver}
 use Rattle.matching_calls.specs.Matching.{Finds, Counts, RowMatch, AllMatched, RowTotals, MatchesTree, TotalsTree}
-use Rattle.matching_calls.specs.Matching.{expression, answersOn, triesOn}
+use Rattle.matching_calls.specs.Matching.{expression, answersOn, triesOn, beganOn}
 use Rattle.update_calls.specs.Correcting.{Correction, rewritten}
 use Rattle.queue_calls.specs.Pushing.{Takes, Push, PushesTree}
 use Rattle.listed_acceptance.specs.Fitting.{ListedFits}
@@ -134,8 +135,8 @@ module _ {k n : ℕ} {tree codes : List ℕ} where
     unfolding Tells
     no-other-answer w = w .comes .1
 
-    pub no-other-match : {ρ : Rules} {m : Matched} → RowMatch ρ k n tree codes row (Found m)
-        → MatchesTree ρ k tree codes row (m .answer) (m .tries)
+    pub no-other-match : {ρ : Rules} {times : List ℕ} {m : Dated} → RowMatch ρ k n tree times codes row (Found m)
+        → MatchesTree ρ k tree times codes row (m .answer) (m .tries) (m .began)
     unfolding Finds
     no-other-match w = w .comes .1
 
@@ -149,11 +150,13 @@ module _ {k n : ℕ} {tree codes : List ℕ} where
   unfolding after
   no-other-values w = w .memory
 
-  pub no-other-answers : {ρ : Rules} {answers tried answers′ tried′ : List ℕ} {m : ℕ}
-      → AllMatched ρ k n tree codes answers tried answers′ tried′ (Done m)
+  pub no-other-answers : {ρ : Rules} {times answers tried given began answers′ tried′ given′ began′ : List ℕ} {m : ℕ}
+      → AllMatched ρ k n tree times codes answers tried given began answers′ tried′ given′ began′ (Done m)
       → (answers′ ≡ listed 0 n (answersOn ρ k tree codes)) × (tried′ ≡ listed 0 n (triesOn ρ k tree codes))
+      × (given′ ≡ listed 0 n (λ i. isGiven (beganOn ρ k tree times codes i)))
+      × (began′ ≡ listed 0 n (λ i. timeOf (beganOn ρ k tree times codes i)))
   unfolding after
-  no-other-answers w = (w .answers-memory, w .tried-memory)
+  no-other-answers w = (w .answers-memory, w .tried-memory, w .given-memory, w .began-memory)
 
   pub no-other-totals : {ρ : Rules} {t : Total} → RowTotals ρ k n tree codes (Counted t)
       → TotalsTree ρ k n tree codes (t .yes) (t .no) (t .unknown)
@@ -167,25 +170,30 @@ module _ {k n : ℕ} {tree codes : List ℕ} where
   unfolding after
   no-other-correction w = (w .states-memory, w .answers-memory)
 
-pub no-other-push : {ρ : Rules} {k : ℕ} {tree : List ℕ} {queue : Queue} {row : List ℕ} {queue′ : Queue} {m : Matched}
-    → Push ρ k tree queue row (Found m) queue′ → PushesTree ρ k tree queue row (m .answer) (m .tries) queue′
+pub no-other-push : {ρ : Rules} {k : ℕ} {tree : List ℕ} {queue : Queue} {time : ℕ} {row : List ℕ} {queue′ : Queue}
+    {m : Dated} → Push ρ k tree queue time row (Found m) queue′
+    → PushesTree ρ k tree queue time row (m .answer) (m .tries) (m .began) queue′
 unfolding Takes
 no-other-push w = w .comes .1
 
 -- Alternatives handed in.
 module _ {k n : ℕ} {tree s t e o codes : List ℕ} where
-  pub no-other-listed-match : {ρ : Rules} {row : ℕ} {m : Matched}
-      → listed-calls.ListedMatch ρ k n tree s t e o codes row (Found m)
-      → Matches (stateAt ρ k codes) (alternativesIn k n tree s t e o codes) row (m .answer) (m .tries)
+  pub no-other-listed-match : {ρ : Rules} {times : List ℕ} {row : ℕ} {m : Dated}
+      → listed-calls.ListedMatch ρ k n tree s t e o codes times row (Found m)
+      → Dates (stateAt ρ k codes) times (alternativesIn k n tree s t e o codes) row (m .answer) (m .tries) (m .began)
   unfolding Finds
   no-other-listed-match w = w .comes .1
 
-  pub no-other-listed-answers : {ρ : Rules} {answers tried answers′ tried′ : List ℕ} {m : ℕ}
-      → listed-calls.ListedAll ρ k n tree s t e o codes answers tried answers′ tried′ (Done m)
+  pub no-other-listed-answers : {ρ : Rules} {times answers tried given began answers′ tried′ given′ began′ : List ℕ}
+      {m : ℕ}
+      → listed-calls.ListedAll ρ k n tree s t e o codes times answers tried given began answers′ tried′ given′ began′
+      (Done m)
       → (answers′ ≡ listed 0 n (answerOf (stateAt ρ k codes) (alternativesIn k n tree s t e o codes)))
       × (tried′ ≡ listed 0 n (tries (stateAt ρ k codes) (alternativesIn k n tree s t e o codes)))
+      × (given′ ≡ listed 0 n (flagsOn (stateAt ρ k codes) times (alternativesIn k n tree s t e o codes)))
+      × (began′ ≡ listed 0 n (timesOn (stateAt ρ k codes) times (alternativesIn k n tree s t e o codes)))
   unfolding after
-  no-other-listed-answers w = (w .answers-memory, w .tried-memory)
+  no-other-listed-answers w = (w .answers-memory, w .tried-memory, w .given-memory, w .began-memory)
 
   pub no-other-listed-totals : {ρ : Rules} {z : Total} → listed-calls.ListedTotals ρ k n tree s t e o codes (Counted z)
       → tables.TotalsOf (stateAt ρ k codes) (alternativesIn k n tree s t e o codes) n (z .yes) (z .no) (z .unknown)
@@ -197,15 +205,16 @@ pub no-other-number-of-lists : {k : ℕ} {tree s t e o : List ℕ} {m : ℕ} →
 unfolding Comes
 no-other-number-of-lists w = w .comes .1
 
-module _ {k : ℕ} {tree s t e o : List ℕ} {queue : Queue} {row : List ℕ} {queue′ : Queue} where
-  pub no-other-listed-push : {ρ : Rules} {m : Matched}
-      → listed-calls.ListedPush ρ k tree s t e o queue row (Found m) queue′
-      → Pushes ρ k (alternativesOf tree k s t e o) queue row (m .answer) (m .tries) queue′
+module _ {k : ℕ} {tree s t e o : List ℕ} {queue : Queue} {time : ℕ} {row : List ℕ} {queue′ : Queue} where
+  pub no-other-listed-push : {ρ : Rules} {m : Dated}
+      → listed-calls.ListedPush ρ k tree s t e o queue time row (Found m) queue′
+      → Pushes ρ k (alternativesOf tree k s t e o) queue time row (m .answer) (m .tries) (m .began) queue′
   unfolding listed-calls.Takes
   no-other-listed-push w = w .comes .1
 
   -- so what is pushed is kept, as long as K rows are not kept yet
-  pub listed-stands-still : {ρ : Rules} {m : Matched}
-      → listed-calls.ListedPush ρ k tree s t e o queue row (Found m) queue′
-      → queue .kept .0 < longestOf (alternativesOf tree k s t e o) → queue′ .kept .0 ≡ queue .kept .0 → ⊥
-  listed-stands-still w l same = omega (arith, no-other-listed-push w .kept, l, same)
+  pub listed-stands-still : {ρ : Rules} {m : Dated}
+      → listed-calls.ListedPush ρ k tree s t e o queue time row (Found m) queue′
+      → queue .rows .kept .0 < longestOf (alternativesOf tree k s t e o)
+      → queue′ .rows .kept .0 ≡ queue .rows .kept .0 → ⊥
+  listed-stands-still w l same = omega (arith, no-other-listed-push w .pushed .kept, l, same)

@@ -1,6 +1,6 @@
 -- Table T is good input: its lists fit, its codes are codes, the patterns are accepted under any rules; and the trees
 -- are the patterns, as the rules read them.
---   trace-good, rises-accepted, one-of-accepted, pulse-accepted
+--   trace-good, times-good, rises-accepted, one-of-accepted, pulse-accepted
 --   rises-is, one-of-is, pulse-is
 use Prim.Native.Nat.{ℕ, zero, suc, _+_, _^_, _<_}
 use native.Mathlib.Omega.{arith}
@@ -34,11 +34,12 @@ use Rattle.alf.proofs.FewNames.{decodes-encoded}
 use Rattle.steady_laws.specs.Lone.{spaced, lone}
 use Rattle.steady_laws.proofs.Meant.{meant-cases, meant-lone}
 use Rattle.acceptance.specs.Accepted.{sortOf, overSize, Accepted}
+use Rattle.alf.specs.Refusals.{Rising}
 use Rattle.states.specs.FirstBadCode.{Codes}
 use Rattle.matching_calls.specs.Matching.{expression}
 use Rattle.shut_out.specs.Asked.{asked, letters, rises, one-of}
 use Rattle.shut_out.proofs.Refusing.{GoodNames}
-use Rattle.shut_out.proofs.RefusingRows.{GoodTrace}
+use Rattle.shut_out.proofs.RefusingRows.{GoodTimes, GoodTrace}
 
 unfoldable pub below : List ℕ → Bool
 below [] = true
@@ -58,6 +59,19 @@ trace-good =
           record { name-count = (omega arith, omega arith); row-count = (omega arith, omega arith); all = refl };
       codes = codes-below states refl;
     }
+
+pub times-good : GoodTimes rows times
+unfolding times
+times-good = record { all = refl; rising = above }
+  where
+    above : Rising times
+    above zero h l = absurd (omega arith)
+    above (suc zero) h l = omega arith
+    above (suc (suc zero)) h l = omega arith
+    above (suc (suc (suc zero))) h l = omega arith
+    above (suc (suc (suc (suc zero)))) h l = omega arith
+    above (suc (suc (suc (suc (suc zero))))) h l = omega arith
+    above (suc (suc (suc (suc (suc (suc r)))))) h l = absurd (omega arith)
 
 pub rises-meant : (ρ : Rules) → meant ρ rises ≡ rises
 unfolding lone spaced isStep operands isThen

@@ -27,7 +27,7 @@ use Rattle.states.specs.FirstBadCode.{Codes}
 use Rattle.matching_calls.specs.declared.matching.Counting.{Counting}
 use Rattle.matching_calls.specs.declared.matching.Counting.the-variants as counting
 use Rattle.basics.specs.Memory.{after}
-use Rattle.call_laws.proofs.Routes.{codes-never}
+use Rattle.call_laws.proofs.Passing.{codes-never}
 use Rattle.figures.specs.Delivering.{lineOrder}
 use Rattle.tree_listings.specs.TreeTexts.{patternListing}
 use Rattle.row_listings.specs.Listings.{listOrder}

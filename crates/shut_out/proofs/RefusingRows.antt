@@ -11,10 +11,11 @@ use lib.ListN.{length}
 use Rattle.alf.specs.Values.{oldRules}
 use Rattle.alf.specs.declared.Rules.{Rules}
 use Rattle.alf.specs.declared.Answer.{Answer}
+use Rattle.alf.specs.declared.Began.{Began}
 use Rattle.alf.specs.declared.Sort.{Sort}
 use Rattle.alf.specs.declared.Sort.the-variants.{Boolean, Vector}
 use Rattle.basics.specs.declared.Outcome.the-variants as outcome
-use Rattle.alf.specs.Refusals.{Order, Passed, Comes}
+use Rattle.alf.specs.Refusals.{Order, Passed, Comes, Rising}
 use Rattle.changes.specs.declared.RowChanges.{RowChanges}
 use Rattle.changes.specs.declared.RowChanges.the-variants as row-changes
 use Rattle.changes.specs.Call as changes
@@ -27,14 +28,15 @@ use Rattle.matching_calls.specs.declared.matching.Matching.the-variants as matc
 use Rattle.matching_calls.specs.declared.matching.Counting.{Counting}
 use Rattle.matching_calls.specs.declared.matching.Counting.the-variants as counting
 use Rattle.judging.specs.Orders.{Rows, rowOrder, rowsOrder, traceOrder}
+use Rattle.judging.specs.TimedOrders.{timedOrder, timedRowOrder}
 use Rattle.row_calls.specs.Written.{Tells, RowState, RowValue, AllValues, RowAnswer}
 use Rattle.basics.specs.Memory.{after}
 use Rattle.row_calls.specs.Windows.{WindowAnswer}
-use Rattle.matching_calls.specs.Matching.{Finds, Counts, RowMatch, AllMatched, RowTotals}
-use Rattle.call_laws.proofs.Routes.{codes-never, row-passed, codes-passed}
+use Rattle.matching_calls.specs.Matching.{Finds, Counts, Lent, RowMatch, AllMatched, RowTotals}
+use Rattle.call_laws.proofs.Passing.{codes-never, row-passed, codes-passed, timed-passed, timed-row-passed}
 use Rattle.demands.proofs.Demand1.{demand-1}
 use Rattle.shut_out.specs.Reasons.{IsRefusal, Exactly}
-use Rattle.shut_out.proofs.Reasons.{exactly, comes-parts, None, Two, both}
+use Rattle.shut_out.proofs.Reasons.{exactly, comes-parts, None, Four, both}
 
 -- a result that is told, found, counted, changed: not refused, or a refusal
 tells-parts : (o : Order) (a : ℕ) (x : Told) → Tells o a x → Passed o ⊎ IsRefusal told.Refused x
@@ -42,7 +44,7 @@ unfolding Tells
 tells-parts o a (told.Answered b) w = inl (w .0)
 tells-parts o a (told.Refused r) w = inr (r, refl)
 
-pub finds-parts : (o : Order) (right : Answer → ℕ → Type 0) (x : Matching) → Finds o right x
+pub finds-parts : (o : Order) (right : Answer → ℕ → Began → Type 0) (x : Matching) → Finds o right x
     → Passed o ⊎ IsRefusal matching.Refused x
 unfolding Finds
 finds-parts o right (matching.Found m) w = inl (w .0)
@@ -69,6 +71,21 @@ pub record GoodRows (ρ : Rules) (names n : ℕ) (lent : Type 0) (tree : List �
   pub trace : GoodTrace names n states
   pub accepted : Accepted ρ names sort tree
   pub room : lent
+
+-- times of the rows that rise; a row with them; all rows, and lists for what is told of them
+pub record GoodTimes (n : ℕ) (times : List ℕ) : Type 0 where
+  pub all : length times ≡ n
+  pub rising : Rising times
+
+pub record TimedRow (ρ : Rules) (names n : ℕ) (tree times states : List ℕ) (row : ℕ) : Type 0 where
+  pub good : GoodRow ρ names n tree Vector states row
+  pub stamps : GoodTimes n times
+
+pub record TimedRows (ρ : Rules) (names n : ℕ) (tree times states answers tried given began : List ℕ) : Type 0 where
+  pub trace : GoodTrace names n states
+  pub accepted : Accepted ρ names Vector tree
+  pub rising : Rising times
+  pub room : Lent n (length times) (length answers) (length tried) (length given) (length began)
 
 -- The changes of a row.
 module _ (names n : ℕ) (states : List ℕ) (row : ℕ) where
@@ -145,16 +162,20 @@ module _ {ρ : Rules} (names n : ℕ) (tree states : List ℕ) where
           one = both (demand-1 .row-answer names n tree states row);
         })
 
-    pub match-row : Exactly {M = None} (GoodRow ρ names n tree Vector states row)
-        (rowOrder ρ names n tree Vector states row) matching.Refused (λ r m. RowMatch ρ names n tree states row r) tt
+    pub match-row : (times : List ℕ) → Exactly {M = None} (TimedRow ρ names n tree times states row)
+        (timedRowOrder ρ names n tree times states row) matching.Refused
+        (λ r m. RowMatch ρ names n tree times states row r) tt
     unfolding Finds
-    match-row =
-        exactly (row-passes Vector row)
+    match-row times =
+        exactly
+        (λ g.
+        timed-row-passed states times n row (g .stamps .all, g .good .trace .lists) (g .good .accepted)
+        (g .good .trace .codes) (g .stamps .rising) (g .good .there))
         (record {
           reason = λ r m w. w .comes;
           parts = λ x m w. finds-parts _ _ x (w .comes);
           refuses = λ r h. record { comes = h };
-          one = both (demand-1 .match-row names n tree states row);
+          one = both (demand-1 .match-row names n tree times states row);
         })
 
   pub window-answer : (from to : ℕ) → Exactly {M = None} (GoodRow ρ names n tree Vector states (max from to))
@@ -183,18 +204,28 @@ module _ {ρ : Rules} (names n : ℕ) (tree states : List ℕ) where
         one = demand-1 .values names n tree states out .one;
       })
 
-  pub match-all : (answers tried : List ℕ)
-      → Exactly {M = Two} (GoodRows ρ names n ((length answers ≡ n) × (length tried ≡ n)) tree Vector states)
-      (rowsOrder ρ names n ((length answers ≡ n) × (length tried ≡ n)) tree Vector states) outcome.Refused
-      (λ r m. AllMatched ρ names n tree states answers tried (m .0) (m .1) r) (answers, tried)
+  pub match-all : (times answers tried given began : List ℕ)
+      → Exactly {M = Four} (TimedRows ρ names n tree times states answers tried given began)
+      (timedOrder ρ names n (Lent n (length times) (length answers) (length tried) (length given) (length began)) tree
+      times states) outcome.Refused
+      (λ r m. AllMatched ρ names n tree times states answers tried given began (m .0) (m .1) (m .2) (m .3) r)
+      (answers, tried, given, began)
   unfolding Comes after
-  match-all answers tried =
-      exactly (rows-pass Vector ((length answers ≡ n) × (length tried ≡ n)))
+  match-all times answers tried given began =
+      exactly
+      (λ g. timed-passed states times (g .room, g .trace .lists) (g .accepted) (g .trace .codes) (g .rising))
       (record {
         reason = λ r m w. w .comes;
         parts = λ x m w. comes-parts _ _ x (w .comes);
-        refuses = λ r h. record { comes = h; answers-memory = refl; tried-memory = refl };
-        one = demand-1 .match-all names n tree states answers tried .one;
+        refuses = λ r h.
+            record {
+              comes = h;
+              answers-memory = refl;
+              tried-memory = refl;
+              given-memory = refl;
+              began-memory = refl;
+            };
+        one = demand-1 .match-all names n tree times states answers tried given began .one;
       })
 
   totals-pass : GoodRows ρ names n (Unit {0}) tree Vector states → Passed (traceOrder ρ names n tree Vector states)

@@ -14,7 +14,7 @@ use Rattle.alf.specs.Refusals.{Passed, Comes}
 use Rattle.acceptance.specs.Accepted.{Accepted}
 use Rattle.states.specs.FirstBadCode.{Codes}
 use Rattle.judging.specs.Orders.{Rows}
-use Rattle.call_laws.proofs.Routes.{codes-never}
+use Rattle.call_laws.proofs.Passing.{codes-never}
 use Rattle.matching_calls.specs.Matching.{expression}
 use Rattle.tree_listings.specs.TreeTexts.{patternListing, totalsLine, textOrder, ListsTree, LinesTree}
 use Rattle.demands.proofs.Demand1.{demand-1}

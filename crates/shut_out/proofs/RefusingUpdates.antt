@@ -12,14 +12,14 @@ use Rattle.alf.specs.declared.Sort.the-variants.{Vector}
 use Rattle.basics.specs.declared.Outcome.the-variants as outcome
 use Rattle.alf.specs.Refusals.{Passed, Comes}
 use Rattle.acceptance.specs.Accepted.{Accepted}
-use Rattle.queue.specs.declared.queues.Queue.{Queue}
+use Rattle.timed_queue.specs.declared.queues.Queue.{Queue}
 use Rattle.states.specs.FirstBadCode.{Codes}
 use Rattle.matching_calls.specs.declared.matching.Matching.{Matching}
 use Rattle.matching_calls.specs.declared.matching.Matching.the-variants as matching
 use Rattle.basics.specs.Memory.{after}
 use Rattle.update_calls.specs.Correcting.{correctionOrder, Correction}
-use Rattle.queue_calls.specs.Pushing.{RowFits, Handed, pushOrder, Takes, Push}
-use Rattle.call_laws.proofs.Routes.{codes-never, codes-passed}
+use Rattle.queue_calls.specs.Pushing.{Early, RowFits, Handed, pushOrder, Takes, Push}
+use Rattle.call_laws.proofs.Passing.{codes-never, push-passed}
 use Rattle.demands.proofs.Demand1.{demand-1}
 use Rattle.shut_out.specs.Reasons.{IsRefusal, Exactly}
 use Rattle.shut_out.proofs.Reasons.{exactly, comes-parts, Two}
@@ -62,26 +62,27 @@ module _ (ρ : Rules) (names n : ℕ) (tree states : List ℕ) where
         })
 
 -- The queue.
-module _ (ρ : Rules) (names : ℕ) (tree : List ℕ) (queue : Queue) (row : List ℕ) where
+module _ (ρ : Rules) (names : ℕ) (tree : List ℕ) (queue : Queue) (time : ℕ) (row : List ℕ) where
   pub record Pushable : Type 0 where
     pub handed : Handed ρ names tree queue
     pub fits : RowFits names (length row)
     pub codes : Codes row
+    pub above : Early queue time → ⊥
 
-  takes-parts : (x : Matching) (q : Queue) → Takes ρ names tree queue row x q
-      → Passed (pushOrder ρ names tree queue row) ⊎ IsRefusal matching.Refused x
+  takes-parts : (x : Matching) (q : Queue) → Takes ρ names tree queue time row x q
+      → Passed (pushOrder ρ names tree queue time row) ⊎ IsRefusal matching.Refused x
   unfolding Takes
   takes-parts (matching.Found m) q w = inl (w .0)
   takes-parts (matching.Refused r) q w = inr (r, refl)
 
-  pub push : Exactly Pushable (pushOrder ρ names tree queue row) matching.Refused
-      (λ r q. Push ρ names tree queue row r q) queue
+  pub push : Exactly Pushable (pushOrder ρ names tree queue time row) matching.Refused
+      (λ r q. Push ρ names tree queue time row r q) queue
   unfolding Takes
   push =
-      exactly (λ g. codes-passed row (g .fits) (g .handed) (g .codes))
+      exactly (λ g. push-passed queue time row (g .fits) (g .handed) (g .codes) (g .above))
       (record {
         reason = λ r q w. w .comes .0;
         parts = λ x q w. takes-parts x q (w .comes);
         refuses = λ r h. record { comes = (h, refl) };
-        one = demand-1 .push names tree queue row .one;
+        one = demand-1 .push names tree queue time row .one;
       })

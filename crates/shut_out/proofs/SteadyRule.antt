@@ -59,8 +59,8 @@ never-at {ρ} {p} a v e h differ =
     let right = ap (λ (q : Vector). at ρ q 5) e ∙ h in
     record {
       row-answer = λ w. differ (w .comes .1 ∙ right);
-      match-row = λ t w. differ (w .comes .1 .is ∙ right);
-      match-all = λ answers tried answers′ tried′ k w d.
+      match-row = λ t b w. differ (w .comes .1 .is ∙ right);
+      match-all = λ answers tried given began answers′ tried′ given′ began′ k w d.
           differ (sym d ∙ ap (λ (l : List ℕ). getD l 5 0) (w .answers-memory) ∙ right);
     }
 

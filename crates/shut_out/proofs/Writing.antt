@@ -24,7 +24,7 @@ use Rattle.trace_format.specs.Format.{Trace, fileOf}
 use Rattle.trace_reader.specs.Reading.{Reads}
 use Rattle.trace_laws.proofs.RoundTrips.{read-write}
 use Rattle.rewriting_calls.specs.Calls.{Rewrites}
-use Rattle.queue.specs.declared.queues.Queue.{Queue}
+use Rattle.timed_queue.specs.declared.queues.Queue.{Queue}
 use Rattle.matching_calls.specs.declared.matching.Matching.the-variants as matching
 use Rattle.matching_calls.specs.Matching.{AllMatched}
 use Rattle.queue_calls.specs.Pushing.{Push}
@@ -87,12 +87,12 @@ module _ {names tree : List ℕ} {sort : Sort} {out out′ : List ℕ} {e : Refu
   pub wrote-and-refused : writing.Writes names tree sort out out′ (Refused e) → (out′ ≡ out → ⊥) → ⊥
   wrote-and-refused w differ = differ (demand-1 {ρ = oldRules} .write-expression names tree sort out .stays e out′ w)
 
-pub matched-and-refused : {ρ : Rules} {k n : ℕ} {tree codes answers tried answers′ tried′ : List ℕ} {e : Refusal}
-    → AllMatched ρ k n tree codes answers tried answers′ tried′ (Refused e)
-    → ((answers′ ≡ answers) × (tried′ ≡ tried) → ⊥) → ⊥
-matched-and-refused {ρ} {k} {n} {tree} {codes} {answers} {tried} {answers′} {tried′} {e} w differ =
-    let s = demand-1 {ρ = ρ} .match-all k n tree codes answers tried .stays e (answers′, tried′) w in
-    differ (ap (λ (p : Two). p .0) s, ap (λ (p : Two). p .1) s)
+pub matched-and-refused : (ρ : Rules) (k n : ℕ) (tree times codes answers tried given began : List ℕ) (m : Four)
+    (e : Refusal)
+    → AllMatched ρ k n tree times codes answers tried given began (m .0) (m .1) (m .2) (m .3) (Refused e)
+    → (m ≡ (answers, tried, given, began) → ⊥) → ⊥
+matched-and-refused ρ k n tree times codes answers tried given began m e w differ =
+    differ (demand-1 {ρ = ρ} .match-all k n tree times codes answers tried given began .stays e m w)
 
 pub corrected-and-refused : {ρ : Rules} {k n : ℕ} {tree codes answers : List ℕ} {row : ℕ}
     {new codes′ answers′ : List ℕ} {e : Refusal}
@@ -123,8 +123,8 @@ rewrote-and-refused {ρ} {k} {tree} {s} {t} {e} {o} {s′} {t′} {e′} {o′} 
       ap (λ (x : Four). x .3) p,
     )
 
-pub pushed-and-refused : {ρ : Rules} {k : ℕ} {tree : List ℕ} {queue : Queue} {row : List ℕ} {queue′ : Queue}
+pub pushed-and-refused : {ρ : Rules} {k : ℕ} {tree : List ℕ} {queue : Queue} {time : ℕ} {row : List ℕ} {queue′ : Queue}
     {e : Refusal}
-    → Push ρ k tree queue row (matching.Refused e) queue′ → (queue′ ≡ queue → ⊥) → ⊥
-pushed-and-refused {ρ} {k} {tree} {queue} {row} {queue′} {e} w differ =
-    differ (demand-1 {ρ = ρ} .push k tree queue row .stays e queue′ w)
+    → Push ρ k tree queue time row (matching.Refused e) queue′ → (queue′ ≡ queue → ⊥) → ⊥
+pushed-and-refused {ρ} {k} {tree} {queue} {time} {row} {queue′} {e} w differ =
+    differ (demand-1 {ρ = ρ} .push k tree queue time row .stays e queue′ w)

@@ -50,13 +50,16 @@ pub struct Answered {
     pub answer: u8,
 }
 
-// The same, and the number of alternatives tried.
+// The same, the number of alternatives tried, and the time where the match began: `given` is 1 where there is one, and
+// else both are 0.
 #[repr(C)]
 pub struct Matched {
     pub number: u8,
     pub place: usize,
     pub answer: u8,
     pub tries: u32,
+    pub given: u8,
+    pub began: u64,
 }
 
 // The totals: refused, or how many rows answer yes, no and unknown.
@@ -69,20 +72,23 @@ pub struct Counted {
     pub unknown: u32,
 }
 
-// A queue: how many rows it keeps, and their states, oldest first, with zeros behind them.
+// A queue: how many rows it keeps, their states and their times, oldest first, with zeros behind them.
 #[repr(C)]
 pub struct Queue {
     pub kept: u32,
     pub states: [u8; 512],
+    pub times: [u64; 16],
 }
 
-// What came of a push: refused, or the answer of the row pushed and the number tried; and the queue then, which is the
-// one handed in where the push is refused.
+// What came of a push: refused, or the answer of the row pushed, the number tried and the time where its match began;
+// and the queue then, which is the one handed in where the push is refused.
 #[repr(C)]
 pub struct Pushed {
     pub number: u8,
     pub place: usize,
     pub answer: u8,
     pub tries: u32,
+    pub given: u8,
+    pub began: u64,
     pub queue: Queue,
 }

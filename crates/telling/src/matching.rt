@@ -1,4 +1,5 @@
-// An answer with the number of alternatives tried, totals, a queue, and what came of a push.
+// An answer with the number of alternatives tried and the time where the match began, totals, a queue, and what came of
+// a push.
 ghost use mathlib.Core.Path.{_≡_};
 ghost use Rattle.telling.specs.Matching.{toldMatch, toldCounts, queueOf, toldPush};
 use crate::Counted;
@@ -6,6 +7,8 @@ use crate::Matched;
 use crate::Pushed;
 use crate::Queue;
 use alf::RowNo;
+use beginnings::times::given_of;
+use beginnings::times::time_of;
 use matcher::tables::number_of;
 use matching_calls::matching::Counting;
 use matching_calls::matching::Matching;
@@ -17,13 +20,18 @@ pub fn tell_match(o: Matching) -> Matched
     match o {
         Matching::Found(m) => {
             let a = m.answer;
+            let b = m.began;
             let tries = m.tries;
             let answer = number_of(a);
+            let given = given_of(b);
+            let began = time_of(b);
             Matched {
                 number: 0,
                 place: 0,
                 answer,
                 tries,
+                given,
+                began,
             }
         }
         Matching::Refused(r) => Matched {
@@ -31,6 +39,8 @@ pub fn tell_match(o: Matching) -> Matched
             place: r.place,
             answer: 0,
             tries: 0,
+            given: 0,
+            began: 0,
         },
     }
 }
@@ -56,14 +66,16 @@ pub fn tell_counts(o: Counting) -> Counted
     }
 }
 
-pub fn queue_of(q: Queue) -> queue::queues::Queue
+pub fn queue_of(q: Queue) -> timed_queue::queues::Queue
     ensures { λ r. ⌜ r ≡ queueOf q ⌝ }
 {
     let states = q.states;
-    queue::queues::Queue {
+    let times = q.times;
+    let rows = queue::queues::Queue {
         kept: RowNo(q.kept),
         states,
-    }
+    };
+    timed_queue::queues::Queue { rows, times }
 }
 
 pub fn tell_push(p: Pushing) -> Pushed
@@ -72,17 +84,22 @@ pub fn tell_push(p: Pushing) -> Pushed
     let told = p.told;
     let next = p.queue;
     let m = tell_match(told);
-    let kept = next.kept;
-    let states = next.states;
+    let rows = next.rows;
+    let times = next.times;
+    let kept = rows.kept;
+    let states = rows.states;
     let queue = Queue {
         kept: kept.0,
         states,
+        times,
     };
     Pushed {
         number: m.number,
         place: m.place,
         answer: m.answer,
         tries: m.tries,
+        given: m.given,
+        began: m.began,
         queue,
     }
 }

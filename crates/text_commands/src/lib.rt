@@ -1,9 +1,10 @@
 // The commands `list`, `values` and `rewrite`, which ask one text. Each text that is printed is made by a call of
-// `row_listings` or `alternative_listings`.
+// `row_listings`, `began_texts` or `alternative_listings`.
 use alf::Rules;
 use alternative_listings::texts::alternatives_text;
 use basics::Outcome;
 use basics::Refusal;
+use began_texts::listings::list_began_text;
 use complaints::refused;
 use complaints::refused_text;
 use console::output::complain;
@@ -14,10 +15,13 @@ use loading::files::take_argument;
 use row_listings::listings::list_text;
 use row_listings::listings::values_text;
 
-// What is asked of the text: its answers, its values, or else its alternatives.
+// What is asked of the text: its answers, its values, its answers with where each match began, or else its
+// alternatives.
 pub const LIST: usize = 1;
 
 pub const VALUES: usize = 2;
+
+pub const BEGAN: usize = 12;
 
 fn complain_of(what: &[u8], text: &[u8], r: Refusal) {
     if r.number < 9 {
@@ -75,6 +79,9 @@ fn ask(
     }
     if c == VALUES {
         return values_text(rules, names, times, states, text, out);
+    }
+    if c == BEGAN {
+        return list_began_text(rules, names, times, states, text, out);
     }
     rewrite(rules, names, text, out)
 }

@@ -1,50 +1,75 @@
 -- `listed::match_all` meets its contract.
-use Rattle.listed_calls.proofs.Calls.{all-asked, all-refused, all-told}
+use Rattle.listed_calls.proofs.Calls.{all-asked, all-refused, all-marks, all-told}
 use borrow.Author.Needs.{needs}
 use Rattle.listed_calls.proofs.listed.match_all.Statement.{statement}
 use Rattle.listed_calls.proofs.listed.match_all.Tie as tie
 
-enum-told : tie.Need-enum-told
-enum-told c = search needs
-
 match-all-requires : tie.Need-match-all-requires
 match-all-requires c κs =
-    let c4 = c .before .before .before .before in
-    let c6 = c4 .before .before in
-    let args = c6 .before .before .before .before .before .before .before .before .before .before .args in
-    all-asked (c4 .before .fits2 .ensures) (args .answers .now) (args .tried .now) _ (c6 .before .both-are .ensures)
-    (c6 .lists-fit .ensures) (c4 .judge .ensures) (c .before .before .enum-told .given .1)
+    let told = c .before .before in
+    let judged = told .before .before in
+    let fitted = judged .before .before in
+    let args = fitted .before .before .before .before .before .before .before .before .before .before .before .before
+    .before .args in
+    all-asked (judged .before .fits2 .ensures) (args .times .now) (args .answers .now) (args .tried .now)
+    (args .given .now) (args .began .now) _
+    (fitted .before .lists-are .ensures) (fitted .lists-fit .ensures) (judged .judge-timed .ensures)
+    (told .enum-told .given .1) .asked
+
+mark-requires : tie.Need-mark-requires
+mark-requires c κs =
+    let filled = c .before .before .before .before .before .before .before .before in
+    let told = filled .before .before .before in
+    let judged = told .before .before in
+    let fitted = judged .before .before in
+    let args = fitted .before .before .before .before .before .before .before .before .before .before .before .before
+    .before .args in
+    all-marks _
+    (all-asked (judged .before .fits2 .ensures) (args .times .now) (args .answers .now) (args .tried .now)
+    (args .given .now) (args .began .now) _
+    (fitted .before .lists-are .ensures) (fitted .lists-fit .ensures) (judged .judge-timed .ensures)
+    (told .enum-told .given .1)) (filled .match-all .ensures)
 
 returns : tie.Need-returns
 returns c =
-    let c3 = c .before .before .before in
-    let c5 = c3 .before .before in
-    let args = c5 .before .before .before .before .before .before .before .before .before .before .args in
-    all-refused (c3 .before .fits2 .ensures) (args .answers .now) (args .tried .now) _ (c5 .before .both-are .ensures)
-    (c5 .lists-fit .ensures) (c3 .judge .ensures) (c .before .v .given .1)
+    let judged = c .before .before .before in
+    let fitted = judged .before .before in
+    let args = fitted .before .before .before .before .before .before .before .before .before .before .before .before
+    .before .args in
+    all-refused (judged .before .fits2 .ensures) (args .times .now) (args .answers .now) (args .tried .now)
+    (args .given .now) (args .began .now) _
+    (fitted .before .lists-are .ensures) (fitted .lists-fit .ensures) (judged .judge-timed .ensures)
+    (c .before .v .given .1)
 
 returns-2 : tie.Need-returns-2
 returns-2 c =
-    let told = c .before .before .before .before in
-    let c9 = told .before .before .before .before .before in
-    let c11 = c9 .before .before in
-    let args = c11 .before .before .before .before .before .before .before .before .before .before .args in
-    all-told (c9 .before .fits2 .ensures) (args .answers .now) (args .tried .now) _ (c11 .before .both-are .ensures)
-    (c11 .lists-fit .ensures) (c9 .judge .ensures)
-    (told .before .before .before .enum-told .given .1) (told .match-all .ensures)
+    let marked = c .before .before .before .before in
+    let filled = marked .before .before .before .before .before .before .before .before .before in
+    let told = filled .before .before .before in
+    let judged = told .before .before in
+    let fitted = judged .before .before in
+    let args = fitted .before .before .before .before .before .before .before .before .before .before .before .before
+    .before .args in
+    all-told (judged .before .fits2 .ensures) (args .times .now) (args .answers .now) (args .tried .now)
+    (args .given .now) (args .began .now) _
+    (fitted .before .lists-are .ensures) (fitted .lists-fit .ensures) (judged .judge-timed .ensures)
+    (told .enum-told .given .1) (filled .match-all .ensures) (marked .mark .ensures)
 
 pub match-all-spec : {M : Type 1} → statement M
 match-all-spec =
     tie.close
     (tie.spec
-    (λ c κs. search needs)  -- both-are-requires
+    (λ c κs. search needs)  -- lists-are-requires
     (λ c κs. search needs)  -- lists-fit-requires
     (λ c κs. search needs)  -- fits-requires
-    (λ c κs. search needs)  -- judge-requires
+    (λ c κs. search needs)  -- judge-timed-requires
     (λ c. search needs)  -- enum-known-v
-    enum-told
+    (λ c. search needs)  -- enum-told
     match-all-requires
+    mark-requires
     returns
     (λ c. search needs)  -- same-length
     (λ c. search needs)  -- same-length-2
+    (λ c. search needs)  -- same-length-3
+    (λ c. search needs)  -- same-length-4
     returns-2)

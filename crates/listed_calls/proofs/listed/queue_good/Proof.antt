@@ -2,7 +2,7 @@
 use native.Mathlib.Omega.{arith}
 use Rattle.basics.proofs.Deciding.{said, decided-no, told}
 use Rattle.listed_acceptance.proofs.Acceptance.{accepted-short}
-use Rattle.listed_calls.proofs.Calls.{queue-many, queue-lists, longest-here, queue-kept}
+use Rattle.listed_calls.proofs.QueueCalls.{queue-many, queue-lists, longest-here, queue-kept}
 use borrow.Author.Needs.{needs}
 use Rattle.listed_calls.proofs.listed.queue_good.Statement.{statement}
 use Rattle.listed_calls.proofs.listed.queue_good.Tie as tie

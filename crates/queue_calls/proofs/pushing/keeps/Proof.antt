@@ -1,45 +1,25 @@
--- `pushing::keeps` meets its contract: what a queue of at most 16 rows keeps stands in its array.
+-- `pushing::keeps` meets its contract.
 use native.Mathlib.Omega.{arith}
-use mathlib.Core.Path.{_≡_, sym}
-use lib.ListN.{length}
-use Rattle.queue_calls.proofs.Pushes.{held-fits, held-whole, keeps-not, keeps-decided}
+use Rattle.basics.proofs.Deciding.{decided-no, decided-yes}
+use Rattle.queue_calls.proofs.QueuesKept.{kept-not, kept-decided}
 use borrow.Author.Needs.{needs}
 use Rattle.queue_calls.proofs.pushing.keeps.Statement.{statement}
 use Rattle.queue_calls.proofs.pushing.keeps.Tie as tie
 
 returns : tie.Need-returns
-returns c = keeps-not _ _ _ (c .if1 .taken)
+returns c = kept-not (c .before .before .before .args .queue)
+    (decided-no _ (c .before .rows-good .ensures) (c .if1 .taken))
 
-mul-end : tie.Need-mul-end
-mul-end c = let start = c .before .before .before in omega
-    (arith, held-fits (start .args .queue) (start .pre) (c .if1 .left))
-
-array-share-prefix-states : tie.Need-array-share-prefix-states
-array-share-prefix-states c =
-    let start = c .before .before .before .before in
-    let e : length (start .args .queue .states) ≡ 512 = search needs in
-    omega (arith, e, held-fits (start .args .queue) (start .pre) (c .before .if1 .left))
-
-slice-aggregate-first-bad-code : tie.Need-slice-aggregate-first-bad-code
-slice-aggregate-first-bad-code c =
-    let start = c .before .before .before .before .before in
-    sym (held-whole (start .args .queue) (start .pre) (c .before .before .if1 .left) (search needs))
+times-good-requires : tie.Need-times-good-requires
+times-good-requires c κs =
+    let kept = decided-yes _ (c .before .rows-good .ensures) (c .if1 .left) in
+    omega (arith, kept .few, c .before .before .before .pre .few)
 
 returns-2 : tie.Need-returns-2
 returns-2 c =
-    let tested = c .before .before .before in
-    let start = tested .before .before .before in
-    keeps-decided _ _ (start .args .queue) (tested .if1 .left)
-    (held-whole (start .args .queue) (start .pre) (tested .if1 .left) (search needs)) (c .first-bad-code .ensures)
+    let tested = c .before in
+    kept-decided (tested .before .before .before .args .queue) _
+    (decided-yes _ (tested .before .rows-good .ensures) (tested .if1 .left)) (c .times-good .ensures)
 
 pub keeps-spec : {M : Type 1} → statement M
-keeps-spec =
-    tie.close
-    (tie.spec
-    (λ c. search needs)  -- cast-rows
-    returns
-    mul-end
-    array-share-prefix-states
-    slice-aggregate-first-bad-code
-    (λ c κs. search needs)  -- first-bad-code-requires
-    returns-2)
+keeps-spec = tie.close (tie.spec (λ c κs. search needs) returns times-good-requires returns-2)

@@ -6,10 +6,10 @@ use Rattle.run_calls.proofs.queues.by_queue.Statement.{statement}
 use Rattle.run_calls.proofs.queues.by_queue.Tie as tie
 
 abbrev Inv-loop : tie.InvT-loop
-Inv-loop ρ names tree states queue₀ at₀ queue at = at ≤ length states
+Inv-loop ρ names tree early states queue₀ row₀ at₀ queue row at = at ≤ length states
 
 abbrev μ-loop : tie.MeasureT-loop
-μ-loop ρ names tree states queue₀ at₀ queue at = length states - at
+μ-loop ρ names tree early states queue₀ row₀ at₀ queue row at = length states - at
 
 pub by-queue-spec : {M : Type 1} → statement M
 by-queue-spec =
@@ -22,11 +22,13 @@ by-queue-spec =
     (λ c. search needs)  -- loop-holds
     (λ c. search needs)  -- sub-loop
     (λ c. search needs)  -- add-next
+    (λ c κs. search needs)  -- time-of-requires
     (λ c. search needs)  -- sub-push
     (λ c. search needs)  -- part-push-start
     (λ c. search needs)  -- part-push-end
     (λ c κs. search needs)  -- push-requires
     (λ c κs. search needs)  -- matching-requires
+    (λ c κs. search needs)  -- next-row-requires
     (λ c. search needs)  -- loop-less
     (λ c. search needs)  -- loop-again
     (λ c. search needs))  -- returns-2

@@ -5,10 +5,10 @@ use Rattle.run_calls.proofs.rows.at_rows.Statement.{statement}
 use Rattle.run_calls.proofs.rows.at_rows.Tie as tie
 
 abbrev Inv-loop : tie.InvT-loop
-Inv-loop ρ call names n tree states from i₀ i = Unit {0}
+Inv-loop ρ call names n tree times states from i₀ i = Unit {0}
 
 abbrev μ-loop : tie.MeasureT-loop
-μ-loop ρ call names n tree states from i₀ i = n - i
+μ-loop ρ call names n tree times states from i₀ i = n - i
 
 pub at-rows-spec : {M : Type 1} → statement M
 at-rows-spec =

@@ -12,6 +12,10 @@ tell-match-spec =
     (tie.spec
     (λ c. search needs)  -- enum-known-o
     (λ c κs. search needs)  -- number-of-requires
+    (λ c κs. search needs)  -- given-of-requires
+    (λ c κs. search needs)  -- time-of-requires
     (λ c. search needs)  -- enum-known-o-2
-    (λ c. rw (c .number-of .ensures) (ap toldMatch (sym (c .before .before .o .given .1))))  -- returns
+    (λ c.
+    rw (c .before .before .number-of .ensures, c .before .given-of .ensures, c .time-of .ensures)
+    (ap toldMatch (sym (c .before .before .before .before .o .given .1))))  -- returns
     (λ c. ap toldMatch (sym (c .before .o2 .given .1))))  -- returns-2

@@ -11,4 +11,4 @@ tell-push-spec =
     tie.close
     (tie.spec
     (λ c κs. search needs)  -- tell-match-requires
-    (λ c. rw (c .before .before .tell-match .ensures) refl))  -- returns
+    (λ c. rw (c .before .before .before .before .tell-match .ensures) refl))  -- returns

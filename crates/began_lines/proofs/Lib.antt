@@ -1,0 +1,4 @@
+-- The laws of the listing with where each match began.
+pub mod ThirdColumn
+pub mod Columns
+pub mod RowTexts

@@ -1,0 +1,2 @@
+-- The listing with where each match began.
+pub mod BeganListing

@@ -1,0 +1,2 @@
+// A line of the listing that also tells where each match began.
+pub mod lines;

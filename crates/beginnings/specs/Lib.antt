@@ -1,0 +1,3 @@
+-- Where the matches began: what is asked and promised.
+pub mod Times
+pub mod Dated

@@ -1,0 +1,3 @@
+-- What the queue with times promises.
+pub mod Stamps
+pub mod TimedQueues
