@@ -1,0 +1,6 @@
+-- The laws of this crate.
+pub mod Named
+pub mod FilledNames
+pub mod PinsAlone
+pub mod Blanking
+pub mod Calls

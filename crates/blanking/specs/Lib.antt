@@ -1,0 +1,2 @@
+-- What an answer depends on (document 02, [11]): definitions.
+pub mod Pins

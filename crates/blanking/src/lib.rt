@@ -1,0 +1,1 @@
+// Theorems alone: what an answer depends on (document 02, [11]).
