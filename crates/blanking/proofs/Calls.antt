@@ -3,8 +3,9 @@
 -- tried. For any rules, times and numbers of rows.
 --   row-answer, match-row, match-all, push     by a tree
 --   totals                                     the totals of a trace and of the overwritten one
---   listed-match-row, listed-push              by alternatives handed in
-use Prim.Native.Nat.{ℕ, _<_}
+--   sent-row                                   a row of a trace, and the last row of what is sent for it
+--   listed-match-row, listed-match-all, listed-push     by alternatives handed in
+use Prim.Native.Nat.{ℕ, _<_, min}
 use native.Mathlib.Nat.{zero-add}
 use mathlib.Core.Path.{_≡_, ap, sym, _∙_}
 use mathlib.Core.Bool.{Bool, true}
@@ -16,7 +17,8 @@ use Rattle.basics.specs.Words as listed-words
 use Rattle.basics.proofs.Listed.{listed-at}
 use Rattle.alf.specs.declared.Rules.{Rules}
 use Rattle.alf.specs.declared.Answer.{Answer}
-use Rattle.alf.specs.Alternatives.{stepsOf}
+use Rattle.alf.specs.Values.{stateAt}
+use Rattle.alf.specs.Alternatives.{stepsOf, answerOf, tries}
 use Rattle.alf.proofs.Answers.{number-same}
 use Rattle.alternatives.specs.InMemory.{alternativesOf, longestOf}
 use Rattle.beginnings.specs.declared.times.Dated.{Dated}
@@ -32,11 +34,15 @@ use Rattle.matcher.specs.declared.tables.Total.{Total}
 use Rattle.trees.specs.Parts.{vectorAt}
 use Rattle.queue_calls.specs.Pushing.{Takes, Push}
 use Rattle.listed_calls.specs.Listed as listed
-use Rattle.listed_calls.specs.Listed.{ListedMatch, ListedPush}
-use Rattle.blanking.specs.Pins.{namesIn, namesOf, SamePins, blanked}
+use Rattle.listed_calls.specs.Listed.{ListedMatch, ListedAll, ListedPush}
+use Rattle.blanking.specs.Pins.{namesIn, namesOf, SamePins, blanked, sent}
 use Rattle.blanking.proofs.FilledNames.{meant-named}
 use Rattle.blanking.proofs.PinsAlone.{fewer-pins, pins-answer, pins-tries, lists-answer, lists-tries}
-use Rattle.blanking.proofs.Blanking.{blanked-totals}
+use Rattle.blanking.proofs.Blanking.{sent-same, blanked-totals}
+
+-- an entry of a list from a rule
+entry : (n i : ℕ) (f : ℕ → ℕ) → i < n → getD (listed-words.listed 0 n f) i 0 ≡ f i
+entry n i f h = listed-at 0 n i f 0 h ∙ ap f (zero-add i)
 
 module _ (ρ : Rules) (k : ℕ) (tree : List ℕ) where
   -- two traces agree on the pins that the tree's expression names
@@ -75,16 +81,13 @@ module _ (ρ : Rules) (k : ℕ) (tree : List ℕ) where
       pub match-all : (getD a₁ i 0 ≡ getD a₂ j 0) × (getD t₁ i 0 ≡ getD t₂ j 0)
       unfolding after
       match-all = (
-        ap (λ (z : List ℕ). getD z i 0) (x .answers-memory) ∙ at n i (answersOn ρ k tree states) l ∙ answers
-            ∙ sym (at n′ j (answersOn ρ k tree states′) l′)
+        ap (λ (z : List ℕ). getD z i 0) (x .answers-memory) ∙ entry n i (answersOn ρ k tree states) l ∙ answers
+            ∙ sym (entry n′ j (answersOn ρ k tree states′) l′)
             ∙ sym (ap (λ (z : List ℕ). getD z j 0) (y .answers-memory)),
-        ap (λ (z : List ℕ). getD z i 0) (x .tried-memory) ∙ at n i (triesOn ρ k tree states) l ∙ counts
-            ∙ sym (at n′ j (triesOn ρ k tree states′) l′)
+        ap (λ (z : List ℕ). getD z i 0) (x .tried-memory) ∙ entry n i (triesOn ρ k tree states) l ∙ counts
+            ∙ sym (entry n′ j (triesOn ρ k tree states′) l′)
             ∙ sym (ap (λ (z : List ℕ). getD z j 0) (y .tried-memory)),
       )
-        where
-          at : (n i : ℕ) (f : ℕ → ℕ) → i < n → getD (listed-words.listed 0 n f) i 0 ≡ f i
-          at n i f h = listed-at 0 n i f 0 h ∙ ap f (zero-add i)
 
   -- what two queues keep, with the rows that are pushed
   module _ {q q′ : Queue} {row row′ : List ℕ}
@@ -112,6 +115,15 @@ module _ (ρ : Rules) (k : ℕ) (tree : List ℕ) where
           x .comes .1 .unknowns ∙ same 2 ∙ sym (y .comes .1 .unknowns),
         )
 
+    -- row i of a trace, and the last row of what is sent for it
+    pub sent-row : {n n′ i : ℕ} {times times′ states : List ℕ} {m m′ : Dated}
+        → RowMatch ρ k n tree times states i (Found m)
+        → RowMatch ρ k n′ tree times′ (sent pins other (stepsOf (expression ρ tree k)) k i states)
+        (min i (stepsOf (expression ρ tree k))) (Found m′)
+        → (m .answer ≡ m′ .answer) × (m .tries ≡ m′ .tries)
+    sent-row {i = i} {states = states} x y =
+        match-row (fewer-pins named (sent-same pins other k states below (stepsOf (expression ρ tree k)) i)) x y
+
 -- alternatives handed in, of which one has a step
 module _ (ρ : Rules) (k : ℕ) (tree steps tests edges operands : List ℕ)
     (some : 0 < longestOf (alternativesOf tree k steps tests edges operands)) where
@@ -133,6 +145,26 @@ module _ (ρ : Rules) (k : ℕ) (tree steps tests edges operands : List ℕ)
             ∙ sym (y .comes .1 .matches .is)),
         x .comes .1 .matches .count ∙ lists-tries ρ k states states′ i j xs some s
             ∙ sym (y .comes .1 .matches .count),
+      )
+
+  -- entry i of one pair of lists, entry j of the other
+  pub listed-match-all : {states states′ : List ℕ} {i j : ℕ} → ListsAlike states states′ i j
+      → {n n′ : ℕ} → i < n → j < n′
+      → {times a t g b a₁ t₁ g₁ b₁ times′ a′ t′ g′ b′ a₂ t₂ g₂ b₂ : List ℕ} {m m′ : ℕ}
+      → ListedAll ρ k n tree steps tests edges operands states times a t g b a₁ t₁ g₁ b₁ (Done m)
+      → ListedAll ρ k n′ tree steps tests edges operands states′ times′ a′ t′ g′ b′ a₂ t₂ g₂ b₂ (Done m′)
+      → (getD a₁ i 0 ≡ getD a₂ j 0) × (getD t₁ i 0 ≡ getD t₂ j 0)
+  unfolding after
+  listed-match-all {states} {states′} {i} {j} s {n} {n′} l l′ x y =
+      let xs = alternativesOf tree k steps tests edges operands in
+      let st = stateAt ρ k states in
+      let st′ = stateAt ρ k states′ in (
+        ap (λ (z : List ℕ). getD z i 0) (x .answers-memory) ∙ entry n i (answerOf st xs) l
+            ∙ lists-answer ρ k states states′ i j xs some s
+            ∙ sym (ap (λ (z : List ℕ). getD z j 0) (y .answers-memory) ∙ entry n′ j (answerOf st′ xs) l′),
+        ap (λ (z : List ℕ). getD z i 0) (x .tried-memory) ∙ entry n i (tries st xs) l
+            ∙ lists-tries ρ k states states′ i j xs some s
+            ∙ sym (ap (λ (z : List ℕ). getD z j 0) (y .tried-memory) ∙ entry n′ j (tries st′ xs) l′),
       )
 
   pub listed-push : {q q′ : Queue} {row row′ : List ℕ}
