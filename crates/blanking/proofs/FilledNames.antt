@@ -130,7 +130,8 @@ module _ (pins : ℕ → Bool) where
 
 pub filled-named : (p : Vector) (n : ℕ) → namesIn (filled p) n ≡ true → namesIn p n ≡ true
 filled-named p =
-    rw (filled-beside p) (part-inside (namesIn p) alone alone p (none-among (namesIn p)) (none-among (namesIn p)) (λ n e. e))
+    let none = none-among (namesIn p) in
+    rw (filled-beside p) (part-inside (namesIn p) alone alone p none none (λ n e. e))
 
 pub meant-named : (ρ : Rules) (p : Vector) (n : ℕ) → namesIn (meant ρ p) n ≡ true → namesIn p n ≡ true
 meant-named ρ p = meant-cases ρ p (λ q. (n : ℕ) → namesIn q n ≡ true → namesIn p n ≡ true) (λ n e. e) (filled-named p)
