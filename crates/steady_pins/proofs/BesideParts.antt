@@ -1,38 +1,26 @@
 -- What is beside a part of a chain, and the pins of an expression, by its last byte.
---   stepped-moving, stepped-still      a step, and then what is beside it
 --   then-front, step-front, stop-front     the row that an expression begins with; likewise for `back`
 --   step-marked, then-marked, before-marked, condition-marked, other-marked       the pins of an expression
-use Prim.Native.Nat.{ℕ, zero, suc, _-_, _*_, _<_, _≤_}
+use Prim.Native.Nat.{ℕ, zero, suc, _-_, _<_}
 use native.Mathlib.Omega.{arith}
 use mathlib.Core.Path.{_≡_, refl, ap, sym, _∙_}
 use mathlib.Core.Bool.{Bool, true, false, _&&_}
 use mathlib.Core.List.{List}
-use mathlib.Core.Logic.{_⊎_, inl, inr}
 use lib.ListN.{getD, length}
-use Rattle.basics.specs.Words.{if_then_else_}
-use Rattle.alf.specs.Expressions.{Vector, edge, join, while, on-right, on-left}
+use Rattle.alf.specs.Expressions.{Vector, edge, join, while}
 use Rattle.alf.specs.Expressions.{Join, followed-by, either-order, with-or-then, any-order, with, or-else}
-use Rattle.alf.specs.Bytes.{booleanBytes, vectorBytes}
-use Rattle.alf.specs.Decoder.{Stack, joinAt, isVector, topVector, topBoolean, under, stackAt}
-use Rattle.alf.specs.Steady.{isThen, isWith, isStep, moves}
-use Rattle.basics.proofs.Bools.{never, and-left, below?}
+use Rattle.alf.specs.Bytes.{vectorBytes}
+use Rattle.alf.specs.Decoder.{Stack, joinAt, isVector, topVector, stackAt}
+use Rattle.alf.specs.Steady.{isThen, isWith, isStep}
+use Rattle.basics.proofs.Bools.{never, and-left}
 use Rattle.alf.proofs.Made.{Made, a-name, a-literal, a-negation, a-binary, a-choice, an-edge, a-join}
 use Rattle.alf.proofs.Made.{a-condition, a-condition-before, nothing}
 use Rattle.alf.proofs.Parts.{made-last}
-use Rattle.trees.specs.Parts.{EndsVector, vectorAt, booleanAt, Start}
+use Rattle.trees.specs.Parts.{EndsVector, vectorAt, Start}
 use Rattle.trees.proofs.Vectors.{Joined, Conditioned, vector-pos, before-is, before-ends, join-is, ends-left}
 use Rattle.steady_pins.specs.declared.finding.Beside.{Beside}
-use Rattle.steady_pins.specs.Finding.{Tree, own, alone, stepped, front, back, stepMarked, marked}
+use Rattle.steady_pins.specs.Finding.{Tree, alone, stepped, front, back, stepMarked, marked}
 use Rattle.steady_pins.proofs.Starting.{vector-start, boolean-start}
-use Rattle.steady_pins.proofs.StepParts.{edge-step}
-
--- a step, and then what is beside it
-module _ (end : ℕ) (p : Vector) (r : Beside) {l : List ℕ} (e : l ≡ own end p (r .places)) where
-  pub stepped-moving : true ≡ moves p → record { places = l; changing = r .changing } ≡ stepped end p r
-  stepped-moving h = λ i. record { places = e i; changing = h i && r .changing }
-
-  pub stepped-still : false ≡ moves p → record { places = l; changing = false } ≡ stepped end p r
-  stepped-still h = λ i. record { places = e i; changing = h i && r .changing }
 
 -- whether an expression's last operator is `->`
 unfoldable pub isChain : Vector → Bool
@@ -142,14 +130,6 @@ module _ {t : List ℕ} {names end m : ℕ} (h : Tree t names end) (s : Start t 
 module _ {t : List ℕ} {names end : ℕ} (h : Tree t names end) where
   pub before-tree : getD t (end - 1) 0 ≡ 57 → Tree t names (end - 1)
   before-tree e = let few = h .few in record { ends = before-ends t names end (h .ends) e; few = omega arith }
-
-  -- what is no step is no edge
-  pub low-byte : isStep (vectorAt t names end) ≡ false → getD t (end - 1) 0 < 64
-  low-byte n = go (below? (getD t (end - 1) 0) 64)
-    where
-      go : (getD t (end - 1) 0 < 64) ⊎ (64 ≤ getD t (end - 1) 0) → getD t (end - 1) 0 < 64
-      go (inl l) = l
-      go (inr l) = never (sym n ∙ edge-step t names end (h .ends) l)
 
 -- by the last byte
 module _ (t : List ℕ) (names end : ℕ) (h : EndsVector t names end) where

@@ -1,23 +1,23 @@
 -- The pins of a tree are those of document 02, [2].
 --   found-means              a tree with its pins is what is meant: the filled expression where the rules say so
 --   found-pins               each pin is a place where a boolean expression ends
-use Prim.Native.Nat.{ℕ, zero, suc, _+_, _-_, _*_, _<_, _≤_}
+use Prim.Native.Nat.{ℕ, _≤_}
 use native.Mathlib.Omega.{arith}
-use mathlib.Core.Path.{_≡_, refl, ap, sym, _∙_}
+use mathlib.Core.Path.{_≡_, sym, _∙_}
 use mathlib.Core.Bool.{Bool, true, false}
 use mathlib.Core.List.{List}
-use lib.ListN.{length, getD, replicate, length-replicate}
+use lib.ListN.{replicate, length-replicate}
 use Rattle.basics.specs.Words.{if_then_else_}
 use Rattle.alf.specs.declared.Rules.{Rules}
-use Rattle.alf.specs.Expressions.{Boolean, Vector}
+use Rattle.alf.specs.Expressions.{Vector}
 use Rattle.alf.specs.Steady.{meant, filled}
 use Rattle.steady_laws.specs.Beside as filling
 use Rattle.steady_laws.proofs.Besides.{filled-beside}
-use Rattle.trees.specs.Parts.{EndsBoolean, EndsVector, vectorAt, booleanAt}
+use Rattle.trees.specs.Parts.{EndsBoolean, vectorAt, booleanAt}
 use Rattle.trees.proofs.Starts.{of-boolean, ends-pos}
 use Rattle.steady_pins.specs.Pinned.{byPlaces, Pins}
 use Rattle.steady_pins.specs.Finding.{Tree, alone, marked, pinsOf}
-use Rattle.steady_pins.proofs.Placed.{size, Placed, on-edge, on-join, behind, ahead, tree-placed, Operand}
+use Rattle.steady_pins.proofs.Placed.{Placed, placed-map, tree-placed, Operand}
 use Rattle.steady_pins.proofs.BesideLike.{Here, zeros, alone-like}
 use Rattle.steady_pins.proofs.Unpinned.{placed-none}
 use Rattle.steady_pins.proofs.MarkedPins.{marked-long}
@@ -30,16 +30,10 @@ blank-clear l =
 
 module _ {t : List ℕ} {names : ℕ} where
   placed-here : {end : ℕ} {p : Vector} → Placed (Operand t names) end p → Placed (Here (booleanAt t names)) end p
-  placed-here (on-edge r u) = on-edge (r .is, ends-pos (of-boolean (r .ends))) u
-  placed-here (on-join a b u) = on-join (placed-here a) (placed-here b) u
-  placed-here (behind a r u) = behind (placed-here a) (r .is, ends-pos (of-boolean (r .ends))) u
-  placed-here (ahead a r u) = ahead (placed-here a) (r .is, ends-pos (of-boolean (r .ends))) u
+  placed-here = placed-map (λ i c r. (r .is, ends-pos (of-boolean (r .ends))))
 
   placed-each : {end : ℕ} {p : Vector} → Placed (Operand t names) end p → Placed (λ i c. EndsBoolean t names i) end p
-  placed-each (on-edge r u) = on-edge (r .ends) u
-  placed-each (on-join a b u) = on-join (placed-each a) (placed-each b) u
-  placed-each (behind a r u) = behind (placed-each a) (r .ends) u
-  placed-each (ahead a r u) = ahead (placed-each a) (r .ends) u
+  placed-each = placed-map (λ i c r. r .ends)
 
   pub found-means : (ρ : Rules) {end : ℕ} → Tree t names end
       → byPlaces (booleanAt t names) (pinsOf ρ t names end) end (vectorAt t names end) ≡ meant ρ (vectorAt t names end)

@@ -1,26 +1,23 @@
 -- The pins of a tree are document 02's, [2]: the tree with its pins is the filled expression, and each pin is a place
 -- where a boolean expression ends.
 --   part-found               a part of a chain, between what is beside it
-use Prim.Native.Nat.{ℕ, zero, suc, _+_, _-_, _*_, _<_, _≤_}
+use Prim.Native.Nat.{ℕ, _+_, _-_, _*_, _<_, _≤_}
 use native.Mathlib.Omega.{arith}
-use mathlib.Core.Path.{_≡_, refl, ap, sym, _∙_}
+use mathlib.Core.Path.{_≡_, refl, ap, _∙_}
 use mathlib.Core.Bool.{Bool, true, false}
 use mathlib.Core.List.{List}
-use mathlib.Core.Logic.{_⊎_, inl, inr}
-use lib.ListN.{length, getD, replicate}
+use mathlib.Core.Logic.{inl, inr}
+use lib.ListN.{length, getD}
 use Rattle.basics.specs.Words.{if_then_else_}
-use Rattle.alf.specs.declared.Rules.{Rules}
 use Rattle.alf.specs.Expressions.{Boolean, Edge, Vector, edge, join, while, Join, on-right, on-left}
-use Rattle.alf.specs.Steady.{isThen, isStep, kept, meant, filled}
+use Rattle.alf.specs.Steady.{isThen, isStep, kept}
 use Rattle.steady_laws.specs.Beside as filling
-use Rattle.steady_laws.proofs.Besides.{filled-beside}
-use Rattle.trees.specs.Parts.{EndsBoolean, EndsVector, vectorAt, booleanAt}
 use Rattle.steady_pins.specs.declared.finding.Beside.{Beside}
-use Rattle.steady_pins.specs.Pinned.{pinAt, pinned, byPlaces, Pins}
-use Rattle.steady_pins.specs.Finding.{Tree, alone, front, back, stepMarked, marked, pinsOf}
+use Rattle.steady_pins.specs.Pinned.{pinAt, pinned, byPlaces}
+use Rattle.steady_pins.specs.Finding.{alone, front, back, stepMarked, marked}
 use Rattle.steady_pins.proofs.MarkedPins.{marked-long}
 use Rattle.steady_pins.proofs.Placed.{size, width, join-size, right-size, left-size, edge-size}
-use Rattle.steady_pins.proofs.Placed.{Placed, on-edge, on-join, behind, ahead, placed-fits, tree-placed, Operand}
+use Rattle.steady_pins.proofs.Placed.{Placed, on-edge, on-join, behind, ahead, placed-map}
 use Rattle.steady_pins.proofs.PinRanges.{Inside, Outside, own-row, step-outside, marked-outside}
 use Rattle.steady_pins.proofs.PinRanges.{places-same, places-none, pinned-bare}
 use Rattle.steady_pins.proofs.BesideLike.{Here, LikeBeside, alone-like, front-like, back-like}
@@ -33,10 +30,7 @@ pub record Clear (end n : ℕ) (t : List ℕ) : Type 0 where
 
 module _ (operand : ℕ → Boolean) where
   here-is : {end : ℕ} {p : Vector} → Placed (Here operand) end p → Placed (λ i c. operand i ≡ c) end p
-  here-is (on-edge r u) = on-edge (r .0) u
-  here-is (on-join a b u) = on-join (here-is a) (here-is b) u
-  here-is (behind a r u) = behind (here-is a) (r .0) u
-  here-is (ahead a r u) = ahead (here-is a) (r .0) u
+  here-is = placed-map (λ i c r. r .0)
 
   own-clear : {end n : ℕ} {t : List ℕ} → Clear end n t → 0 < n → 0 < end → (k : ℕ) → k < 32 → pinAt t end k ≡ 0
   own-clear {end} c s e k u = c .none ((end - 1) * 32 + k) (own-row k s e u)

@@ -4,7 +4,6 @@ pub mod PinnedAnswers
 pub mod Starting
 pub mod StepParts
 pub mod BesideParts
-pub mod MarkedParts
 pub mod MarkedPins
 pub mod StepMaps
 pub mod LastSteps
@@ -19,3 +18,11 @@ pub mod FoundSteps
 pub mod FoundParts
 pub mod PinEntries
 pub mod Found
+pub mod SettledRows
+pub mod OwnPlaces
+pub mod WalkedRows
+pub mod StepEntries
+pub mod NextSteps
+pub mod WalkedSteps
+pub mod WalkedParts
+pub mod ApartParts

@@ -1,7 +1,8 @@
 -- An expression with its boolean operands at their places in a tree: the parts of `byPlaces`, without the tree.
 --   size                     how many bytes an expression has
 --   Placed                   of each operand at its place something holds, and the bytes fit
---   placed-fits, tree-placed a placed expression has no more bytes than there are; a tree's expression is placed
+--   placed-fits, placed-map  a placed expression has no more bytes than there are; what follows of each operand
+--   tree-placed              a tree's expression is placed
 use Prim.Native.Nat.{ℕ, _+_, _-_, _<_, _≤_}
 use native.Mathlib.Omega.{arith}
 use mathlib.Core.Path.{_≡_, refl, ap}
@@ -62,6 +63,14 @@ placed-fits (on-edge r l) = l
 placed-fits (on-join a b l) = l
 placed-fits (behind a r l) = l
 placed-fits (ahead a r l) = l
+
+-- what follows of each operand at its place
+pub placed-map : {R S : ℕ → Boolean → Type 0} {end : ℕ} {p : Vector} → ((i : ℕ) (c : Boolean) → R i c → S i c)
+    → Placed R end p → Placed S end p
+placed-map f (on-edge r l) = on-edge (f _ _ r) l
+placed-map f (on-join a b l) = on-join (placed-map f a) (placed-map f b) l
+placed-map f (behind a r l) = behind (placed-map f a) (f _ _ r) l
+placed-map f (ahead a r l) = ahead (placed-map f a) (f _ _ r) l
 
 -- the expression of a tree: each operand ends at its place
 pub record Operand (t : List ℕ) (names i : ℕ) (c : Boolean) : Type 0 where

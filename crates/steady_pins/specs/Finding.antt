@@ -5,7 +5,7 @@
 --   alone, stepped            what is beside a part: nothing; a step, and then what is beside it
 --   front, back               the row of steps that an expression's operands begin with, and end with
 --   pinEntry, pinRow, stepMarked    the pins of a step, between what is before it and what is after it
---   marked, Marks, pinsOf     the pins of an expression, over others, and what its part leaves; those of a tree
+--   marked, pinsOf            the pins of an expression, over others; those of a tree
 --   Tree, StepAt              what is asked
 use Prim.Native.Nat.{ℕ, _-_, _*_, _≤_}
 use mathlib.Core.Path.{_≡_}
@@ -82,11 +82,6 @@ marked end (join j p q) before after l =
     else marked (end - 1) q alone alone (marked (end - 1 - length (vectorBytes q)) p alone alone l)
 marked end (while on-right p c) before after l = marked (end - 1 - length (booleanBytes c)) p alone alone l
 marked end (while on-left p c) before after l = marked (end - 1) p alone alone l
-
--- what is found of an expression: its pins, and what is then before the part that follows it
-pub record Marks (end : ℕ) (p : Vector) (before after : Beside) (l l′ : List ℕ) (r : Beside) : Type 0 where
-  pub pins : l′ ≡ marked end p before after l
-  pub last : r ≡ back end p before
 
 -- none where the rules have no steady pins
 unfoldable pub pinsOf : Rules → List ℕ → ℕ → ℕ → List ℕ

@@ -1,18 +1,20 @@
-// The steady pins of a tree. A part of a chain of `->` needs of its neighbours only what `Beside` holds, so the pins of
-// a step are found where the step stands.
+// The steady pins of a tree, found in one walk from left to right. The walk keeps the run of steps that it is in: what
+// is beside the next step, and which rows of the table are those of the run's steps. A step writes what is before it
+// into its own row. Where it brings a name that is new in the run, it writes this name into the rows before its own.
+use crate::settling::settle;
 use crate::steps::is_step;
 use crate::steps::moves;
 use crate::steps::own;
 use alf::Rules;
 use trees::parts::start_of;
 ghost use mathlib.Core.Path.{_≡_};
-ghost use Prim.Native.Nat.{_+_, _≤_};
+ghost use Prim.Native.Nat.{_+_, _<_, _≤_};
 ghost use lib.ListN.{getD, replicate};
 ghost use lib.Seq.{sets};
 ghost use Rattle.basics.specs.Words.{listed};
 ghost use Rattle.trees.specs.Parts.{vectorAt};
-ghost use Rattle.steady_pins.specs.Finding.{Tree, StepAt, alone, stepped, front};
-ghost use Rattle.steady_pins.specs.Finding.{pinEntry, stepMarked, Marks, pinsOf};
+ghost use Rattle.steady_pins.specs.Finding.{Tree, StepAt, alone, stepped, pinEntry, pinsOf};
+ghost use Rattle.steady_pins.specs.Walking.{begun, over, passed, ownRow, Walk, StepWalk, Walked, Apart};
 
 // What is beside a part of a chain of `->`: for each name the place of an operand that is this name, in the row of
 // steps next to the part, or 0; and whether all of those steps change.
@@ -21,50 +23,72 @@ pub struct Beside {
     pub changing: bool,
 }
 
-// No step is beside.
-fn alone() -> Beside
-    ensures { λ r. ⌜ r ≡ alone ⌝ }
+// The run of steps that the walk is in: what is beside the next step, and how many rows are those of its steps.
+pub struct Run {
+    pub beside: Beside,
+    pub many: usize,
+}
+
+// A run without steps.
+fn begin() -> Run
+    ensures { λ r. ⌜ r ≡ begun ⌝ }
 {
-    Beside {
-        places: [0u8; 32],
-        changing: true,
+    Run {
+        beside: Beside {
+            places: [0u8; 32],
+            changing: true,
+        },
+        many: 0,
     }
 }
 
-// The step that ends at `end`, and then what is beside it.
-fn stepped(tree: &[u8], end: usize, names: usize, r: Beside) -> Beside
+// The step that ends at `end`, and nothing beside it.
+fn look(tree: &[u8], end: usize, names: usize) -> Beside
     requires { ⌜ StepAt (now tree) names end ⌝ }
-    ensures { λ s. ⌜ s ≡ stepped end (vectorAt (now (tree .entry)) names end) r ⌝ }
+    ensures { λ s. ⌜ s ≡ stepped end (vectorAt (now (tree .entry)) names end) alone ⌝ }
 {
-    let before = r.places;
-    let places = own(tree, end, names, before);
-    if moves(tree, end, names) {
+    let places = own(tree, end, names, [0u8; 32]);
+    let changing = moves(tree, end, names);
+    Beside { places, changing }
+}
+
+// A place over another.
+fn over_entry(place: u8, other: u8) -> u8
+    ensures { λ r. ⌜ r ≡ over place other ⌝ }
+{
+    if place == 0 { other } else { place }
+}
+
+// Places over others.
+fn over(places: [u8; 32], others: [u8; 32]) -> [u8; 32]
+    ensures { λ r. ⌜ r ≡ listed 0 32 (λ n. over (getD places n 0) (getD others n 0)) ⌝ }
+{
+    let mut r = [0u8; 32];
+    let mut n: usize = 0;
+    while n < 32 {
+        r[n] = over_entry(places[n], others[n]);
+        n += 1;
+    }
+    r
+}
+
+// What is beside a part behind a step: the step, and then what was before it.
+fn pass(mine: Beside, before: Beside) -> Beside
+    ensures { λ r. ⌜ r ≡ passed mine before ⌝ }
+{
+    let own = mine.places;
+    let others = before.places;
+    let places = over(own, others);
+    if mine.changing {
         return Beside {
             places,
-            changing: r.changing,
+            changing: before.changing,
         };
     }
     Beside {
         places,
         changing: false,
     }
-}
-
-// The row of steps that begins with the operands of the expression that ends at `end`, and then what is beside it.
-fn front_of(tree: &[u8], end: usize, names: usize, r: Beside) -> Beside
-    requires { ⌜ Tree (now tree) names end ⌝ }
-    ensures { λ s. ⌜ s ≡ front end (vectorAt (now (tree .entry)) names end) r ⌝ }
-{
-    let at = end - 1;
-    if tree[at] == 50 {
-        let left = start_of(tree, at, names);
-        let s = front_of(tree, at, names, r);
-        return front_of(tree, left, names, s);
-    }
-    if is_step(tree, end, names) {
-        return stepped(tree, end, names, r);
-    }
-    alone()
 }
 
 // No pins.
@@ -74,94 +98,139 @@ fn blank() -> [u8; 8192]
     [0u8; 8192]
 }
 
-// One entry: none where the step has an edge on the name, else a place before the step or after it.
-fn pin_entry(before: u8, mine: u8, after: u8) -> u8
-    ensures { λ r. ⌜ r ≡ pinEntry before mine after ⌝ }
+// No rows.
+fn no_rows() -> [u8; 256]
+    ensures { λ r. ⌜ r ≡ replicate 256 0 ⌝ }
 {
-    if mine != 0 {
-        return 0;
-    }
-    if before == 0 { after } else { before }
+    [0u8; 256]
+}
+
+// One entry: none where the step has an edge on the name, else a place before the step.
+fn pin_entry(before: u8, mine: u8) -> u8
+    ensures { λ r. ⌜ r ≡ pinEntry before mine 0 ⌝ }
+{
+    if mine == 0 { before } else { 0 }
 }
 
 // The entries of a step, from `base` on.
-fn put_row(before: [u8; 32], mine: [u8; 32], after: [u8; 32], base: usize, pins: &mut [u8; 8192])
+fn put_row(before: [u8; 32], mine: [u8; 32], base: usize, pins: &mut [u8; 8192])
     requires { ⌜ base + 32 ≤ 8192 ⌝ }
     ensures { λ _. ⌜ now (pins .exit) ≡ sets (now (pins .entry)) base
-        (listed 0 32 (λ n. pinEntry (getD before n 0) (getD mine n 0) (getD after n 0))) ⌝ }
+        (listed 0 32 (λ n. pinEntry (getD before n 0) (getD mine n 0) 0)) ⌝ }
 {
     let mut n: usize = 0;
     while n < 32 {
-        pins[base + n] = pin_entry(before[n], mine[n], after[n]);
+        pins[base + n] = pin_entry(before[n], mine[n]);
         n += 1;
     }
 }
 
-// The pins of the step that ends at `end`: none if a step of its run does not change.
-fn mark_step(
-    tree: &[u8],
-    end: usize,
-    names: usize,
-    before: Beside,
-    after: Beside,
-    pins: &mut [u8; 8192],
-)
-    requires { ⌜ StepAt (now tree) names end ⌝ }
-    ensures { λ _. ⌜ now (pins .exit) ≡ stepMarked before end (vectorAt (now (tree .entry)) names end) after
-        (now (pins .entry)) ⌝ }
+// The row of a step in the table, while nothing comes after the step: none if a step of its run does not change.
+fn put_step(before: Beside, mine: Beside, row: usize, pins: &mut [u8; 8192])
+    requires { ⌜ row < 256 ⌝ }
+    ensures { λ _. ⌜ now (pins .exit) ≡ ownRow before mine row (now (pins .entry)) ⌝ }
 {
     if !before.changing {
         return;
     }
-    if !after.changing {
+    if !mine.changing {
         return;
     }
-    if !moves(tree, end, names) {
-        return;
-    }
-    let mine = own(tree, end, names, [0u8; 32]);
     let left = before.places;
-    let right = after.places;
-    put_row(left, mine, right, (end - 1) * 32, pins);
+    let own = mine.places;
+    put_row(left, own, row * 32, pins);
 }
 
-// The pins of the expression that ends at `end`, between what is before it and what is after it. It gives what is then
-// before the part that follows.
+// The walk over the step that ends at `end`.
+fn mark_step(
+    tree: &[u8],
+    end: usize,
+    names: usize,
+    run: Run,
+    rows: &mut [u8; 256],
+    pins: &mut [u8; 8192],
+) -> Run
+    requires { ⌜ StepWalk (now tree) names end run (now rows) (now pins) ⌝ }
+    ensures { λ r. ⌜ Walked end (vectorAt (now (tree .entry)) names end) run (now (rows .entry)) (now (pins .entry)) r
+        (now (rows .exit)) (now (pins .exit)) ⌝ }
+{
+    let before = run.beside;
+    let many = run.many;
+    let mine = look(tree, end, names);
+    let row = end - 1;
+    let others = before.places;
+    let places = mine.places;
+    settle(
+        before.changing,
+        mine.changing,
+        others,
+        places,
+        rows,
+        many,
+        pins,
+    );
+    put_step(before, mine, row, pins);
+    rows[many] = row as u8;
+    let beside = pass(mine, before);
+    Run {
+        beside,
+        many: many + 1,
+    }
+}
+
+// The walk over the expression that ends at `end`, in the run that it stands in.
 fn mark(
     tree: &[u8],
     end: usize,
     names: usize,
-    before: Beside,
-    after: Beside,
+    run: Run,
+    rows: &mut [u8; 256],
     pins: &mut [u8; 8192],
-) -> Beside
-    requires { ⌜ Tree (now tree) names end ⌝ }
-    ensures { λ r. ⌜ Marks end (vectorAt (now (tree .entry)) names end) before after (now (pins .entry))
-        (now (pins .exit)) r ⌝ }
+) -> Run
+    requires { ⌜ Walk (now tree) names end run (now rows) (now pins) ⌝ }
+    ensures { λ r. ⌜ Walked end (vectorAt (now (tree .entry)) names end) run (now (rows .entry)) (now (pins .entry)) r
+        (now (rows .exit)) (now (pins .exit)) ⌝ }
 {
-    if is_step(tree, end, names) {
-        mark_step(tree, end, names, before, after, pins);
-        return stepped(tree, end, names, before);
+    let at = end - 1;
+    if tree[at] == 50 {
+        let left = start_of(tree, at, names);
+        let k = mark(tree, left, names, run, rows, pins);
+        return mark(tree, at, names, k, rows, pins);
     }
+    if is_step(tree, end, names) {
+        return mark_step(tree, end, names, run, rows, pins);
+    }
+    mark_apart(tree, end, names, rows, pins);
+    begin()
+}
+
+// The walk over the expression that ends at `end`, with nothing beside it. A step has no pins then.
+fn mark_apart(tree: &[u8], end: usize, names: usize, rows: &mut [u8; 256], pins: &mut [u8; 8192])
+    requires { ⌜ Walk (now tree) names end begun (now rows) (now pins) ⌝ }
+    ensures { λ _. ⌜ Apart end (vectorAt (now (tree .entry)) names end) (now (pins .entry)) (now (rows .exit))
+        (now (pins .exit)) ⌝ }
+{
     let at = end - 1;
     let b = tree[at];
-    let none = alone();
+    if 64 <= b {
+        return;
+    }
     if b == 57 {
-        mark(tree, at, names, none, none, pins);
-        return none;
+        mark_apart(tree, at, names, rows, pins);
+        return;
     }
     let left = start_of(tree, at, names);
     if b == 50 {
-        let f = front_of(tree, at, names, after);
-        let k = mark(tree, left, names, before, f, pins);
-        return mark(tree, at, names, k, after, pins);
+        let none = begin();
+        let k = mark(tree, left, names, none, rows, pins);
+        mark(tree, at, names, k, rows, pins);
+        return;
     }
-    mark(tree, left, names, none, none, pins);
+    mark_apart(tree, left, names, rows, pins);
     if b == 56 {
-        return none;
+        return;
     }
-    mark(tree, at, names, none, none, pins);
-    none
+    mark_apart(tree, at, names, rows, pins);
 }
 
 // The steady pins of the vector expression that ends at `end`; none where the rules have none.
@@ -171,8 +240,8 @@ pub fn find(rules: Rules, tree: &[u8], end: usize, names: usize) -> [u8; 8192]
 {
     let mut pins = blank();
     if rules.steady_pins {
-        let none = alone();
-        mark(tree, end, names, none, none, &mut pins);
+        let mut rows = no_rows();
+        mark_apart(tree, end, names, &mut rows, &mut pins);
     }
     pins
 }

@@ -1,6 +1,7 @@
 -- `finding::find` meets its contract.
 use borrow.Author.Needs.{needs}
 use Rattle.steady_pins.proofs.MarkedPins.{found-on, found-off}
+use Rattle.steady_pins.proofs.ApartParts.{first-walk}
 use Rattle.steady_pins.proofs.finding.find.Statement.{statement}
 use Rattle.steady_pins.proofs.finding.find.Tie as tie
 
@@ -10,9 +11,11 @@ find-spec =
     (tie.spec
     (λ c κs. search needs)
     (λ c κs. search needs)
-    (λ c κs. c .before .before .before .before .before .pre)
+    (λ c κs.
+    let r = c .before .before in
+    let b = r .before .before in
+    first-walk (b .before .before .pre) (r .no-rows .ensures) (b .blank .ensures))
     (λ c.
-    let a = c .before .before in
-    let i = a .before in
-    found-on _ _ _ _ (i .if1 .taken) (a .alone .ensures) (i .before .blank .ensures) (c .mark .ensures .pins))
+    let i = c .before .before .before .before in
+    found-on _ _ _ _ (i .if1 .taken) (i .before .blank .ensures) (c .mark-apart .ensures .pins))
     (λ c. found-off _ _ _ _ (c .if1 .left) (c .before .blank .ensures)))

@@ -1,10 +1,8 @@
 -- `finding::mark_step` meets its contract.
 use native.Mathlib.Omega.{arith}
-use mathlib.Core.Path.{sym, _∙_}
 use borrow.Author.Needs.{needs}
-use borrow.Author.Tests.{not-true, not-false}
 use Rattle.trees.proofs.Vectors.{vector-pos}
-use Rattle.steady_pins.proofs.MarkedPins.{still-before, still-after, still-step, moving-step}
+use Rattle.steady_pins.proofs.WalkedSteps.{step-many, step-row, step-rows, step-walked}
 use Rattle.steady_pins.proofs.finding.mark_step.Statement.{statement}
 use Rattle.steady_pins.proofs.finding.mark_step.Tie as tie
 
@@ -12,27 +10,24 @@ pub mark-step-spec : {M : Type 1} → statement M
 mark-step-spec =
     tie.close
     (tie.spec
-    (λ c. still-before _ _ _ _ _ (not-true _ (c .if1 .taken)))
-    (λ c. still-after _ _ _ _ _ (not-false _ (c .before .before .if1 .left)) (not-true _ (c .if2 .taken)))
-    (λ c κs. search needs)
-    (λ c.
-    let a = c .before .before in
-    still-step _ _ _ _ _ (not-false _ (a .before .before .if1 .left)) (not-false _ (a .if2 .left))
-    (sym (not-true _ (c .if3 .taken)) ∙ c .before .moves .ensures))
-    (λ c κs. search needs)
-    (λ c.
-    let start = c .before .before .before .before .before .before .before .before .before .before in
-    vector-pos _ _ _ (start .pre .is .ends))
-    (λ c.
-    let start = c .before .before .before .before .before .before .before .before .before .before in
-    omega (arith, start .pre .is .few))
+    (λ c κs. search needs)  -- look-requires
+    (λ c. vector-pos _ _ _ (c .before .before .before .pre .walk .is .ends))  -- sub-row
+    (λ c κs. step-rows (c .before .before .before .before .before .before .before .pre))  -- settle-requires
     (λ c κs.
-    let start = c .before .before .before .before .before .before .before .before .before .before .before in
-    let p = vector-pos _ _ _ (start .pre .is .ends) in omega (arith, start .pre .is .few))
+    let start = c .before .before .before .before .before .before .before .before .before in
+    step-row (start .pre))  -- put-step-requires
     (λ c.
-    let o = c .before .before .before .before in
-    let m = o .before .before in
-    let a = m .before in
-    c .put-row .ensures
-    ∙ moving-step _ _ _ _ _ (not-false _ (a .before .before .if1 .left)) (not-false _ (a .if2 .left))
-    (o .own .ensures) (sym (not-false _ (o .before .if3 .left)) ∙ m .moves .ensures)))
+    let start = c .before .before .before .before .before .before .before .before .before .before in
+    omega (arith, step-row (start .pre)))  -- cast-rows
+    (λ c.
+    let start = c .before .before .before .before .before .before .before .before .before .before in
+    step-many (start .pre))  -- element-write-rows
+    (λ c κs. search needs)  -- pass-requires
+    (λ c.
+    let start = c .before .before .before .before .before .before .before .before .before .before .before in
+    omega (arith, step-many (start .pre)))  -- add-many
+    (λ c.
+    let settled = c .before .before .before in
+    let looked = settled .before .before .before .before .before in
+    step-walked (looked .before .before .before .pre) (looked .look .ensures) (settled .settle .ensures)
+    (c .before .put-step .ensures) (c .pass .ensures)))  -- returns

@@ -1,7 +1,8 @@
 -- `finding::pin_entry` meets its contract.
 use mathlib.Core.Path.{refl}
-use borrow.Author.Tests.{eq-eqb, ne-eqb}
+use borrow.Author.Tests.{ne-eqb}
 use Rattle.steady_pins.specs.Finding.{pinEntry}
+use Rattle.steady_pins.proofs.StepEntries.{pin-before}
 use Rattle.steady_pins.proofs.finding.pin_entry.Statement.{statement}
 use Rattle.steady_pins.proofs.finding.pin_entry.Tie as tie
 
@@ -10,6 +11,5 @@ unfolding pinEntry
 pin-entry-spec =
     tie.close
     (tie.spec
-    (λ c. rw (ne-eqb _ 0 (c .if1 .taken)) refl)
-    (λ c. rw (eq-eqb _ 0 (c .before .if1 .left), eq-eqb _ 0 (c .if2 .taken)) refl)
-    (λ c. rw (eq-eqb _ 0 (c .before .if1 .left), ne-eqb _ 0 (c .if2 .left)) refl))
+    (λ c. pin-before _ _ (c .if1 .taken))
+    (λ c. rw (ne-eqb _ 0 (c .if1 .left)) refl))

@@ -1,5 +1,5 @@
 -- `finding::put_row` meets its contract. The loop's invariant: the entries so far are written.
-use Prim.Native.Nat.{_+_, _-_, _≤_}
+use Prim.Native.Nat.{_-_, _≤_}
 use native.Mathlib.Omega.{arith}
 use borrow.Author.Needs.{needs}
 use lib.ListN.{getD}
@@ -13,12 +13,11 @@ use Rattle.steady_pins.proofs.finding.put_row.Statement.{statement}
 use Rattle.steady_pins.proofs.finding.put_row.Tie as tie
 
 abbrev Inv-loop : tie.InvT-loop
-Inv-loop base pins₀ before mine after n₀ pins n =
-    (n ≤ 32) × Writing pins₀ base
-    (listed 0 32 (λ k. pinEntry (getD before k 0) (getD mine k 0) (getD after k 0))) pins n
+Inv-loop base pins₀ before mine n₀ pins n =
+    (n ≤ 32) × Writing pins₀ base (listed 0 32 (λ k. pinEntry (getD before k 0) (getD mine k 0) 0)) pins n
 
 abbrev μ-loop : tie.MeasureT-loop
-μ-loop base pins₀ before mine after n₀ pins n = 32 - n
+μ-loop base pins₀ before mine n₀ pins n = 32 - n
 
 pub put-row-spec : {M : Type 1} → statement M
 put-row-spec =
@@ -29,7 +28,6 @@ put-row-spec =
     (λ c. (omega arith, writing-first))  -- loop-holds
     (λ c. c .loop-test .taken)  -- array-read-pin-entry
     (λ c. c .loop-test .taken)  -- array-read-pin-entry-2
-    (λ c. c .loop-test .taken)  -- array-read-pin-entry-3
     (λ c κs. search needs)  -- pin-entry-requires
     (λ c. omega (arith, c .before .before .before .pre, c .before .loop-test .taken))  -- add-pins
     (λ c. omega (arith, c .before .before .before .pre, c .before .loop-test .taken))  -- element-write-pins
