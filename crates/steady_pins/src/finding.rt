@@ -1,6 +1,7 @@
 // The steady pins of a tree, found in one walk from left to right. The walk keeps the run of steps that it is in: what
 // is beside the next step, and which rows of the table are those of the run's steps. A step writes what is before it
 // into its own row. Where it brings a name that is new in the run, it writes this name into the rows before its own.
+use crate::settling::put_row;
 use crate::settling::settle;
 use crate::steps::is_step;
 use crate::steps::moves;
@@ -8,12 +9,11 @@ use crate::steps::own;
 use alf::Rules;
 use trees::parts::start_of;
 ghost use mathlib.Core.Path.{_≡_};
-ghost use Prim.Native.Nat.{_+_, _<_, _≤_};
+ghost use Prim.Native.Nat.{_<_};
 ghost use lib.ListN.{getD, replicate};
-ghost use lib.Seq.{sets};
 ghost use Rattle.basics.specs.Words.{listed};
 ghost use Rattle.trees.specs.Parts.{vectorAt};
-ghost use Rattle.steady_pins.specs.Finding.{Tree, StepAt, alone, stepped, pinEntry, pinsOf};
+ghost use Rattle.steady_pins.specs.Finding.{Tree, StepAt, alone, stepped, pinsOf};
 ghost use Rattle.steady_pins.specs.Walking.{begun, over, passed, ownRow, Walk, StepWalk, Walked, Apart};
 
 // What is beside a part of a chain of `->`: for each name the place of an operand that is this name, in the row of
@@ -103,26 +103,6 @@ fn no_rows() -> [u8; 256]
     ensures { λ r. ⌜ r ≡ replicate 256 0 ⌝ }
 {
     [0u8; 256]
-}
-
-// One entry: none where the step has an edge on the name, else a place before the step.
-fn pin_entry(before: u8, mine: u8) -> u8
-    ensures { λ r. ⌜ r ≡ pinEntry before mine 0 ⌝ }
-{
-    if mine == 0 { before } else { 0 }
-}
-
-// The entries of a step, from `base` on.
-fn put_row(before: [u8; 32], mine: [u8; 32], base: usize, pins: &mut [u8; 8192])
-    requires { ⌜ base + 32 ≤ 8192 ⌝ }
-    ensures { λ _. ⌜ now (pins .exit) ≡ sets (now (pins .entry)) base
-        (listed 0 32 (λ n. pinEntry (getD before n 0) (getD mine n 0) 0)) ⌝ }
-{
-    let mut n: usize = 0;
-    while n < 32 {
-        pins[base + n] = pin_entry(before[n], mine[n]);
-        n += 1;
-    }
 }
 
 // The row of a step in the table, while nothing comes after the step: none if a step of its run does not change.

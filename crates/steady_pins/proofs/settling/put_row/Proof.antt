@@ -1,4 +1,4 @@
--- `finding::put_row` meets its contract. The loop's invariant: the entries so far are written.
+-- `settling::put_row` meets its contract. The loop's invariant: the entries so far are written.
 use Prim.Native.Nat.{_-_, _≤_}
 use native.Mathlib.Omega.{arith}
 use borrow.Author.Needs.{needs}
@@ -9,8 +9,8 @@ use Rattle.basics.specs.Words.{listed}
 use Rattle.basics.proofs.Stores.{Writing, writing-first}
 use Rattle.basics.proofs.Listed.{ruling-next, ruling-end}
 use Rattle.steady_pins.specs.Finding.{pinEntry}
-use Rattle.steady_pins.proofs.finding.put_row.Statement.{statement}
-use Rattle.steady_pins.proofs.finding.put_row.Tie as tie
+use Rattle.steady_pins.proofs.settling.put_row.Statement.{statement}
+use Rattle.steady_pins.proofs.settling.put_row.Tie as tie
 
 abbrev Inv-loop : tie.InvT-loop
 Inv-loop base pins₀ before mine n₀ pins n =
