@@ -4,7 +4,7 @@
 --   row-answer, match-row, match-all, push     by a tree
 --   totals                                     the totals of a trace and of the overwritten one
 --   sent-row                                   a row of a trace, and the last row of what is sent for it
---   listed-match-row, listed-match-all, listed-push     by alternatives handed in
+--   listed-match-row, listed-match-all, listed-totals, listed-push     by alternatives handed in
 use Prim.Native.Nat.{ℕ, _<_, min}
 use native.Mathlib.Nat.{zero-add}
 use mathlib.Core.Path.{_≡_, ap, sym, _∙_}
@@ -34,11 +34,13 @@ use Rattle.matcher.specs.declared.tables.Total.{Total}
 use Rattle.trees.specs.Parts.{vectorAt}
 use Rattle.queue_calls.specs.Pushing.{Takes, Push}
 use Rattle.listed_calls.specs.Listed as listed
-use Rattle.listed_calls.specs.Listed.{ListedMatch, ListedAll, ListedPush}
-use Rattle.blanking.specs.Pins.{namesIn, namesOf, SamePins, blanked, sent}
+use Rattle.listed_calls.specs.Listed.{ListedMatch, ListedAll, ListedTotals, ListedPush}
+use Rattle.named_pins.specs.Pins.{namesIn, namesOf}
+use Rattle.blank_calls.specs.Overwritten.{blanked}
+use Rattle.blanking.specs.Pins.{SamePins, sent}
 use Rattle.blanking.proofs.FilledNames.{meant-named}
 use Rattle.blanking.proofs.PinsAlone.{fewer-pins, pins-answer, pins-tries, lists-answer, lists-tries}
-use Rattle.blanking.proofs.Blanking.{sent-same, blanked-totals}
+use Rattle.blanking.proofs.Blanking.{sent-same, blanked-totals, blanked-lists}
 
 -- an entry of a list from a rule
 entry : (n i : ℕ) (f : ℕ → ℕ) → i < n → getD (listed-words.listed 0 n f) i 0 ≡ f i
@@ -165,6 +167,22 @@ module _ (ρ : Rules) (k : ℕ) (tree steps tests edges operands : List ℕ)
         ap (λ (z : List ℕ). getD z i 0) (x .tried-memory) ∙ entry n i (tries st xs) l
             ∙ lists-tries ρ k states states′ i j xs some s
             ∙ sym (ap (λ (z : List ℕ). getD z j 0) (y .tried-memory) ∙ entry n′ j (tries st′ xs) l′),
+      )
+
+  -- the totals of a trace and of the trace in which every pin outside some is overwritten
+  pub listed-totals : (pins : ℕ → Bool)
+      → ((n : ℕ) → namesOf (alternativesOf tree k steps tests edges operands) n ≡ true → pins n ≡ true)
+      → ((n : ℕ) → pins n ≡ true → n < k) → (other : ℕ → ℕ → ℕ) {n : ℕ} {states : List ℕ} {t t′ : Total}
+      → ListedTotals ρ k n tree steps tests edges operands states (Counted t)
+      → ListedTotals ρ k n tree steps tests edges operands (blanked pins other k n states) (Counted t′)
+      → (t .yes ≡ t′ .yes) × (t .no ≡ t′ .no) × (t .unknown ≡ t′ .unknown)
+  unfolding Counts
+  listed-totals pins named below other {n} {states} x y =
+      let xs = alternativesOf tree k steps tests edges operands in
+      let same = blanked-lists ρ k xs some pins named below other states n in (
+        x .comes .1 .yeses ∙ same 1 ∙ sym (y .comes .1 .yeses),
+        x .comes .1 .noes ∙ same 0 ∙ sym (y .comes .1 .noes),
+        x .comes .1 .unknowns ∙ same 2 ∙ sym (y .comes .1 .unknowns),
       )
 
   pub listed-push : {q q′ : Queue} {row row′ : List ℕ}

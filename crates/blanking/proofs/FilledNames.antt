@@ -17,7 +17,7 @@ use Rattle.alf.specs.Steady.{isThen, isStep, moves, hasEdgeOn, kept, filled, me
 use Rattle.steady_laws.specs.Beside.{Beside, alone, stepped, front, back, held, filledBeside}
 use Rattle.steady_laws.proofs.Besides.{filled-beside}
 use Rattle.steady_laws.proofs.Meant.{meant-cases}
-use Rattle.blanking.specs.Pins.{names, namesIn}
+use Rattle.named_pins.specs.Pins.{names, namesIn}
 use Rattle.blanking.proofs.Named.{or-first, or-second, or-either}
 
 alone-named : (k : ℕ) (c : Boolean) → isName k c ≡ true → names c k ≡ true

@@ -8,7 +8,6 @@ use native.Mathlib.Omega.{arith}
 use mathlib.Core.Path.{_≡_, refl, ap}
 use mathlib.Core.Bool.{Bool, true, false, _||_}
 use mathlib.Core.List.{List, [], _∷_}
-use lib.Dec.{eqb}
 use borrow.Author.Tests.{eq-eqb, eqb-true}
 use Rattle.basics.proofs.Bools.{never}
 use Rattle.basics.proofs.AllEntries.{All, none, more}
@@ -19,7 +18,7 @@ use Rattle.alf.specs.States.{reduce, notOf}
 use Rattle.alf.specs.Values.{value, recordedOr, state}
 use Rattle.alf.specs.Alternatives.{test, Step, Alternative}
 use Rattle.alf.proofs.Conditions.{Asked, AsksTest, Asks}
-use Rattle.blanking.specs.Pins.{names, namesIn, namesInStep, namesInOne, namesOf}
+use Rattle.named_pins.specs.Pins.{names, namesIn, namesInStep, namesInOne, namesOf}
 
 pub or-first : (p q : Bool) → p ≡ true → (p || q) ≡ true
 or-first true q h = refl

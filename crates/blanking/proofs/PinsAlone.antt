@@ -3,13 +3,13 @@
 --   fewer-pins                   traces that agree on some pins agree on fewer
 --   pins-answer, pins-tries      a vector expression
 --   lists-answer, lists-tries    alternatives, for the pins that their tests name
-use Prim.Native.Nat.{ℕ, _-_, _<_, _≤_}
+use Prim.Native.Nat.{ℕ, _-_, _<_}
 use mathlib.Core.Path.{_≡_, sym, _∙_}
 use mathlib.Core.Bool.{Bool, true}
 use mathlib.Core.List.{List}
 use Rattle.basics.proofs.AllEntries.{All}
 use Rattle.alf.specs.declared.Rules.{Rules}
-use Rattle.alf.specs.Expressions.{Boolean, Vector}
+use Rattle.alf.specs.Expressions.{Vector}
 use Rattle.alf.specs.Values.{rowOf, stateAt}
 use Rattle.alf.specs.Windows.{rowAnswer}
 use Rattle.alf.specs.Alternatives.{Alternative, alternatives, stepsOf, answerOf, tries}
@@ -19,7 +19,8 @@ use Rattle.alf.proofs.Nearness.{Near, answers-near, tries-near}
 use Rattle.alf.proofs.TraceNearness.{steps-within, steps-pos}
 use Rattle.alternatives.specs.InMemory.{longestOf}
 use Rattle.alternatives.proofs.Longest.{longest-within}
-use Rattle.blanking.specs.Pins.{namesIn, namesOf, SamePins}
+use Rattle.named_pins.specs.Pins.{namesIn, namesOf}
+use Rattle.blanking.specs.Pins.{SamePins}
 use Rattle.blanking.proofs.Named.{state-local, Within, asked-within, lists-within}
 
 -- traces that agree on some pins agree on fewer

@@ -4,6 +4,7 @@
 -- the way is refused.
 --   answered, matched, taken      a call whose input is good is done, and with what
 --   Holding, push-holds           a queue that was pushed may be pushed again
+--   fed-codes                     rows of codes, one after the other, are codes
 --   never-refused                 so no push of a good row is refused, for a feed of any length
 --   pushed-found, three-routes
 use mathlib.Core.Path.{_≡_, refl, ap, sym, _∙_, subst}
@@ -160,7 +161,7 @@ pub told-by : Matching → Dated
 told-by (Found m) = m
 told-by (Refused r) = record { answer = NoEvent; tries = 0; began = Nowhere }
 
-fed-codes : (rows : ℕ → List ℕ) (n : ℕ) → ((i : ℕ) → i < n → Codes (rows i)) → Codes (fed rows n)
+pub fed-codes : (rows : ℕ → List ℕ) (n : ℕ) → ((i : ℕ) → i < n → Codes (rows i)) → Codes (fed rows n)
 unfolding fed
 fed-codes rows zero h = λ i l. absurd (omega arith)
 fed-codes rows (suc n) h =

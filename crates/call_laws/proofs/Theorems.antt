@@ -3,6 +3,7 @@
 --   correction-keeps-right       a list of answers that was right is right after a correction
 --   correction-reaches, correction-stays    what is rewritten is right, whatever stood there; the rest stays
 --   totals-together              yes, no and unknown together are n-1
+--   rows-stable                  lists of which it cannot be that they do not fit
 use mathlib.Core.Path.{_≡_, refl, ap, sym, _∙_}
 use mathlib.Core.Bool.{Bool, true, false}
 use mathlib.Core.Logic.{_⊎_, inl, inr}
@@ -54,7 +55,7 @@ use Rattle.matching_calls.specs.Matching.{MatchesTree, expression, answersOn, F
 use Rattle.update_calls.specs.Correcting.{Lists, correctionOrder, Correction, rewritten}
 use Rattle.queue_calls.specs.Pushing.{Takes, Push}
 
-rows-stable : (names n s : ℕ) → ((Rows names n s → ⊥) → ⊥) → Rows names n s
+pub rows-stable : (names n s : ℕ) → ((Rows names n s → ⊥) → ⊥) → Rows names n s
 rows-stable names n s h =
     record {
       name-count = (

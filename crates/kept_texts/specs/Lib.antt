@@ -1,0 +1,2 @@
+-- What keeping the pins of a text comes to.
+pub mod Keeping

@@ -1,0 +1,2 @@
+// The pins that an expression names, marked in a table.
+pub mod marking;
