@@ -4,3 +4,5 @@ pub mod FilledNames
 pub mod PinsAlone
 pub mod Blanking
 pub mod Calls
+pub mod BlankedCalls
+pub mod BlankedTables
