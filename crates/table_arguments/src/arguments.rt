@@ -1,35 +1,15 @@
 // The command's words: patterns, and behind `-f` files of patterns. On a terminal it is told how far long work is.
 use alf::Rules;
 use complaints::unfit;
-use console::output::complain;
 use console::output::note;
 use console::output::note_number;
 use loading::files::Filled;
-use loading::files::fill;
 use loading::files::take_argument;
+use loading::patterns::fill_patterns;
 use pattern_lines::accounts::pattern;
 use pattern_lines::patterns::lines;
 use table_lines::lines::Sums;
-
-// The patterns of m bytes that a file's name gave: the room is one byte more than a file may have.
-fn read_lines(
-    rules: Rules,
-    names: &[u8],
-    n: usize,
-    states: &[u8],
-    path: &[u8],
-    data: &[u8],
-    m: usize,
-    s: Sums,
-) -> Sums {
-    if data.len() <= m {
-        complain();
-        note(path);
-        note(b": a file of patterns has at most 1,048,576 bytes\n");
-        return s;
-    }
-    lines(rules, names, n, states, &data[0..m], s)
-}
+use text_parts::parts::front;
 
 // The patterns of a file; one that is not read to its end is not used at all.
 fn file_lines(
@@ -41,10 +21,10 @@ fn file_lines(
     data: &mut [u8],
     s: Sums,
 ) -> Sums {
-    let filled = fill(path, data);
+    let filled = fill_patterns(path, data);
     match filled {
         Filled::Failed => s,
-        Filled::Bytes(m) => read_lines(rules, names, n, states, path, data, m, s),
+        Filled::Bytes(m) => lines(rules, names, n, states, front(data, m), s),
     }
 }
 
