@@ -7,7 +7,9 @@ use crate::began::begin;
 use crate::words::help;
 use crate::words::named;
 use crate::words::option;
+use crate::words::ruled;
 use alf::Rules;
+use blank_command::blank;
 use complaints::unfit;
 use complaints::unknown;
 use console::output::say;
@@ -19,7 +21,6 @@ use show_command::show;
 use states::rules::old_rules;
 use table_command::first_look;
 use table_command::table;
-use text_commands::VALUES;
 use text_commands::answer;
 use text_parts::parts::front;
 use trace_saving::write_to;
@@ -27,17 +28,19 @@ use trace_saving::write_to;
 // The commands by their number in `named`. `list` is 1 and `values` is 2, as `text_commands` has them.
 const TABLE: usize = 0;
 
-const REWRITE: usize = 3;
+const BLANK: usize = 3;
 
-const SHOW: usize = 4;
+const REWRITE: usize = 4;
 
-const CORRECT: usize = 5;
+const SHOW: usize = 5;
 
-const MAKE: usize = 6;
+const CORRECT: usize = 6;
 
-const VERSION: usize = 7;
+const MAKE: usize = 7;
 
-const NONE: usize = 11;
+const VERSION: usize = 8;
+
+const NONE: usize = 12;
 
 // The options by their number in `option`.
 const EQUAL: usize = 0;
@@ -56,6 +59,7 @@ struct Asked {
 fn start(a: Asked, c: usize, names: &[u8], times: &[u64], states: &mut [u8]) {
     match c {
         TABLE => table(a.rules, a.first, names, times.len(), states),
+        BLANK => blank(a.rules, a.first, names, times, states),
         SHOW => show(names, times, states),
         CORRECT => correct(names, times, states),
         MAKE => write_to(a.first, names, times, states),
@@ -158,34 +162,28 @@ fn run(word: &[u8], more: usize) {
         return;
     }
     if c == VERSION {
-        say(b"dachsmond 4.0\n");
+        say(b"dachsmond 4.1\n");
         return;
     }
     help();
 }
 
-// The rules with an option: of two options, the one that is not the first is the other.
-fn ruled(rules: Rules, o: usize) -> Rules {
-    let mut with = rules;
-    if o == EQUAL {
-        with.equal_branches = true;
-    } else {
-        with.steady_pins = true;
-    }
-    with
-}
-
-// A command behind options: behind `--equal-branches` one that evaluates, behind `--steady-pins` one that reads a text.
+// A command behind options: behind `--equal-branches` one that evaluates, or `blank`, behind `--steady-pins` one that
+// reads a text.
 fn run_ruled(a: Asked, word: &[u8], more: usize) {
     let c = named(word);
     if a.rules.equal_branches {
-        if VALUES < c {
-            unfit(b"--equal-branches", b"table, list or values\n", 0);
+        if BLANK < c {
+            unfit(b"--equal-branches", b"table, list, values or blank\n", 0);
             return;
         }
     }
     if REWRITE < c {
-        unfit(b"--steady-pins", b"table, list, values or rewrite\n", 0);
+        unfit(
+            b"--steady-pins",
+            b"table, list, values, blank or rewrite\n",
+            0,
+        );
         return;
     }
     begin(a, c, word, more);
