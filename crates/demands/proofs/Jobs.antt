@@ -8,6 +8,8 @@ use Rattle.alternative_listings.proofs.AlternativesLaws.{text-unique}
 use Rattle.jobs.proofs.TextCounts.{counts-unique}
 use Rattle.jobs.proofs.TableLines.{table-line-unique}
 use Rattle.letter_corrections.proofs.LetterCorrections.{letters-unique}
+use Rattle.blank_calls.proofs.Outcomes.{blank-unique}
+use Rattle.kept_texts.proofs.Theorems.{keep-unique, keep-stays}
 use Rattle.demands.specs.Jobs.{Demand1Jobs}
 use Rattle.alf.specs.declared.Rules.{Rules}
 
@@ -32,4 +34,7 @@ demand-1-jobs =
       write-alternatives = λ names tree out. record { one = λ a b m o x y. alternatives-unique x y };
       correct-letters = λ names n states row letters.
           record { one = λ a b m o x y. letters-unique x y; stays = λ r m x. x .memory };
+      keep-text = λ names text sort kept.
+          record { one = λ a b m o x y. keep-unique _ _ _ _ _ x y; stays = λ r m x. keep-stays _ _ _ _ _ x };
+      blank = λ names n states kept. record { one = λ a b m o x y. blank-unique x y; stays = λ r m x. x .memory };
     }

@@ -24,6 +24,10 @@
 --   a time with another answer than yes, or another time than the first yes' start (document 02, [12]):
 --     `time-without-yes`, `time-elsewhere`, `longest-start`, `mirror-start` (Beginning)
 --     `time-not-above`, `queue-not-rising`, `push-not-above` (Accepting): times that do not rise are refused
+-- a kept pin overwritten, another pin told of; a pin that a text names forgotten, one that it does not name kept
+-- (document 02, [11])
+--     `kept-pin-overwritten`, `other-pin-told`, `T-overwritten`, `pin-forgotten`, `pin-invented`; `blank`, `keep-text`,
+--     `blank-attached`, `keep-text-attached` (Blanked)
 -- a time cut to 32 bits; `RL` for 2^32 - 1
 --     `long-listing`, `long-file` (LongTimes)
 -- row 0 answered, tried, changed
@@ -100,3 +104,4 @@ pub mod AttachedListsForC
 pub mod Activity
 pub mod LongTimes
 pub mod MadeTraces
+pub mod Blanked
