@@ -1,15 +1,20 @@
 // Dachsmond, the program: counts patterns of pin events in a trace. Here are the commands, their arguments, files and
 // complaints; `words` has the words. What is printed of an answer is made by one call of the library.
 mod began;
+mod blanked;
+mod lists;
 mod words;
 
 use crate::began::begin;
+use crate::blanked::blank_lent;
+use crate::lists::codes_in;
+use crate::lists::front_states;
+use crate::lists::front_times;
 use crate::words::help;
 use crate::words::named;
 use crate::words::option;
 use crate::words::ruled;
 use alf::Rules;
-use blank_command::blank;
 use complaints::unfit;
 use complaints::unknown;
 use console::output::say;
@@ -55,39 +60,14 @@ struct Asked {
     first: usize,
 }
 
-// A command on a trace; `list`, `values` and `rewrite` answer a text.
+// A command on a trace; `list`, `values` and `rewrite` answer a text. `blank` is in a file of its own.
 fn start(a: Asked, c: usize, names: &[u8], times: &[u64], states: &mut [u8]) {
     match c {
         TABLE => table(a.rules, a.first, names, times.len(), states),
-        BLANK => blank(a.rules, a.first, names, times, states),
         SHOW => show(names, times, states),
         CORRECT => correct(names, times, states),
         MAKE => write_to(a.first, names, times, states),
         _ => answer(a.rules, a.first, c, names, times, states),
-    }
-}
-
-// How many codes n rows of k names have.
-fn codes_in(n: usize, k: usize) -> usize {
-    if 32 < k {
-        return 0;
-    }
-    if 65535 < n {
-        return 0;
-    }
-    n * k
-}
-
-// The first n entries, or all: a list that is too short is refused by what takes it.
-fn front_times(list: &[u64], n: usize) -> &[u64] {
-    if n <= list.len() { &list[0..n] } else { list }
-}
-
-fn front_states(list: &mut [u8], n: usize) -> &mut [u8] {
-    if n <= list.len() {
-        &mut list[0..n]
-    } else {
-        list
     }
 }
 
@@ -141,6 +121,10 @@ fn on_trace(a: Asked, c: usize) {
     let mut times = [0u64; 65535];
     let mut states = [0u8; 2097120];
     let l = take_trace(c, a.trace, &mut names, &mut times, &mut states);
+    if c == BLANK {
+        blank_lent(a, &names, &times, &mut states, l.names, l.rows);
+        return;
+    }
     on_lent(a, c, &names, &times, &mut states, l.names, l.rows);
 }
 

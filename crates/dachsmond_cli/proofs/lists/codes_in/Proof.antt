@@ -2,8 +2,8 @@
 use native.Mathlib.Omega.{arith}
 use native.Mathlib.Nat.{mul-le-mul}
 use borrow.Author.Needs.{needs}
-use Rattle.dachsmond_cli.proofs.codes_in.Statement.{statement}
-use Rattle.dachsmond_cli.proofs.codes_in.Tie as tie
+use Rattle.dachsmond_cli.proofs.lists.codes_in.Statement.{statement}
+use Rattle.dachsmond_cli.proofs.lists.codes_in.Tie as tie
 
 returns : tie.Need-returns
 returns c = search needs
