@@ -21,7 +21,7 @@
 
 /* The version of this header. dachsmond_version() tells that of the library: 65536 * major + 256 * minor. */
 #define DACHSMOND_VERSION_MAJOR 4
-#define DACHSMOND_VERSION_MINOR 0
+#define DACHSMOND_VERSION_MINOR 1
 #define DACHSMOND_VERSION (65536 * DACHSMOND_VERSION_MAJOR + 256 * DACHSMOND_VERSION_MINOR)
 
 #ifdef __cplusplus

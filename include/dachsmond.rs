@@ -154,7 +154,7 @@ macro_rules! calls {
 }
 
 calls! {
-    /// The version of the library, 65536 * major + 256 * minor: 4.0 is 262144.
+    /// The version of the library, 65536 * major + 256 * minor: 4.1 is 262400.
     version = dachsmond_version() -> u32;
 
     /// How many names a list of names holds: 18, 12.

@@ -182,7 +182,7 @@ pub correct : (κs : Lfts 4) (a : Dens κs correct-kinds.ps) → correct-says.Pr
 correct κs a = (tt, λ r e p. p)
 
 pub version : (κs : Lfts 0) (a : Dens κs version-kinds.ps) → version-says.Pre κs a
-    × ((r : ℕ) (e : Dens κs version-kinds.ps) → version-says.Post κs a r e → r ≡ 262144)
+    × ((r : ℕ) (e : Dens κs version-kinds.ps) → version-says.Post κs a r e → r ≡ 262400)
 version κs a = (tt, λ r e p. p)
 
 pub old-rules : (κs : Lfts 0) (a : Dens κs old-rules-kinds.ps) → old-rules-says.Pre κs a
