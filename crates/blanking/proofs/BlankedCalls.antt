@@ -4,7 +4,7 @@
 --   blank-lists, blank-is, blank-size, blank-codes     what is done: the lists fit, the trace, its size, its codes
 --   rest-carried, rest-passed           an order that ends with 15 of the trace
 --   totals-kept, totals-same            the totals by a tree
---   listed-totals-kept                  by alternatives handed in
+--   listed-totals-kept, listed-totals-same     by alternatives handed in
 use Prim.Native.Nat.{ℕ, _+_, _*_, _<_, _≤_}
 use native.Mathlib.Nat.{zero-add, suc-mul, mul-le-mul-right}
 use native.Mathlib.Omega.{arith}
@@ -38,6 +38,7 @@ use Rattle.call_laws.proofs.Routes.{fed-codes}
 use Rattle.call_laws.proofs.Theorems.{rows-stable}
 use Rattle.call_laws.proofs.Unique.{totals-unique}
 use Rattle.listed_calls.specs.Listed.{ListedTotals}
+use Rattle.listed_calls.proofs.Unique.{listed-totals-unique}
 use Rattle.named_pins.specs.Pins.{namesIn, namesOf}
 use Rattle.named_pins.specs.Tables.{keeps}
 use Rattle.blank_calls.specs.Overwritten.{blankedRow, blankedByX}
@@ -159,3 +160,7 @@ module _ {k n : ℕ} {states kept states′ : List ℕ} {m : ℕ} (b : Blanks k 
                 (record { yeses = t .yeses ∙ same 1; noes = t .noes ∙ same 0; unknowns = t .unknowns ∙ same 2 })) r
                 (h .comes);
           }
+
+      pub listed-totals-same : {r r′ : Counting} → ListedTotals ρ k n tree steps tests edges operands states r
+          → ListedTotals ρ k n tree steps tests edges operands states′ r′ → r ≡ r′
+      listed-totals-same x y = listed-totals-unique (listed-totals-kept x) y

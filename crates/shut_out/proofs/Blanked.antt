@@ -134,21 +134,22 @@ module _ (ρ : Rules) (list text : List ℕ) (sort : Sort) (kept : List ℕ) whe
       })
 
   -- an entry of the table
-  module _ {x : Expression} (g : Gives ρ list text sort x) {kept′ : List ℕ} {m : ℕ} (i : ℕ) (pin : i < length kept) where
-    is-joined : KeepsText ρ list text sort kept kept′ (outcome.Done m)
-        → getD kept′ i 0 ≡ (if named x i then 1 else getD kept i 0)
-    is-joined (keeping.keeps y p h e is) =
-        rw (is, gives-unique h g) (joined-at (named x) kept i pin)
+  module _ {x : Expression} (g : Gives ρ list text sort x) {kept′ : List ℕ} {m : ℕ} (i : ℕ) (pin : i < length kept)
+    where
+      is-joined : KeepsText ρ list text sort kept kept′ (outcome.Done m)
+          → getD kept′ i 0 ≡ (if named x i then 1 else getD kept i 0)
+      is-joined (keeping.keeps y p h e is) =
+          rw (is, gives-unique h g) (joined-at (named x) kept i pin)
 
-    pub pin-forgotten : KeepsText ρ list text sort kept kept′ (outcome.Done m) → named x i ≡ true
-        → keeps kept′ i ≡ false → ⊥
-    unfolding keeps
-    pin-forgotten w h e = let z = rw h at (is-joined w) in never (sym (rw z at e))
+      pub pin-forgotten : KeepsText ρ list text sort kept kept′ (outcome.Done m) → named x i ≡ true
+          → keeps kept′ i ≡ false → ⊥
+      unfolding keeps
+      pin-forgotten w h e = let z = rw h at (is-joined w) in never (sym (rw z at e))
 
-    pub pin-invented : KeepsText ρ list text sort kept kept′ (outcome.Done m) → named x i ≡ false
-        → keeps kept i ≡ false → keeps kept′ i ≡ true → ⊥
-    unfolding keeps
-    pin-invented w h o e = let z = rw h at (is-joined w) in never (sym o ∙ (rw z at e))
+      pub pin-invented : KeepsText ρ list text sort kept kept′ (outcome.Done m) → named x i ≡ false
+          → keeps kept i ≡ false → keeps kept′ i ≡ true → ⊥
+      unfolding keeps
+      pin-invented w h o e = let z = rw h at (is-joined w) in never (sym o ∙ (rw z at e))
 
 pub blank-attached : (κs : Lfts 2) (a : Dens κs blank-kinds.ps) → blank-says.Pre κs a
     × ((r : Outcome) (e : Dens κs blank-kinds.ps) → blank-says.Post κs a r e
