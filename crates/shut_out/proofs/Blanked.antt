@@ -3,6 +3,7 @@
 --   BlankGood, blank, KeepGood, keep-text     good input, and `Exactly` of the calls
 --   kept-pin-overwritten       a kept pin of which a state is another one than before
 --   other-pin-told             a pin that is not kept, of which a state is not X
+--   T-not-refused              T refused, with a table of three pins
 --   T-overwritten              T, of which A alone is kept: any other trace in its place
 --   pin-forgotten              a pin that the text's expression names, and that is not kept
 --   pin-invented               a pin that is kept, though the text does not name it and it was not kept before
@@ -17,6 +18,7 @@ use lib.ListN.{length, getD}
 use contract.Lifetimes.{Lfts}
 use denote.Ref.{now}
 use borrow.Fn.Kinds.{Dens}
+use Rattle.basics.specs.declared.Refusal.{Refusal}
 use Rattle.basics.specs.declared.Outcome.{Outcome}
 use Rattle.basics.specs.declared.Outcome.the-variants as outcome
 use Rattle.basics.specs.Memory.{after}
@@ -55,6 +57,7 @@ use Rattle.shut_out.specs.Reasons.{Exactly, ExactlyIn}
 use Rattle.shut_out.proofs.Reasons.{exactly, exactly-in, comes-parts, ComesIn, comes-in-parts}
 use Rattle.shut_out.proofs.RefusingRows.{GoodTrace}
 use Rattle.shut_out.proofs.RefusingTexts.{Readable, read-passes}
+use Rattle.shut_out.proofs.OnT.{trace-good}
 
 -- a good trace, and a table with an entry for each name
 module _ (k n : ℕ) (codes kept : List ℕ) where
@@ -96,6 +99,11 @@ module _ {k n : ℕ} {codes kept codes′ : List ℕ} {m : ℕ} (b : Blanks k n 
   other-pin-told h differ = differ (rw h at entry)
 
 -- on T, whose rows are 011 111 10X X01 1Z1 10H
+pub T-not-refused : {kept codes′ : List ℕ} (r : Refusal) → length kept ≡ names
+    → Blanks names rows states kept codes′ (outcome.Refused r) → ⊥
+T-not-refused {kept} {codes′} r full w =
+    blank names rows states kept .no-refusal (record { trace = trace-good; full = full }) r codes′ w
+
 pub T-overwritten : {codes′ : List ℕ} {m : ℕ} → Blanks names rows states (1 ∷ 0 ∷ 0 ∷ []) codes′ (outcome.Done m)
     → codes′
     ≡ 0 ∷ X ∷ X ∷ 1 ∷ X ∷ X ∷ 1 ∷ X ∷ X ∷ X ∷ X ∷ X ∷ 1 ∷ X ∷ X ∷ 1 ∷ X ∷ X ∷ []

@@ -27,7 +27,7 @@
 -- a kept pin overwritten, another pin told of; a pin that a text names forgotten, one that it does not name kept
 -- (document 02, [11])
 --     `kept-pin-overwritten`, `other-pin-told`, `T-overwritten`, `pin-forgotten`, `pin-invented`; `blank`, `keep-text`,
---     `blank-attached`, `keep-text-attached` (Blanked)
+--     `T-not-refused`, `blank-attached`, `keep-text-attached` (Blanked)
 -- a time cut to 32 bits; `RL` for 2^32 - 1
 --     `long-listing`, `long-file` (LongTimes)
 -- row 0 answered, tried, changed
