@@ -1,38 +1,57 @@
 -- The steps and the tests of alternative t of the vector expression that ends at a place, with its pins, from its
 -- operands' alternatives.
--- Main names: shaping-entries, shaping-part, shaping-pos, shaping-join, shaping-condition; edge-shape, before-shape,
--- condition-shape, join-shape; combined-small.
+-- Main names: shaping-part, part-by, shaping-pos, shaping-join, shaping-condition; edge-shape, before-shape,
+-- condition-shape, join-shape; bothAt, Only, only-part, only-shape; combined-small.
 use Prim.Native.Nat.{ℕ, _+_, _-_, _<_, _≤_}
 use native.Mathlib.Omega.{arith}
 use mathlib.Core.Path.{_≡_, refl}
-use mathlib.Core.List.{List}
+use mathlib.Core.Logic.{_⊎_, inl, inr}
+use mathlib.Core.List.{List, []}
 use lib.ListN.{length, getD}
 use Rattle.alf.specs.Expressions.{Boolean, literal, Vector, edge, join, on-right, on-left}
 use Rattle.alf.specs.Decoder.{joinAt}
-use Rattle.alf.specs.Alternatives.{alternatives, numberOfAlternatives}
+use Rattle.alf.specs.Alternatives.{Alternative, alternatives, numberOfAlternatives}
 use Rattle.alternatives.specs.declared.picking.How.{How}
 use Rattle.trees.specs.Parts.{vectorAt, Start}
 use Rattle.trees.proofs.Vectors.{Conditioned, Joined, vector-pos, edge-is, before-is, condition-is, join-is}
-use Rattle.alternatives.specs.Picks.{Picked}
+use Rattle.alternatives.specs.Picks.{put, Picked}
+use Rattle.alternatives.proofs.Finding.{in-left, in-right}
 use Rattle.steady_pins.specs.Pinned.{pinCount, byPlaces}
-use Rattle.steady_pins.specs.Entries.{Entries, PinNumber}
+use Rattle.steady_pins.specs.Entries.{PinNumber}
 use Rattle.steady_pins.proofs.PinnedAlternatives.{placed-number}
 use Rattle.steady_pins.proofs.Starting.{vector-start, boolean-start}
-use Rattle.acceptance.specs.Sizes.{alternativeAt, Chosen, Shaping, Shaped, ShapedAt, Held, Combined}
-use Rattle.acceptance.specs.Sizes.{WithPins, Small}
+use Rattle.acceptance.specs.Notes.{Noted}
+use Rattle.acceptance.specs.Sizes.{alternativeAt, Chosen, Shaping, ShapingBy, Shaped, ShapedAt, Held, Combined}
+use Rattle.acceptance.specs.Sizes.{WithPins, Small, PartAt, from-left, from-right}
 use Rattle.acceptance.proofs.CappedCounts.{number-edge, number-join}
 use Rattle.acceptance.proofs.Numbers.{Number}
+use Rattle.acceptance.proofs.NotedParts.{noted-part}
 use Rattle.acceptance.proofs.Chosen.{edge-there, edge-one, while-at, join-at, pinned-shape, placed-there}
-use Rattle.acceptance.proofs.Chosen.{before-chosen, condition-chosen, left-is, right-is}
+use Rattle.acceptance.proofs.Chosen.{before-chosen, condition-chosen, left-is, right-is, join-picking}
+use Rattle.acceptance.proofs.Chosen.{left-chosen, right-chosen}
+
+-- two operands joined, with their pins
+abbrev pub bothAt : (ℕ → Boolean) → List ℕ → List ℕ → ℕ → ℕ → ℕ → Vector
+bothAt operand pins t names end m =
+    join (joinAt (getD t (end - 1) 0 - 50)) (byPlaces operand pins m (vectorAt t names m))
+    (byPlaces operand pins (end - 1) (vectorAt t names (end - 1)))
+
+-- of P | Q alternative a is alternative i of the operand that ends at `part`
+pub record Only (pins t : List ℕ) (names end m a part i : ℕ) : Type 0 where
+  pub chosen : Chosen t names part i
+  pub operand-of : (part ≡ m) ⊎ (part ≡ end - 1)
+  pub shorter : part < end
+  pub same : (operand : ℕ → Boolean)
+      → getD (alternatives (bothAt operand pins t names end m)) a [] ≡ alternativeAt operand pins t names part i
 
 module _ {pins t : List ℕ} {names end a : ℕ} (h : Shaping pins t names end a) where
-  -- the pins have entries for the part
-  pub shaping-entries : Entries pins end
-  shaping-entries =
-      record { long = h .long; some = vector-pos t names end (h .chosen .ends); few = h .small }
-
   pub shaping-part : {m b : ℕ} → m < end → Chosen t names m b → Shaping pins t names m b
   shaping-part l c = record { chosen = c; small = omega (arith, h .small); long = h .long }
+
+  -- what is noted for the whole is noted for the part
+  pub part-by : {notes : List ℕ} {m b : ℕ} → Noted pins notes t names end → m < end → Chosen t names m b
+      → ShapingBy pins notes t names m b
+  part-by n l c = record { shaping = shaping-part l c; noted = noted-part (omega arith) n }
 
   pub shaping-pos : 0 < end
   shaping-pos = vector-pos t names end (h .chosen .ends)
@@ -83,9 +102,10 @@ module _ {pins t : List ℕ} {names end a : ℕ} (h : Shaping pins t names end a
     module _ {m x y : ℕ} (j : Joined t names end m) (e : Number t names m x) (d : Number t names (end - 1) y)
       where
         abbrev placed : Vector
-        placed =
-            join (joinAt (getD t (end - 1) 0 - 50)) (byPlaces operand pins m (vectorAt t names m))
-            (byPlaces operand pins (end - 1) (vectorAt t names (end - 1)))
+        placed = bothAt operand pins t names end m
+
+        abbrev placed-at : Alternative
+        placed-at = getD (alternatives placed) a []
 
         join-there : a < length (alternatives placed)
         unfolding numberOfAlternatives
@@ -98,10 +118,10 @@ module _ {pins t : List ℕ} {names end a : ℕ} (h : Shaping pins t names end a
             (rw (j .is, number-join) at (h .chosen .there))
 
         module _ {how : How} {i k : ℕ} (p : Picked (joinAt (getD t (end - 1) 0 - 50)) x y a how i k) where
-          join-on : {s n s′ n′ s″ n″ s‴ n‴ : ℕ} → Start t names (end - 1) m → At m i s n → At (end - 1) k s′ n′
-              → Combined how s n s′ n′ s″ n″ → WithPins s″ n″ (pinCount pins end 32) s‴ n‴ → At end a s‴ n‴
-          unfolding byPlaces numberOfAlternatives
-          join-on g f o c w =
+          join-picked : placed-at ≡ put how (alternativeAt operand pins t names m i)
+              (alternativeAt operand pins t names (end - 1) k)
+          unfolding numberOfAlternatives
+          join-picked =
               let u = placed-number operand pins m (vectorAt t names m) in
               let v = placed-number operand pins (end - 1) (vectorAt t names (end - 1)) in
               let l = left-is t names end a (h .chosen) j e d in
@@ -109,8 +129,14 @@ module _ {pins t : List ℕ} {names end a : ℕ} (h : Shaping pins t names end a
               let u′ : length (alternatives (byPlaces operand pins m (vectorAt t names m))) ≡ x = omega arith in
               let v′ : length (alternatives (byPlaces operand pins (end - 1) (vectorAt t names (end - 1)))) ≡ y =
               omega arith in
-              rw (j .is, vector-start t names (end - 1) (j .right) g)
-              (pinned-shape operand pins end placed a join-there (rw (join-at _ _ _ p u′ v′) (c .given _ _ f o)) w)
+              join-at _ _ _ p u′ v′
+
+        join-on : {s n s′ n′ : ℕ} → Start t names (end - 1) m → Shaped placed-at s n
+            → WithPins s n (pinCount pins end 32) s′ n′ → At end a s′ n′
+        unfolding byPlaces
+        join-on g f w =
+            rw (j .is, vector-start t names (end - 1) (j .right) g)
+            (pinned-shape operand pins end placed a join-there f w)
 
   pub edge-shape : {k : ℕ} → 64 ≤ getD t (end - 1) 0 → PinNumber pins end k
       → ShapedAt pins t names end a 1 (1 + k)
@@ -131,7 +157,49 @@ module _ {pins t : List ℕ} {names end a : ℕ} (h : Shaping pins t names end a
       → PinNumber pins end o → WithPins s″ n″ o s‴ n‴ → ShapedAt pins t names end a s‴ n‴
   join-shape j e d p g f o c q w =
       let v = rw (q .is) at w in
-      record { given = λ operand. join-on operand j e d p g (f .given operand) (o .given operand) c v }
+      record {
+        given = λ operand.
+            join-on operand j e d g
+            (rw (join-picked operand j e d p) (c .given _ _ (f .given operand) (o .given operand))) v;
+      }
+
+  -- P | Q: the operand that the alternative is from
+  only-left : {m x : ℕ} (j : Joined t names end m) → Start t names (end - 1) m → getD t (end - 1) 0 ≡ 55
+      → Number t names m x → a < x → Only pins t names end m a m a
+  unfolding put
+  only-left j s k e l =
+      let p = in-left (join-picking t names end a (h .chosen) j e refl) k l in
+      record {
+        chosen = left-chosen t names end a (h .chosen) j e refl p;
+        operand-of = inl refl;
+        shorter = omega (arith, s .before);
+        same = λ operand. join-picked operand j e refl p;
+      }
+
+  only-right : {m x : ℕ} (j : Joined t names end m) → getD t (end - 1) 0 ≡ 55
+      → Number t names m x → x ≤ a → Only pins t names end m a (end - 1) (a - x)
+  unfolding put
+  only-right j k e l =
+      let p = in-right (join-picking t names end a (h .chosen) j e refl) k l in
+      record {
+        chosen = right-chosen t names end a (h .chosen) j e refl p;
+        operand-of = inr refl;
+        shorter = omega (arith, shaping-pos);
+        same = λ operand. join-picked operand j e refl p;
+      }
+
+  pub only-part : {m x part i : ℕ} → Joined t names end m → Start t names (end - 1) m → getD t (end - 1) 0 ≡ 55
+      → Number t names m x → PartAt m (end - 1) x a part i → Only pins t names end m a part i
+  only-part j s k e (from-left l p q) = rw (p, q) (only-left j s k e l)
+  only-part j s k e (from-right l p q) = rw (p, q) (only-right j k e l)
+
+  pub only-shape : {m x part i : ℕ} → Joined t names end m → Start t names (end - 1) m → Number t names m x
+      → Only pins t names end m a part i
+      → {s n s′ n′ o : ℕ} → ShapedAt pins t names part i s n → PinNumber pins end o → WithPins s n o s′ n′
+      → ShapedAt pins t names end a s′ n′
+  only-shape j g e y f q w =
+      let v = rw (q .is) at w in
+      record { given = λ operand. join-on operand j e refl g (rw (y .same operand) (f .given operand)) v }
 
 pub combined-small : {pins t : List ℕ} {names m e i k : ℕ} {how : How} {s n s′ n′ s″ n″ : ℕ}
     → ShapedAt pins t names m i s n → ShapedAt pins t names e k s′ n′ → Combined how s n s′ n′ s″ n″

@@ -1,10 +1,11 @@
 -- Document 01, limit 8, for trees: the size of a vector expression in alternatives, steps and tests.
 --   Counts, Small                     numbers that are counted no further than 65
---   alternativeAt, Chosen, Shaping    one alternative, and what is asked of it
+--   alternativeAt, Chosen, Shaping    one alternative, and what is asked of it; ShapingBy with what is noted
+--   PartAt                            the operand of `|` that an alternative is from
 --   Shaped, ShapedAt                  its numbers of steps and tests
 --   Held, Combined, WithPins          those of one under a condition, of one that is put together of two, with pins
 --   measured, PinnedTree, MeasuredAt  the size, or that it is over; of a tree with its pins
-use Prim.Native.Nat.{ℕ, _+_, _<_, _≤_, min}
+use Prim.Native.Nat.{ℕ, _+_, _-_, _<_, _≤_, min}
 use mathlib.Core.Path.{_≡_}
 use mathlib.Core.List.{List, []}
 use lib.ListN.{length, getD}
@@ -18,6 +19,7 @@ use Rattle.alternatives.specs.declared.picking.How.{How}
 use Rattle.trees.specs.Parts.{EndsVector, vectorAt}
 use Rattle.alternatives.specs.Picks.{put}
 use Rattle.steady_pins.specs.Pinned.{byPlaces}
+use Rattle.acceptance.specs.Notes.{Noted}
 
 -- what is asked: byte b is an operator of two vectors, and the numbers are counted no further than 65
 pub record Counts (b n m : ℕ) : Type 0 where
@@ -42,6 +44,16 @@ pub record Shaping (pins tree : List ℕ) (names end t : ℕ) : Type 0 where
   pub chosen : Chosen tree names end t
   pub small : end ≤ 256
   pub long : length pins ≡ 8192
+
+-- and what is noted for the parts
+pub record ShapingBy (pins notes tree : List ℕ) (names end t : ℕ) : Type 0 where
+  pub shaping : Shaping pins tree names end t
+  pub noted : Noted pins notes tree names end
+
+-- of P | Q, which end at `left` and `right`, alternative t is alternative i of the operand that ends at `part`
+pub data PartAt (left right n t part i : ℕ) : Type 0 where
+  from-left : t < n → part ≡ left → i ≡ t → PartAt left right n t part i
+  from-right : n ≤ t → part ≡ right → i ≡ t - n → PartAt left right n t part i
 
 -- the steps and the tests of an alternative; 65 stands for more than 64
 pub record Shaped (x : Alternative) (steps tested : ℕ) : Type 0 where

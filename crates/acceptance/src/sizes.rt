@@ -1,19 +1,17 @@
 // The size of a vector expression in alternatives, steps and tests: limit 8, counted and not built.
+use crate::counts::cap;
+use crate::notes;
 use alf::Rules;
 use alternatives::picking;
 use alternatives::picking::How;
-use steady_pins::counting::pin_count;
 use steady_pins::finding::find;
-use trees::parts;
 ghost use mathlib.Core.Path.{_≡_};
-ghost use Prim.Native.Nat.{_-_, _<_, _≤_, min, max};
-ghost use Rattle.alf.specs.Decoder.{joinAt};
-ghost use Rattle.alf.specs.Alternatives.{numberOfAlternatives};
-ghost use Rattle.trees.specs.Parts.{EndsVector, vectorAt};
-ghost use Rattle.alternatives.specs.Picks.{countOf};
+ghost use Prim.Native.Nat.{_<_, _≤_, max};
+ghost use Rattle.trees.specs.Parts.{vectorAt};
 ghost use Rattle.alf.specs.Steady.{meant};
 ghost use Rattle.steady_pins.specs.Finding.{Tree};
-ghost use Rattle.acceptance.specs.Sizes.{Counts, Shaping, ShapedAt, Held, Combined, WithPins, Small, measured};
+ghost use Rattle.acceptance.specs.Notes.{Noted};
+ghost use Rattle.acceptance.specs.Sizes.{ShapingBy, ShapedAt, PartAt, Held, Combined, WithPins, Small, measured};
 ghost use Rattle.acceptance.specs.Sizes.{PinnedTree, MeasuredAt};
 
 // How many alternatives, the steps of the longest, the tests of the one with most.
@@ -33,54 +31,6 @@ pub enum Measured {
 pub struct Shape {
     pub steps: usize,
     pub tests: usize,
-}
-
-fn cap(x: usize) -> usize
-    ensures { λ r. ⌜ r ≡ min 65 x ⌝ }
-{
-    if x < 65 { x } else { 65 }
-}
-
-// How many alternatives byte b makes of n and m.
-fn join_counts(b: u8, n: usize, m: usize) -> usize
-    requires { ⌜ Counts b n m ⌝ }
-    ensures { λ r. ⌜ r ≡ min 65 (countOf (joinAt (b - 50)) n m) ⌝ }
-{
-    if b == 55 {
-        return cap(n + m);
-    }
-    let block = n * m;
-    if b == 53 {
-        return cap(block + block + block);
-    }
-    if b == 51 {
-        return cap(block + block);
-    }
-    if b == 52 {
-        return cap(block + block);
-    }
-    cap(block)
-}
-
-// The number of alternatives of the vector expression that ends at `end`; 65 stands for more than 64.
-pub fn count_of(tree: &[u8], end: usize, names: usize) -> usize
-    requires { ⌜ EndsVector (now tree) names end ⌝ }
-    ensures { λ r. ⌜ r ≡ min 65 (numberOfAlternatives (vectorAt (now (tree .entry)) names end)) ⌝ }
-{
-    let at = end - 1;
-    let b = tree[at];
-    if 64 <= b {
-        return 1;
-    }
-    if b == 57 {
-        return count_of(tree, at, names);
-    }
-    let left = parts::start_of(tree, at, names);
-    let n = count_of(tree, left, names);
-    if b == 56 {
-        return n;
-    }
-    join_counts(b, n, count_of(tree, at, names))
 }
 
 // An alternative under a condition: one more test in each step.
@@ -135,39 +85,76 @@ fn pin(x: Shape, n: usize) -> Shape
     }
 }
 
+// Of a part of two, joined by `|`: the end of the operand that an alternative is from, and which one of it.
+pub struct Part {
+    pub end: usize,
+    pub t: usize,
+}
+
+// Alternative t of P | Q, which end at `left` and `right`; P has n.
+pub fn part_at(left: usize, right: usize, n: usize, t: usize) -> Part
+    ensures { λ r. ⌜ PartAt left right n t (r .end) (r .t) ⌝ }
+{
+    if t < n {
+        return Part { end: left, t };
+    }
+    Part {
+        end: right,
+        t: t - n,
+    }
+}
+
 // The steps and the tests of alternative t of the vector expression that ends at `end`, with its pins.
-pub fn shape_of(tree: &[u8], pins: &[u8; 8192], end: usize, names: usize, t: usize) -> Shape
-    requires { ⌜ Shaping (now pins) (now tree) names end t ⌝ }
+pub fn shape_of(
+    tree: &[u8],
+    pins: &[u8; 8192],
+    notes: &[u8; 768],
+    end: usize,
+    names: usize,
+    t: usize,
+) -> Shape
+    requires { ⌜ ShapingBy (now pins) (now notes) (now tree) names end t ⌝ }
     ensures { λ r. ⌜ ShapedAt (now (pins .entry)) (now (tree .entry)) names end t (r .steps) (r .tests) ⌝ }
 {
     let at = end - 1;
     let b = tree[at];
+    let pinned = notes::pins_at(pins, notes, end);
     if 64 <= b {
-        let tests = 1 + pin_count(pins, end);
+        let tests = 1 + pinned;
         return Shape { steps: 1, tests };
     }
     if b == 57 {
-        return hold(shape_of(tree, pins, at, names, t));
+        return hold(shape_of(tree, pins, notes, at, names, t));
     }
-    let left = parts::start_of(tree, at, names);
+    let left = notes::start_at(tree, notes, at, names);
     if b == 56 {
-        return hold(shape_of(tree, pins, left, names, t));
+        return hold(shape_of(tree, pins, notes, left, names, t));
     }
-    let n = count_of(tree, left, names);
-    let m = count_of(tree, at, names);
-    let p = alternatives::picking::find(b, n, m, t);
-    let x = shape_of(tree, pins, left, names, p.left);
-    let y = shape_of(tree, pins, at, names, p.right);
+    let n = notes::count_at(tree, notes, left, names);
+    if b == 55 {
+        let q = part_at(left, at, n, t);
+        return pin(shape_of(tree, pins, notes, q.end, names, q.t), pinned);
+    }
+    let m = notes::count_at(tree, notes, at, names);
+    let p = picking::find(b, n, m, t);
+    let x = shape_of(tree, pins, notes, left, names, p.left);
+    let y = shape_of(tree, pins, notes, at, names, p.right);
     let how = p.how;
-    pin(combine(how, x, y), pin_count(pins, end))
+    pin(combine(how, x, y), pinned)
 }
 
 // The size of the vector expression that ends at `end`, with its pins, or that it is over limit 8.
-fn measure_pinned(tree: &[u8], pins: &[u8; 8192], end: usize, names: usize) -> Measured
-    requires { ⌜ PinnedTree (now pins) (now tree) names end ⌝ }
+fn measure_pinned(
+    tree: &[u8],
+    pins: &[u8; 8192],
+    notes: &[u8; 768],
+    end: usize,
+    names: usize,
+) -> Measured
+    requires { ⌜ PinnedTree (now pins) (now tree) names end × Noted (now pins) (now notes) (now tree) names end ⌝ }
     ensures { λ r. ⌜ MeasuredAt (now (pins .entry)) (now (tree .entry)) names end r ⌝ }
 {
-    let n = count_of(tree, end, names);
+    let n = notes::count_at(tree, notes, end, names);
     if 64 < n {
         return Measured::Over;
     }
@@ -175,7 +162,7 @@ fn measure_pinned(tree: &[u8], pins: &[u8; 8192], end: usize, names: usize) -> M
     let mut tests: usize = 0;
     let mut t: usize = 0;
     while t < n {
-        let x = shape_of(tree, pins, end, names, t);
+        let x = shape_of(tree, pins, notes, end, names, t);
         steps = larger(steps, x.steps);
         tests = larger(tests, x.tests);
         t += 1;
@@ -199,5 +186,6 @@ pub fn measure(rules: Rules, tree: &[u8], end: usize, names: usize) -> Measured
     ensures { λ r. ⌜ r ≡ measured (meant rules (vectorAt (now (tree .entry)) names end)) ⌝ }
 {
     let pins = find(rules, tree, end, names);
-    measure_pinned(tree, &pins, end, names)
+    let notes = notes::note(tree, &pins, end, names);
+    measure_pinned(tree, &pins, &notes, end, names)
 }

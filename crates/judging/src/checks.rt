@@ -13,7 +13,7 @@ use alf::Rules;
 use alf::Sort;
 use basics::Refusal;
 use basics::refusing::refusal_of;
-use states::codes::first_bad_code;
+use states::codes::first_bad_of_many;
 
 // Whether a call is refused.
 pub enum Verdict {
@@ -45,7 +45,7 @@ fn judge_test(number: u8, good: bool) -> Verdict
 pub fn judge_codes(states: &[u8]) -> Verdict
     ensures { λ r. ⌜ Judged (codes (now (states .entry))) (Codes (now (states .entry))) r ⌝ }
 {
-    let bad = first_bad_code(states);
+    let bad = first_bad_of_many(states);
     if bad < states.len() {
         return Verdict::Refused(refusal_of(15, bad));
     }

@@ -101,7 +101,7 @@ pub fn match_all(
     match v {
         Verdict::Refused(r) => Outcome::Refused(r),
         Verdict::Good => {
-            matcher::tables::match_all(
+            block_answers::answers::match_all(
                 rules,
                 tree,
                 names,
@@ -140,7 +140,7 @@ pub fn totals(
     let v = judge(lists, good, states);
     match v {
         Verdict::Refused(r) => Counting::Refused(r),
-        Verdict::Good => Counting::Counted(matcher::tables::totals(
+        Verdict::Good => Counting::Counted(block_totals::totals::totals(
             rules,
             tree,
             names,

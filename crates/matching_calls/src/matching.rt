@@ -91,7 +91,7 @@ fn match_tree_all(
     let tests = a.tests;
     let edges = a.edges;
     let operands = a.operands;
-    matcher::tables::match_all(
+    block_answers::answers::match_all(
         rules,
         tree,
         names,
@@ -121,7 +121,7 @@ fn total_tree(rules: Rules, names: usize, n: usize, tree: &[u8], states: &[u8]) 
     let tests = a.tests;
     let edges = a.edges;
     let operands = a.operands;
-    matcher::tables::totals(
+    block_totals::totals::totals(
         rules,
         tree,
         names,

@@ -1,13 +1,14 @@
 -- What each turn of the loops over steps and alternatives asks, and what it comes to.
--- Main names: step-placing, step-rises, step-small, step-next, steps-added; alternative-adding, alternative-next,
+-- Main names: step-stepping, step-rises, step-small, step-next, steps-added; alternative-adding, alternative-next,
 -- alternatives-filled.
 use Prim.Native.Nat.{ℕ, _+_, _-_, _<_, _≤_}
 use native.Mathlib.Omega.{arith}
-use mathlib.Core.Path.{_≡_, refl}
+use mathlib.Core.Path.{_≡_, refl, sym}
 use mathlib.Core.List.{List}
 use lib.ListN.{length, set}
+use Rattle.acceptance.specs.Notes.{Noted}
 use Rattle.acceptance.specs.Sizes.{ShapedAt}
-use Rattle.step_tests.specs.Steps.{stepAt, Placing, Put}
+use Rattle.step_tests.specs.Steps.{stepAt, Placing, Stepping, Put}
 use Rattle.rewriting.specs.Lists.{alternativesBy, alternativeOf, Ready, Adding, Added, Fillable, Filled}
 use Rattle.rewriting.proofs.Bounds.{ready-pins, ready-bounded, few-steps, few-tests, shape-exact}
 use Rattle.rewriting.proofs.Bounds.{ready-chosen, ready-short}
@@ -38,7 +39,7 @@ module _ {pins tree : List ℕ} {names t n : ℕ} {tests₀ : List ℕ} {s : ℕ
     there : j < length (alternativeOf pins tree names t)
     there = omega (arith, h .steps)
 
-    pub step-placing : Placing pins tree names (length tree) t j edges operands at
+    step-placing : Placing pins tree names (length tree) t j edges operands at
     step-placing =
         let e = walking-lengths g in
         let r = walking-room g there in
@@ -50,6 +51,10 @@ module _ {pins tree : List ℕ} {names t n : ℕ} {tests₀ : List ℕ} {s : ℕ
           edges-room = omega (arith, e .1, h .edges-room);
           operands-room = omega (arith, e .2, h .operands-room);
         }
+
+    pub step-stepping : {notes : List ℕ} → Noted pins notes tree names (length tree)
+        → Stepping pins notes tree names (length tree) t n j edges operands at
+    step-stepping k = record { placing = step-placing; counted = sym (h .steps); noted = k }
 
     module _ {next : ℕ} {edges′ operands′ : List ℕ}
         (p : Put (stepAt pins tree names (length tree) t j) at edges operands next edges′ operands′) where

@@ -1,10 +1,13 @@
 // The call `rewrite`: the alternatives of a tree, written into lent lists, or a refusal.
 ghost use mathlib.Core.Path.{_≡_};
+ghost use lib.ListN.{length};
 ghost use Rattle.alf.specs.Refusals.{NameCount};
 ghost use Rattle.basics.specs.Deciding.{Decides};
+ghost use Rattle.acceptance.specs.Notes.{Noted};
 ghost use Rattle.rewriting.specs.Lists.{alternativesBy, Ready};
 ghost use Rattle.rewriting_calls.specs.Calls.{Delivers, Rewrites};
 use acceptance::accepting::accepts;
+use acceptance::notes::note;
 use alf::Rules;
 use alf::Sort;
 use basics::Outcome;
@@ -28,17 +31,19 @@ fn deliver(
     names: usize,
     tree: &[u8],
     pins: &[u8; 8192],
+    notes: &[u8; 768],
     steps: &mut [u8],
     tests: &mut [u8],
     edges: &mut [u8],
     operands: &mut [u16],
 ) -> Outcome
-    requires { ⌜ Ready (now pins) (now tree) names ⌝ }
+    requires { ⌜ Ready (now pins) (now tree) names
+        × Noted (now pins) (now notes) (now tree) names (length (now tree)) ⌝ }
     ensures { λ r. ⌜ Delivers (alternativesBy (now (pins .entry)) (now (tree .entry)) names) (now (steps .entry))
         (now (tests .entry)) (now (edges .entry)) (now (operands .entry)) (now (steps .exit)) (now (tests .exit))
         (now (edges .exit)) (now (operands .exit)) r ⌝ }
 {
-    let l = lengths_of(tree, pins, names);
+    let l = lengths_of(tree, pins, notes, names);
     if steps.len() < l.alternatives {
         return refuse(9, l.alternatives);
     }
@@ -51,7 +56,7 @@ fn deliver(
     if operands.len() < l.tests {
         return refuse(9, l.tests);
     }
-    fill(tree, pins, names, steps, tests, edges, operands);
+    fill(tree, pins, notes, names, steps, tests, edges, operands);
     Outcome::Done(l.alternatives)
 }
 
@@ -77,5 +82,6 @@ pub fn rewrite(
         return refuse(10, 0);
     }
     let pins = find(rules, tree, tree.len(), names);
-    deliver(names, tree, &pins, steps, tests, edges, operands)
+    let notes = note(tree, &pins, tree.len(), names);
+    deliver(names, tree, &pins, &notes, steps, tests, edges, operands)
 }

@@ -1,6 +1,6 @@
 -- Refusal 15 of a list of states (alf/specs/Refusals, `bad-code`): where the first code above 7 stands.
 --   FirstBad     that place, or the length where there is none
---   Bounds       a bound of all entries
+--   Bounds, BoundsTo, BoundsFrom     a bound of all entries; of the first ones, of the others
 --   Codes        each entry is the code of a state
 use Prim.Native.Nat.{ℕ, _<_, _≤_}
 use mathlib.Core.List.{List}
@@ -15,6 +15,13 @@ pub record FirstBad (states : List ℕ) (r : ℕ) : Type 0 where
 -- none of them is above r
 pub record Bounds (states : List ℕ) (r : ℕ) : Type 0 where
   pub all : (i : ℕ) → i < length states → getD states i 0 ≤ r
+
+-- none of the first n, none from n on
+pub record BoundsTo (states : List ℕ) (n r : ℕ) : Type 0 where
+  pub all : (i : ℕ) → i < n → getD states i 0 ≤ r
+
+pub record BoundsFrom (states : List ℕ) (n r : ℕ) : Type 0 where
+  pub all : (i : ℕ) → n ≤ i → i < length states → getD states i 0 ≤ r
 
 -- each entry is the code of a state
 abbrev pub Codes : List ℕ → Type 0

@@ -3,12 +3,24 @@
 // 2 yes.
 ghost use mathlib.Core.Path.{_≡_};
 ghost use Prim.Native.Nat.{_<_, min, max};
-ghost use Rattle.alf.specs.Windows.{asked, digitAsked, certainty, edgeOn};
+ghost use Rattle.alf.specs.Expressions.{the};
+ghost use Rattle.alf.specs.Windows.{asked, certainty, edgeOn};
 ghost use Rattle.alf.specs.Decoder.{halfAt, edgeAt};
-use crate::states::reduced;
 
 // of 0 1 X H L W Z U
 const CERTAINTY: [u8; 8] = [0, 2, 1, 2, 0, 1, 1, 1];
+
+// the literals 0 1 X H L W Z U, a line for each, asked of the states 0 1 X H L W Z U
+const ASKED: [[u8; 8]; 8] = [
+    [2, 0, 1, 0, 2, 1, 1, 1],
+    [0, 2, 1, 2, 0, 1, 1, 1],
+    [0, 0, 2, 0, 0, 0, 0, 0],
+    [0, 0, 0, 2, 0, 0, 0, 0],
+    [0, 0, 0, 0, 2, 0, 0, 0],
+    [0, 0, 0, 0, 0, 2, 0, 0],
+    [0, 0, 0, 0, 0, 0, 2, 0],
+    [0, 0, 0, 0, 0, 0, 0, 2],
+];
 
 // The answer of a condition's state: 1 yes, X unknown, 0 no.
 pub fn certainty_of(x: u8) -> u8
@@ -31,19 +43,13 @@ pub fn greater(x: u8, y: u8) -> u8
     if x < y { y } else { x }
 }
 
-// A digit asked of a state: provably it, unknown, or no.
-fn ask_digit(l: u8, s: u8) -> u8
-    requires { ⌜ s < 8 ⌝ }
-    ensures { λ r. ⌜ r ≡ digitAsked l s ⌝ }
+// A literal asked of a state: a digit is yes, unknown or no by what the state reduces to, a letter is yes for that very
+// state.
+fn ask_literal(l: u8, s: u8) -> u8
+    requires { ⌜ (l < 8) × (s < 8) ⌝ }
+    ensures { λ r. ⌜ r ≡ asked (the l) s ⌝ }
 {
-    let v = reduced(s);
-    if v == l {
-        return 2;
-    }
-    if v == 2 {
-        return 1;
-    }
-    0
+    ASKED[l as usize][s as usize]
 }
 
 // Half h of `? 0 1 X H L W Z U` asked of a state.
@@ -55,10 +61,10 @@ pub fn ask(h: u8, s: u8) -> u8
         return 2;
     }
     let l = h - 1;
-    if l < 2 {
-        return ask_digit(l, s);
+    if l < 8 {
+        return ask_literal(l, s);
     }
-    if s == l { 2 } else { 0 }
+    0
 }
 
 // Edge k on the states before and after: 0 to 80 two halves, 81 `?!`, 82 `?-`.

@@ -1,5 +1,6 @@
 -- The tests of a part's pins in memory, one after the other.
 --   entries-few                  how many entries are tested at a step
+--   no-tests                     where there is no pin
 --   no-pin, a-pin, pin-fits      one entry
 --   Pinning, first-pin, pin-room, next-pin, all-pins     those of some entries, one after the other
 use Prim.Native.Nat.{ℕ, zero, suc, _+_, _<_, _≤_}
@@ -8,15 +9,18 @@ use native.Mathlib.Numerals.{add-one}
 use mathlib.Core.Path.{_≡_, refl, ap, _∙_}
 use mathlib.Core.Bool.{Bool, true, false}
 use mathlib.Core.Logic.{_⊎_, inl, inr}
-use mathlib.Core.List.{List, _++_}
+use mathlib.Core.List.{List, [], _∷_, _++_}
 use lib.Dec.{eqb}
 use lib.ListN.{length, length-append}
 use borrow.Author.Tests.{eq-eqb, ne-eqb}
 use Rattle.basics.specs.Words.{if_then_else_}
-use Rattle.basics.proofs.Bools.{equal?}
+use Rattle.basics.proofs.Bools.{equal?, below?}
 use Rattle.alf.specs.Expressions.{name, stays}
 use Rattle.alf.specs.Bytes.{edgeNumber}
+use Rattle.alf.specs.Alternatives.{Step}
 use Rattle.steady_pins.specs.Pinned.{pinAt, pinTests}
+use Rattle.steady_pins.specs.Entries.{PinNumber}
+use Rattle.steady_pins.proofs.PinnedAlternatives.{tests-counted}
 use Rattle.step_tests.specs.Steps.{Put, Fits, OnePut, onePin, PinFits, PinsFit, entriesAt}
 use Rattle.step_tests.proofs.Puts.{put-none, put-one, put-then, put-lengths}
 
@@ -27,6 +31,34 @@ entries-few steps j = go (eqb (j + 1) steps)
     go : (b : Bool) → (if b then 32 else 0) ≤ 32
     go true = omega arith
     go false = omega arith
+
+-- no pin, no test
+empty : (s : Step) → length s ≡ 0 → s ≡ []
+empty [] e = refl
+empty (x ∷ s) e = absurd (omega arith)
+
+tests-rise : (pins : List ℕ) (end m n : ℕ) → n ≤ m
+    → length (pinTests name pins n end) ≤ length (pinTests name pins m end)
+unfolding pinTests onePin
+tests-rise pins end zero zero l = omega arith
+tests-rise pins end zero (suc n) l = absurd (omega arith)
+tests-rise pins end (suc m) n l = go (below? m n) (tests-rise pins end m n)
+  where
+    go : (m < n) ⊎ (n ≤ m)
+        → (n ≤ m → length (pinTests name pins n end) ≤ length (pinTests name pins m end))
+        → length (pinTests name pins n end) ≤ length (pinTests name pins (suc m) end)
+    go (inl k) f = let e : n ≡ suc m = omega arith in rw e (omega arith)
+    go (inr k) f =
+        let e = length-append (pinTests name pins m end) (onePin (pinAt pins end m)) in
+        omega (arith, f k)
+
+pub no-tests : {pins : List ℕ} {end n from k : ℕ} {edges operands : List ℕ} → PinNumber pins end k → k ≡ 0 → n ≤ 32
+    → Put (pinTests name pins n end) from edges operands from edges operands
+no-tests {pins} {end} {n} h e l =
+    let u = tests-rise pins end 32 n l in
+    let v = tests-counted name pins 32 end in
+    let w : length (pinTests name pins n end) ≡ 0 = omega (arith, h .is) in
+    rw (empty (pinTests name pins n end) w) put-none
 
 -- one entry
 module _ {pin from : ℕ} {edges operands : List ℕ} where

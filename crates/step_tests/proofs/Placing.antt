@@ -1,6 +1,6 @@
 -- Step j of alternative a of the expression that ends at a place, with its pins, its operands as places, from its
 -- operands' steps.
--- Main names: edge-step, before-step, condition-step, join-step.
+-- Main names: edge-step, before-step, condition-step, join-step, join-length, only-step, only-length.
 use Prim.Native.Nat.{ℕ, zero, suc, _+_, _-_, _<_, _≤_}
 use native.Mathlib.Omega.{arith}
 use mathlib.Core.Path.{_≡_, refl, ap, ap₂, sym, _∙_}
@@ -16,13 +16,15 @@ use Rattle.alf.specs.Alternatives.{test, Step, Alternative, conditioned, altern
 use Rattle.trees.specs.Parts.{EndsVector, vectorAt, Start}
 use Rattle.trees.proofs.Vectors.{Conditioned, Joined, edge-is, before-is, before-ends}
 use Rattle.alternatives.specs.declared.picking.How.{How}
-use Rattle.alternatives.specs.Picks.{Picked}
+use Rattle.alternatives.specs.Picks.{put, Picked}
 use Rattle.basics.proofs.Entries.{getD-map}
 use Rattle.steady_pins.specs.Pinned.{pinned, pinTests, byPlaces}
 use Rattle.steady_pins.proofs.LastSteps.{lastOf, last-on}
 use Rattle.steady_pins.proofs.PinnedAlternatives.{placed-number, placed-length, pinned-length, pinned-step}
 use Rattle.steady_pins.proofs.Starting.{vector-start, boolean-start}
 use Rattle.acceptance.specs.Sizes.{alternativeAt}
+use Rattle.acceptance.proofs.Chosen.{join-at}
+use Rattle.acceptance.proofs.Shapes.{Only}
 use Rattle.step_tests.specs.Steps.{stepAt, Split, entriesAt}
 use Rattle.step_tests.proofs.Splits.{getD-conditioned}
 
@@ -151,3 +153,28 @@ module _ (pins t : List ℕ) (names end a j : ℕ) (h : EndsVector t names end) 
         ∙ ap₂ _++_
         (join-steps _ left right i k j l r p (placed-number name pins m _ ∙ e) (placed-number name pins (end - 1) _ ∙ d)
         q u v) (last-step z)
+
+    -- the whole has as many steps as the two put together
+    pub join-length : {n w i k : ℕ} {how : How} → Picked (joinAt (getD t (end - 1) 0 - 50)) n w a how i k
+        → length (alternatives (vectorAt t names m)) ≡ n → length (alternatives (vectorAt t names (end - 1))) ≡ w
+        → length (alternativeAt name pins t names end a)
+        ≡ length (put how (alternativeAt name pins t names m i) (alternativeAt name pins t names (end - 1) k))
+    join-length p e d =
+        ap (λ (p : Vector). length (getD (alternatives p) a [])) both-is ∙ pinned-length name pins 32 end both a
+        ∙ ap length (join-at _ left right p (placed-number name pins m _ ∙ e) (placed-number name pins (end - 1) _ ∙ d))
+
+    -- P | Q: the operand's step, and the pins
+    pub only-step : {part i steps : ℕ} → Only pins t names end m a part i
+        → length (alternativeAt name pins t names end a) ≡ steps
+        → stepAt pins t names end a j
+        ≡ stepAt pins t names part i j ++ pinTests name pins (entriesAt steps j) end
+    only-step {part} {i} {steps} o z =
+        ap (λ (p : Vector). getD (getD (alternatives p) a []) j []) both-is
+        ∙ pinned-step name pins 32 end both a j
+        ∙ ap₂ _++_ (ap (λ (x : Alternative). getD x j []) (o .same name)) (last-step z)
+
+    pub only-length : {part i : ℕ} → Only pins t names end m a part i
+        → length (alternativeAt name pins t names part i) ≡ length (alternativeAt name pins t names end a)
+    only-length o =
+        sym (ap (λ (p : Vector). length (getD (alternatives p) a [])) both-is ∙ pinned-length name pins 32 end both a
+        ∙ ap length (o .same name))

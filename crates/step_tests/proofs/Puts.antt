@@ -1,8 +1,8 @@
 -- The tests of a step in memory, one part after the other, and what is asked for each part.
 --   put-none, put-one, put-then      no test, one test, some tests behind others
 --   put-lengths, one-lengths         the lists stay as long as they are
---   long, short-one                  no alternative is longer than the longest, and than 64 steps
---   beyond, there                    a step that there is not, and one that there is
+--   long                             no alternative is longer than the longest
+--   beyond                           a step that there is not
 use Prim.Native.Nat.{ℕ, zero, suc, _+_, _<_, _≤_}
 use native.Mathlib.Omega.{arith}
 use native.Mathlib.Nat.{add-zero}
@@ -73,20 +73,7 @@ long (x ∷ xs) (suc a) = let e = long xs a in omega arith
 
 module _ {pins t : List ℕ} {names end a j : ℕ} {edges operands : List ℕ} {from : ℕ}
     (h : Placing pins t names end a j edges operands from) where
-  pub short-one : length (alternativeAt name pins t names end a) ≤ 64
-  unfolding stepsOf
-  short-one =
-      let e = long (alternatives (vectorAt t names end)) a in
-      let d = placed-length name pins end (vectorAt t names end) a in omega (arith, h .short)
-
-  -- a step that there is not, and one that there is
-  pub beyond : {s n : ℕ} → ShapedAt pins t names end a s n → s ≤ j
+  -- a step that there is not
+  pub beyond : {s : ℕ} → length (alternativeAt name pins t names end a) ≡ s → s ≤ j
       → Put (stepAt pins t names end a j) from edges operands from edges operands
-  beyond g l =
-      let k = short-one in
-      rw (List·getD-eq-default (alternativeAt name pins t names end a) [] {n = j}
-      (omega (arith, g .given name .steps-is))) put-none
-
-  pub there : {s n : ℕ} → ShapedAt pins t names end a s n → j < s
-      → j < length (alternativeAt name pins t names end a)
-  there g l = omega (arith, g .given name .steps-is)
+  beyond g l = rw (List·getD-eq-default (alternativeAt name pins t names end a) [] {n = j} (omega arith)) put-none

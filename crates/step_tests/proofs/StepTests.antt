@@ -4,7 +4,7 @@
 -- held-put.
 use Prim.Native.Nat.{ℕ, zero, suc, _+_, _-_, _<_, _≤_}
 use native.Mathlib.Omega.{arith}
-use mathlib.Core.Path.{_≡_, refl, ap, _∙_}
+use mathlib.Core.Path.{_≡_, refl, ap, sym, _∙_}
 use mathlib.Core.List.{List, [], _∷_, _++_}
 use lib.ListN.{length, getD, length-append}
 use Rattle.alf.specs.Expressions.{Boolean, name, the, Edge, pair, Vector, edge, while, Side, on-right, on-left}
@@ -44,13 +44,16 @@ exact {pins} {t} {names} {end} {a} l g =
     omega (arith, g .given name .steps-is)
 
 -- a condition adds no step
+while-length : (s : Side) (p : Vector) (c : Boolean) (a : ℕ) → a < length (alternatives p)
+    → length (getD (alternatives (while s p c)) a []) ≡ length (getD (alternatives p) a [])
+unfolding alternatives
+while-length s p c a l =
+    ap length (getD-map (conditioned c) (alternatives p) a [] [] l)
+    ∙ conditioned-length c (getD (alternatives p) a [])
+
 while-there : (s : Side) (p : Vector) (c : Boolean) (a j : ℕ) → a < length (alternatives p)
     → j < length (getD (alternatives (while s p c)) a []) → j < length (getD (alternatives p) a [])
-unfolding alternatives
-while-there s p c a j l k =
-    let e = ap length (getD-map (conditioned c) (alternatives p) a [] [] l) in
-    let d = conditioned-length c (getD (alternatives p) a []) in
-    omega arith
+while-there s p c a j l k = let e = while-length s p c a l in omega arith
 
 -- an edge has one step
 one-step : (e : Edge) (c : Boolean) (a : ℕ) → length (getD (alternatives (edge e c)) a []) ≤ 1
@@ -165,6 +168,14 @@ module _ {pins t : List ℕ} {names end a j : ℕ} {edges operands : List ℕ} {
         while-there on-left _ _ a j (chosen-there (before-chosen t names end a (h .chosen) k))
         (rw (before-is t names end (h .chosen .ends) k) at (rw (placed-length name pins end _ a) at o))
 
+    pub before-same : length (alternativeAt name pins t names (end - 1) a)
+        ≡ length (alternativeAt name pins t names end a)
+    before-same =
+        let e = while-length on-left _ _ a (chosen-there (before-chosen t names end a (h .chosen) k)) in
+        placed-length name pins (end - 1) (vectorAt t names (end - 1)) a
+        ∙ sym (placed-length name pins end (vectorAt t names end) a
+        ∙ rw (before-is t names end (h .chosen .ends) k) e)
+
     pub before-whole : stepAt pins t names end a j ≡ stepAt pins t names (end - 1) a j ++ held m
     before-whole =
         before-step pins t names end a j (h .chosen .ends) k s
@@ -181,6 +192,12 @@ module _ {pins t : List ℕ} {names end a j : ℕ} {edges operands : List ℕ} {
     condition-there =
         while-there on-right _ _ a j (chosen-there (condition-chosen t names end a (h .chosen) c))
         (rw (c .is) at (rw (placed-length name pins end _ a) at o))
+
+    pub condition-same : length (alternativeAt name pins t names m a) ≡ length (alternativeAt name pins t names end a)
+    condition-same =
+        let e = while-length on-right _ _ a (chosen-there (condition-chosen t names end a (h .chosen) c)) in
+        placed-length name pins m (vectorAt t names m) a
+        ∙ sym (placed-length name pins end (vectorAt t names end) a ∙ rw (c .is) e)
 
     pub condition-whole : stepAt pins t names end a j ≡ stepAt pins t names m a j ++ held (end - 1)
     condition-whole =

@@ -1,11 +1,13 @@
 -- One step of one alternative, in memory.
 --   stepAt               step j of alternative t of the expression that ends at a place
---   Placing, Put         what is asked, and what is written
+--   Placing, Stepping, Put    what is asked, and what is written
+--   inTurn, LeftAsked    what is asked for the steps of a left operand
 --   Behind, Split        a step behind empty ones, and a step of an alternative that is put together of two
 --   Fits, OnePut         one test
 --   onePin, PinFits, PinsFit, entriesAt     the tests of a part's pins
 use Prim.Native.Nat.{ℕ, _+_, _<_, _≤_}
 use mathlib.Core.Path.{_≡_}
+use mathlib.Core.Bool.{Bool, true, false}
 use mathlib.Core.List.{List, [], _∷_, _++_}
 use lib.Dec.{eqb}
 use lib.ListN.{length, getD, set}
@@ -15,8 +17,10 @@ use Rattle.alf.specs.Expressions.{name, stays}
 use Rattle.alf.specs.Alternatives.{test, Step, Alternative, padded, alternatives, stepsOf}
 use Rattle.trees.specs.Parts.{vectorAt}
 use Rattle.alternatives.specs.declared.picking.How.{How}
+use Rattle.alternatives.specs.declared.picking.How.the-variants.{Left, Right, LeftFirst, RightFirst, Together}
 use Rattle.alternatives.specs.Picks.{put}
-use Rattle.acceptance.specs.Sizes.{Chosen}
+use Rattle.acceptance.specs.Notes.{Noted}
+use Rattle.acceptance.specs.Sizes.{alternativeAt, Chosen, ShapingBy}
 use Rattle.steady_pins.specs.Pinned.{pinTests, byPlaces}
 use Rattle.steady_pins.specs.Entries.{Entries}
 use Rattle.step_tests.specs.OperandPlaces.{numbers, ends}
@@ -36,6 +40,26 @@ pub record Placing (pins tree : List ℕ) (names end t j : ℕ) (edges operands 
   pub long : length pins ≡ 8192
   pub edges-room : from + length (stepAt pins tree names end t j) ≤ length edges
   pub operands-room : from + length (stepAt pins tree names end t j) ≤ length operands
+
+-- and the alternative has so many steps, and the parts are noted
+pub record Stepping (pins notes tree : List ℕ) (names end t steps j : ℕ) (edges operands : List ℕ) (from : ℕ)
+    : Type 0 where
+  pub placing : Placing pins tree names end t j edges operands from
+  pub counted : length (alternativeAt name pins tree names end t) ≡ steps
+  pub noted : Noted pins notes tree names end
+
+-- whether one alternative follows the other; then the whole has the steps of both
+unfoldable pub inTurn : How → Bool
+inTurn Left = false
+inTurn Right = false
+inTurn LeftFirst = true
+inTurn RightFirst = true
+inTurn Together = false
+
+pub record LeftAsked (pins notes tree : List ℕ) (names left i : ℕ) (how : How) (steps right : ℕ) : Type 0 where
+  pub shaping : ShapingBy pins notes tree names left i
+  pub short : stepsOf (vectorAt tree names left) ≤ 64
+  pub both : inTurn how ≡ true → length (alternativeAt name pins tree names left i) + right ≡ steps
 
 -- the tests of a step from a place on, the place behind them, and the lists as they were before and behind
 pub record Put (s : Step) (from : ℕ) (edges operands : List ℕ) (next : ℕ) (edges′ operands′ : List ℕ)

@@ -2,12 +2,25 @@
 use alternatives::picking::How;
 ghost use mathlib.Core.Path.{_≡_};
 ghost use Prim.Native.Nat.{_-_};
-ghost use Rattle.step_tests.specs.Steps.{Behind, Split};
+ghost use Rattle.step_tests.specs.Steps.{Behind, Split, inTurn};
 
 // A step of the left one and a step of the right one; a number that is no step's stands for none.
 pub struct Two {
     pub left: usize,
     pub right: usize,
+}
+
+// Whether one alternative follows the other.
+pub fn in_turn(how: How) -> bool
+    ensures { λ r. ⌜ r ≡ inTurn how ⌝ }
+{
+    match how {
+        How::Left => false,
+        How::Right => false,
+        How::LeftFirst => true,
+        How::RightFirst => true,
+        How::Together => false,
+    }
 }
 
 // How many more x is than y.

@@ -4,7 +4,7 @@ ghost use Rattle.alf.specs.Decoder.{arityAt};
 ghost use Rattle.trees.specs.Parts.{Ends, Start};
 
 // How many operands a byte takes.
-fn arity(b: u8) -> usize
+pub fn arity(b: u8) -> usize
     ensures { λ r. ⌜ r ≡ arityAt b ⌝ }
 {
     if b < 40 {

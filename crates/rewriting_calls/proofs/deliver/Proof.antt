@@ -1,5 +1,6 @@
 -- `deliver` meets its contract.
 use Rattle.rewriting_calls.proofs.Calls.{short-steps, short-tests, short-edges, short-operands, delivered}
+use native.Mathlib.Omega.{arith}
 use borrow.Author.Needs.{needs}
 use Rattle.rewriting_calls.proofs.deliver.Statement.{statement}
 use Rattle.rewriting_calls.proofs.deliver.Tie as tie
@@ -56,7 +57,19 @@ deliver-spec =
     returns-3
     (λ c κs. search needs)  -- refuse-requires-4
     returns-4
-    (λ c κs. search needs)  -- fill-requires
+    (λ c κs. let c4 = c .before .before .before .before in let c6 = c4 .before .before in let c8 = c6 .before
+    .before in
+    let c10 = c8 .before .before in let c12 = c10 .before .before in
+    let start = c12 .before .before .before .before .before .before in (
+      record {
+        ready = start .pre .0;
+        steps-room = omega (arith, c12 .lengths-of .ensures .alternatives-are, c10 .if1 .left);
+        tests-room = omega (arith, c12 .lengths-of .ensures .steps-are, c8 .if2 .left);
+        edges-room = omega (arith, c12 .lengths-of .ensures .tests-are, c6 .if3 .left);
+        operands-room = omega (arith, c12 .lengths-of .ensures .tests-are, c4 .if4 .left);
+      },
+      start .pre .1,
+    ))  -- fill-requires
     (λ c. search needs)  -- same-length
     (λ c. search needs)  -- same-length-2
     (λ c. search needs)  -- same-length-3

@@ -10,19 +10,19 @@ use Rattle.rewriting.proofs.lists.fill.Statement.{statement}
 use Rattle.rewriting.proofs.lists.fill.Tie as tie
 
 abbrev Inv-loop : tie.InvT-loop
-Inv-loop tree pins names steps₀ tests₀ edges₀ operands₀ end count s₀ from₀ t₀
+Inv-loop tree pins notes names steps₀ tests₀ edges₀ operands₀ end count s₀ from₀ t₀
     steps tests edges operands s from t =
     Filling (alternativesBy pins tree names) steps₀ tests₀ edges₀ operands₀ steps tests edges operands s from t
 
 abbrev μ-loop : tie.MeasureT-loop
-μ-loop tree pins names steps₀ tests₀ edges₀ operands₀ end count s₀ from₀ t₀
+μ-loop tree pins notes names steps₀ tests₀ edges₀ operands₀ end count s₀ from₀ t₀
     steps tests edges operands s from t =
     count - t
 
-count-of-requires : tie.Need-count-of-requires Inv-loop μ-loop
-count-of-requires c κs =
+count-at-requires : tie.Need-count-at-requires Inv-loop μ-loop
+count-at-requires c κs =
     let start = c .before .before .before .before .before in
-    ready-ends (start .pre .ready)
+    (start .pre .1 .counts, ready-ends (start .pre .0 .ready))
 
 loop-holds : tie.Need-loop-holds Inv-loop μ-loop
 loop-holds c =
@@ -31,17 +31,20 @@ loop-holds c =
 shape-of-requires : tie.Need-shape-of-requires Inv-loop μ-loop
 shape-of-requires c κs =
     let c8 = c .before .before .before .before .before .before .before .before in
-    let e = count-exact _ _ _ (c8 .pre .ready) (c .before .before .count-of .ensures) in
-    ready-shaping _ _ _ (c8 .pre .ready) (omega (arith, e, c .loop-test .taken))
+    let e = count-exact _ _ _ (c8 .pre .0 .ready) (c .before .before .count-at .ensures) in
+    record {
+      shaping = ready-shaping _ _ _ (c8 .pre .0 .ready) (omega (arith, e, c .loop-test .taken));
+      noted = c8 .pre .1;
+    }
 
 cast-steps : tie.Need-cast-steps Inv-loop μ-loop
 cast-steps c =
     let c1 = c .before in
     let c3 = c1 .before .before in
     let c9 = c3 .before .before .before .before .before .before in
-    let e = count-exact _ _ _ (c9 .pre .ready) (c3 .count-of .ensures) in
+    let e = count-exact _ _ _ (c9 .pre .0 .ready) (c3 .count-at .ensures) in
     let r =
-    steps-small (c9 .pre) (c1 .before .loop .inv) (omega (arith, e, c1 .loop-test .taken)) (c .shape-of .ensures)
+    steps-small (c9 .pre .0) (c1 .before .loop .inv) (omega (arith, e, c1 .loop-test .taken)) (c .shape-of .ensures)
     in
     omega arith
 
@@ -50,25 +53,28 @@ slice-write-steps c =
     let c1 = c .before in
     let c3 = c1 .before .before in
     let c9 = c3 .before .before .before .before .before .before in
-    let e = count-exact _ _ _ (c9 .pre .ready) (c3 .count-of .ensures) in
-    steps-room (c9 .pre) (c1 .before .loop .inv) (omega (arith, e, c1 .loop-test .taken)) (c .shape-of .ensures)
+    let e = count-exact _ _ _ (c9 .pre .0 .ready) (c3 .count-at .ensures) in
+    steps-room (c9 .pre .0) (c1 .before .loop .inv) (omega (arith, e, c1 .loop-test .taken)) (c .shape-of .ensures)
 
 put-alternative-requires : tie.Need-put-alternative-requires Inv-loop μ-loop
 put-alternative-requires c κs =
     let x = c .before .before .before in
     let y = x .before in
     let z = y .before .before .before .before .before .before .before .before in
-    let e = count-exact _ _ _ (z .pre .ready) (y .before .before .count-of .ensures) in
-    alternative-adding (z .pre) (y .before .loop .inv) (omega (arith, e, y .loop-test .taken)) (x .shape-of .ensures)
+    let e = count-exact _ _ _ (z .pre .0 .ready) (y .before .before .count-at .ensures) in (
+      alternative-adding (z .pre .0) (y .before .loop .inv) (omega (arith, e, y .loop-test .taken))
+          (x .shape-of .ensures),
+      z .pre .1,
+    )
 
 add-s : tie.Need-add-s Inv-loop μ-loop
 add-s c =
     let x = c .before .before .before .before .before .before .before .before .before .before in
     let y = x .before in
     let z = y .before .before .before .before .before .before .before .before in
-    let e = count-exact _ _ _ (z .pre .ready) (y .before .before .count-of .ensures) in
+    let e = count-exact _ _ _ (z .pre .0 .ready) (y .before .before .count-at .ensures) in
     let r =
-    passed-small (z .pre) (y .before .loop .inv) (omega (arith, e, y .loop-test .taken)) (x .shape-of .ensures)
+    passed-small (z .pre .0) (y .before .loop .inv) (omega (arith, e, y .loop-test .taken)) (x .shape-of .ensures)
     in
     omega arith
 
@@ -78,8 +84,8 @@ loop-again c =
     let x = w .before .before .before .before in
     let y = x .before in
     let z = y .before .before .before .before .before .before .before .before in
-    let e = count-exact _ _ _ (z .pre .ready) (y .before .before .count-of .ensures) in
-    alternative-next (z .pre) (y .before .loop .inv) (omega (arith, e, y .loop-test .taken)) (x .shape-of .ensures)
+    let e = count-exact _ _ _ (z .pre .0 .ready) (y .before .before .count-at .ensures) in
+    alternative-next (z .pre .0) (y .before .loop .inv) (omega (arith, e, y .loop-test .taken)) (x .shape-of .ensures)
     (w .put-alternative .ensures)
 
 same-length : tie.Need-same-length Inv-loop μ-loop
@@ -101,8 +107,8 @@ same-length-4 c =
 returns : tie.Need-returns Inv-loop μ-loop
 returns c =
     let c8 = c .before .before .before .before .before .before .before .before in
-    let e = count-exact _ _ _ (c8 .pre .ready) (c .before .before .count-of .ensures) in
-    alternatives-filled (c8 .pre) (c .before .loop .inv) (omega (arith, e, c .loop-test .left))
+    let e = count-exact _ _ _ (c8 .pre .0 .ready) (c .before .before .count-at .ensures) in
+    alternatives-filled (c8 .pre .0) (c .before .loop .inv) (omega (arith, e, c .loop-test .left))
 
 pub fill-spec : {M : Type 1} → statement M
 fill-spec =
@@ -110,7 +116,7 @@ fill-spec =
     (tie.spec
     Inv-loop
     μ-loop
-    count-of-requires
+    count-at-requires
     loop-holds
     shape-of-requires
     cast-steps

@@ -7,8 +7,7 @@ use Rattle.rewriting.proofs.lists.fill_arrays.Tie as tie
 fill-requires : tie.Need-fill-requires
 fill-requires c κs =
     let start = c .before .before .before .before .before in
-    arrays-fillable (start .pre) (search needs) (search needs) (search needs)
-    (search needs)
+    (arrays-fillable (start .pre .0) (search needs) (search needs) (search needs) (search needs), start .pre .1)
 
 pub fill-arrays-spec : {M : Type 1} → statement M
 fill-arrays-spec =

@@ -3,16 +3,16 @@ use Prim.Native.Nat.{_-_}
 use native.Mathlib.Omega.{arith}
 use Rattle.rewriting.specs.Lists.{alternativeOf}
 use Rattle.rewriting.proofs.Filling.{Walking, walking-first, walking-lengths}
-use Rattle.rewriting.proofs.Turns.{step-placing, step-rises, step-small, step-next, counts-room, steps-added}
+use Rattle.rewriting.proofs.Turns.{step-stepping, step-rises, step-small, step-next, counts-room, steps-added}
 use Rattle.rewriting.proofs.lists.put_alternative.Statement.{statement}
 use Rattle.rewriting.proofs.lists.put_alternative.Tie as tie
 
 abbrev Inv-loop : tie.InvT-loop
-Inv-loop tree pins names t n tests₀ s edges₀ operands₀ from end at₀ j₀ tests edges operands at j =
+Inv-loop tree pins notes names t n tests₀ s edges₀ operands₀ from end at₀ j₀ tests edges operands at j =
     Walking (alternativeOf pins tree names t) tests₀ s edges₀ operands₀ from tests edges operands at j
 
 abbrev μ-loop : tie.MeasureT-loop
-μ-loop tree pins names t n tests₀ s edges₀ operands₀ from end at₀ j₀ tests edges operands at j = n - j
+μ-loop tree pins notes names t n tests₀ s edges₀ operands₀ from end at₀ j₀ tests edges operands at j = n - j
 
 loop-holds : tie.Need-loop-holds Inv-loop μ-loop
 loop-holds c = walking-first
@@ -21,7 +21,7 @@ put-step-requires : tie.Need-put-step-requires Inv-loop μ-loop
 put-step-requires c κs =
     let c3 = c .before .before .before in
     let c8 = c3 .before .before .before .before .before in
-    step-placing (c8 .pre) (c3 .loop .inv) (c .before .before .loop-test .taken)
+    step-stepping (c8 .pre .0) (c3 .loop .inv) (c .before .before .loop-test .taken) (c8 .pre .1)
 
 sub-tests : tie.Need-sub-tests Inv-loop μ-loop
 sub-tests c =
@@ -29,7 +29,7 @@ sub-tests c =
     let c8 = c4 .before .before .before .before in
     let c13 = c8 .before .before .before .before .before in
     let r =
-    step-rises (c13 .pre) (c8 .loop .inv) (c4 .before .before .before .loop-test .taken) (c4 .put-step .ensures)
+    step-rises (c13 .pre .0) (c8 .loop .inv) (c4 .before .before .before .loop-test .taken) (c4 .put-step .ensures)
     in
     omega (arith, r .0, r .1)
 
@@ -39,8 +39,8 @@ cast-tests c =
     let c8 = c4 .before .before .before .before in
     let c13 = c8 .before .before .before .before .before in
     let l = c4 .before .before .before .loop-test .taken in
-    let r = step-small (c13 .pre) (c8 .loop .inv) l (c4 .put-step .ensures) in
-    let u = step-rises (c13 .pre) (c8 .loop .inv) l (c4 .put-step .ensures) in
+    let r = step-small (c13 .pre .0) (c8 .loop .inv) l (c4 .put-step .ensures) in
+    let u = step-rises (c13 .pre .0) (c8 .loop .inv) l (c4 .put-step .ensures) in
     omega (arith, u .0)
 
 add-tests : tie.Need-add-tests Inv-loop μ-loop
@@ -48,22 +48,22 @@ add-tests c =
     let c4 = c .before .before .before .before in
     let c8 = c4 .before .before .before .before in
     let c13 = c8 .before .before .before .before .before in
-    let r = counts-room (c13 .pre) (c8 .loop .inv) (c4 .before .before .before .loop-test .taken) in
-    omega arith
+    let r = counts-room (c13 .pre .0) (c8 .loop .inv) (c4 .before .before .before .loop-test .taken) in
+    omega (arith, r, walking-lengths (c8 .loop .inv) .0, c13 .good)
 
 slice-write-tests : tie.Need-slice-write-tests Inv-loop μ-loop
 slice-write-tests c =
     let c4 = c .before .before .before .before in
     let c8 = c4 .before .before .before .before in
     let c13 = c8 .before .before .before .before .before in
-    counts-room (c13 .pre) (c8 .loop .inv) (c4 .before .before .before .loop-test .taken)
+    counts-room (c13 .pre .0) (c8 .loop .inv) (c4 .before .before .before .loop-test .taken)
 
 loop-again : tie.Need-loop-again Inv-loop μ-loop
 loop-again c =
     let c4 = c .before .before .before .before in
     let c8 = c4 .before .before .before .before in
     let c13 = c8 .before .before .before .before .before in
-    step-next (c13 .pre) (c8 .loop .inv) (c4 .before .before .before .loop-test .taken) (c4 .put-step .ensures)
+    step-next (c13 .pre .0) (c8 .loop .inv) (c4 .before .before .before .loop-test .taken) (c4 .put-step .ensures)
 
 same-length : tie.Need-same-length Inv-loop μ-loop
 same-length c =
@@ -80,7 +80,7 @@ same-length-3 c =
 returns : tie.Need-returns Inv-loop μ-loop
 returns c =
     let c6 = c .before .before .before .before .before .before in
-    steps-added (c6 .pre) (c .before .loop .inv) (c .loop-test .left)
+    steps-added (c6 .pre .0) (c .before .loop .inv) (c .loop-test .left)
 
 pub put-alternative-spec : {M : Type 1} → statement M
 put-alternative-spec =

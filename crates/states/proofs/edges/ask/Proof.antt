@@ -1,7 +1,10 @@
--- `edges::ask` meets its contract: `?`, a digit or a letter, by the number of the half.
-use borrow.Author.Tests.{eq-eqb, ne-eqb, lt-ltb, le-ltb}
-use mathlib.Core.Path.{refl}
+-- `edges::ask` meets its contract: `?`, a literal, or none, by the number of the half.
+use borrow.Author.Tests.{ne-eqb, le-ltb}
+use native.Mathlib.Omega.{arith}
+use mathlib.Core.Path.{_≡_, refl}
+use Prim.Native.Nat.{ℕ, _-_, _<_, _≤_}
 use Rattle.alf.specs.Windows.{asked, letterAsked}
+use Rattle.alf.specs.Decoder.{halfAt}
 use Rattle.alf.proofs.EdgeNumbers.{half-any, half-the}
 use borrow.Author.Needs.{needs}
 use Rattle.states.proofs.edges.ask.Statement.{statement}
@@ -11,25 +14,23 @@ returns : tie.Need-returns
 unfolding asked
 returns c = rw (half-any _ (c .if1 .taken)) refl
 
-sub-l : tie.Need-sub-l
-sub-l c = search needs
-
-ask-digit-requires : tie.Need-ask-digit-requires
-ask-digit-requires c κs = search needs
-
 returns-2 : tie.Need-returns-2
-unfolding asked
-returns-2 c = rw (half-the _ (c .before .before .if1 .left), lt-ltb _ 2 (c .before .if2 .taken)) (c .ask-digit .ensures)
+returns-2 c = rw (half-the _ (c .before .before .if1 .left)) (c .ask-literal .ensures)
+
+-- a number that is no half's
+beyond : (h s : ℕ) → (h ≡ 0 → ⊥) → 8 ≤ h - 1 → s < 8 → 0 ≡ asked (halfAt h) s
+unfolding asked letterAsked
+beyond h s n l k = rw (half-the h n, le-ltb (h - 1) 2 (omega arith), ne-eqb s (h - 1) (λ e. omega arith)) refl
 
 returns-3 : tie.Need-returns-3
-unfolding asked letterAsked
-returns-3 c =
-    rw (half-the _ (c .before .before .if1 .left), le-ltb _ 2 (c .before .if2 .left), eq-eqb _ _ (c .if3 .taken)) refl
-
-returns-4 : tie.Need-returns-4
-unfolding asked letterAsked
-returns-4 c =
-    rw (half-the _ (c .before .before .if1 .left), le-ltb _ 2 (c .before .if2 .left), ne-eqb _ _ (c .if3 .left)) refl
+returns-3 c = beyond _ _ (c .before .if1 .left) (c .if2 .left) (c .before .before .pre)
 
 pub ask-spec : {M : Type 1} → statement M
-ask-spec = tie.close (tie.spec returns sub-l ask-digit-requires returns-2 returns-3 returns-4)
+ask-spec =
+    tie.close
+    (tie.spec
+    returns
+    (λ c. search needs)  -- sub-l
+    (λ c κs. search needs)  -- ask-literal-requires
+    returns-2
+    returns-3)

@@ -1,0 +1,38 @@
+-- `answers::fill_with` meets its contract.
+use native.Mathlib.Omega.{arith}
+use borrow.Author.Needs.{needs}
+use Rattle.blocks.proofs.Suiting.{prepare-asked, blocks-asked}
+use Rattle.block_answers.proofs.answers.fill_with.Statement.{statement}
+use Rattle.block_answers.proofs.answers.fill_with.Tie as tie
+
+pub fill-with-spec : {M : Type 1} → statement M
+fill-with-spec =
+    tie.close
+    (tie.spec
+    (λ c κs. let start = c .before .before .before .before .before .before .before .before .before .before .before
+    .before .before .before .before .before .before in
+    prepare-asked (start .pre .0 .asked .shape) (start .pre .1 .0) (start .pre .1 .1))  -- prepare-requires
+    (λ c κs. search needs)  -- match-all-requires
+    (λ c. search needs)  -- same-length
+    (λ c. search needs)  -- same-length-2
+    (λ c. search needs)  -- same-length-3
+    (λ c. search needs)  -- same-length-4
+    (λ c. search needs)  -- same-length-5
+    (λ c. search needs)  -- same-length-6
+    (λ c. search needs)  -- returns
+    (λ c κs. let c6 = c .before .before .before .before .before .before in
+    let c15 = c6 .before .before .before .before .before .before .before .before .before in
+    let start = c15 .before .before .before .before .before .before .before .before .before .before .before .before
+    .before .before .before .before .before .before in (
+      start .pre .0,
+      blocks-asked (start .pre .0 .asked .shape) (start .pre .1 .0) (start .pre .1 .1) (search needs) (search needs)
+          (search needs) (c15 .prepare .ensures) (omega (arith, c6 .if1 .left)),
+    ))  -- fill-blocks-requires
+    (λ c. search needs)  -- same-length-7
+    (λ c. search needs)  -- same-length-8
+    (λ c. search needs)  -- same-length-9
+    (λ c. search needs)  -- same-length-10
+    (λ c. search needs)  -- same-length-11
+    (λ c. search needs)  -- same-length-12
+    (λ c. search needs)  -- same-length-13
+    (λ c. search needs))  -- returns-2

@@ -1,0 +1,2 @@
+-- What counting the answers of all rows promises.
+pub mod Counting

@@ -1,0 +1,3 @@
+-- What columns ask and promise.
+pub mod Passes
+pub mod Columns
