@@ -44,6 +44,7 @@ use Rattle.named_pins.specs.Tables.{keeps}
 use Rattle.blank_calls.specs.Overwritten.{blankedRow, blankedByX}
 use Rattle.blank_calls.specs.Blanking.{Blanks}
 use Rattle.blank_calls.proofs.Rows.{row-length, blanked-length}
+use Rattle.blanking.proofs.ListedSteps.{passed-step}
 use Rattle.blanking.proofs.Blanking.{blanked-totals, blanked-lists}
 
 pub keeps-below : (kept : List ℕ) (n : ℕ) → keeps kept n ≡ true → n < length kept
@@ -119,11 +120,12 @@ module _ {k n : ℕ} {states kept states′ : List ℕ} {m : ℕ} (b : Blanks k 
     order-carried q p (inr (u, inr (v, x))) = absurd (rest-carried q p x)
 
   -- what a call may tell of the trace, it may tell of the overwritten one
-  counts-carried : (Q : Type 0) (R R′ : ℕ → ℕ → ℕ → Type 0) → ((x y z : ℕ) → R x y z → R′ x y z) → (r : Counting)
+  counts-carried : (Q : Type 0) (R R′ : ℕ → ℕ → ℕ → Type 0)
+      → (Passed (order (Rows k n (length states)) Q (codes states)) → (x y z : ℕ) → R x y z → R′ x y z) → (r : Counting)
       → Counts (order (Rows k n (length states)) Q (codes states)) R r
       → Counts (order (Rows k n (length states′)) Q (codes states′)) R′ r
   unfolding Counts
-  counts-carried Q R R′ f (Counted t) (p, x) = (order-passed Q p, f _ _ _ x)
+  counts-carried Q R R′ f (Counted t) (p, x) = (order-passed Q p, f p _ _ _ x)
   counts-carried Q R R′ f (Refused q) h = record { by = order-carried Q _ _ (h .by); bare = h .bare }
 
   module _ {ρ : Rules} {tree : List ℕ}
@@ -134,7 +136,7 @@ module _ {k n : ℕ} {states kept states′ : List ℕ} {m : ℕ} (b : Blanks k 
         record {
           comes =
               counts-carried _ _ _
-              (λ x y z t.
+              (λ p x y z t.
               rw blank-is
               (record { yeses = t .yeses ∙ same 1; noes = t .noes ∙ same 0; unknowns = t .unknowns ∙ same 2 })) r
               (h .comes);
@@ -144,18 +146,18 @@ module _ {k n : ℕ} {states kept states′ : List ℕ} {m : ℕ} (b : Blanks k 
     totals-same x y = totals-unique (totals-kept x) y
 
   module _ {ρ : Rules} (tree steps tests edges operands : List ℕ)
-      (some : 0 < longestOf (alternativesOf tree k steps tests edges operands))
       (named : (i : ℕ) → namesOf (alternativesOf tree k steps tests edges operands) i ≡ true → keeps kept i ≡ true)
     where
       pub listed-totals-kept : {r : Counting} → ListedTotals ρ k n tree steps tests edges operands states r
           → ListedTotals ρ k n tree steps tests edges operands states′ r
       listed-totals-kept {r} h =
           let xs = alternativesOf tree k steps tests edges operands in
-          let same = blanked-lists ρ k xs some (keeps kept) named below (λ r i. X) states n in
           record {
             comes =
                 counts-carried _ _ _
-                (λ x y z t.
+                (λ p x y z t.
+                let some = passed-step k tree steps tests edges operands _ _ (λ a. a) p in
+                let same = blanked-lists ρ k xs some (keeps kept) named below (λ r i. X) states n in
                 rw blank-is
                 (record { yeses = t .yeses ∙ same 1; noes = t .noes ∙ same 0; unknowns = t .unknowns ∙ same 2 })) r
                 (h .comes);

@@ -13,6 +13,7 @@ use mathlib.Core.List.{List}
 use lib.ListN.{length, getD}
 use Rattle.basics.specs.declared.Outcome.the-variants.{Done}
 use Rattle.basics.specs.Memory.{after}
+use Rattle.alf.specs.Refusals.{Comes}
 use Rattle.basics.specs.Words as listed-words
 use Rattle.basics.proofs.Listed.{listed-at}
 use Rattle.alf.specs.declared.Rules.{Rules}
@@ -39,6 +40,7 @@ use Rattle.named_pins.specs.Pins.{namesIn, namesOf}
 use Rattle.blank_calls.specs.Overwritten.{blanked}
 use Rattle.blanking.specs.Pins.{SamePins, sent}
 use Rattle.blanking.proofs.FilledNames.{meant-named}
+use Rattle.blanking.proofs.ListedSteps.{passed-step}
 use Rattle.blanking.proofs.PinsAlone.{fewer-pins, pins-answer, pins-tries, lists-answer, lists-tries}
 use Rattle.blanking.proofs.Blanking.{sent-same, blanked-totals, blanked-lists}
 
@@ -126,9 +128,8 @@ module _ (ρ : Rules) (k : ℕ) (tree : List ℕ) where
     sent-row {i = i} {states = states} x y =
         match-row (fewer-pins named (sent-same pins other k states below (stepsOf (expression ρ tree k)) i)) x y
 
--- alternatives handed in, of which one has a step
-module _ (ρ : Rules) (k : ℕ) (tree steps tests edges operands : List ℕ)
-    (some : 0 < longestOf (alternativesOf tree k steps tests edges operands)) where
+-- alternatives handed in
+module _ (ρ : Rules) (k : ℕ) (tree steps tests edges operands : List ℕ) where
   abbrev pub ListsAlike : List ℕ → List ℕ → ℕ → ℕ → Type 0
   ListsAlike states states′ i j =
       SamePins (namesOf (alternativesOf tree k steps tests edges operands))
@@ -141,6 +142,7 @@ module _ (ρ : Rules) (k : ℕ) (tree steps tests edges operands : List ℕ)
       → (m .answer ≡ m′ .answer) × (m .tries ≡ m′ .tries)
   unfolding Finds
   listed-match-row {states} {states′} {i} {j} s x y =
+      let some = passed-step k tree steps tests edges operands _ _ (λ a. a) (x .comes .0) in
       let xs = alternativesOf tree k steps tests edges operands in (
         number-same _ _
             (x .comes .1 .matches .is ∙ lists-answer ρ k states states′ i j xs some s
@@ -156,8 +158,9 @@ module _ (ρ : Rules) (k : ℕ) (tree steps tests edges operands : List ℕ)
       → ListedAll ρ k n tree steps tests edges operands states times a t g b a₁ t₁ g₁ b₁ (Done m)
       → ListedAll ρ k n′ tree steps tests edges operands states′ times′ a′ t′ g′ b′ a₂ t₂ g₂ b₂ (Done m′)
       → (getD a₁ i 0 ≡ getD a₂ j 0) × (getD t₁ i 0 ≡ getD t₂ j 0)
-  unfolding after
+  unfolding after Comes
   listed-match-all {states} {states′} {i} {j} s {n} {n′} l l′ x y =
+      let some = passed-step k tree steps tests edges operands _ _ (λ a. a) (x .comes .0) in
       let xs = alternativesOf tree k steps tests edges operands in
       let st = stateAt ρ k states in
       let st′ = stateAt ρ k states′ in (
@@ -178,6 +181,7 @@ module _ (ρ : Rules) (k : ℕ) (tree steps tests edges operands : List ℕ)
       → (t .yes ≡ t′ .yes) × (t .no ≡ t′ .no) × (t .unknown ≡ t′ .unknown)
   unfolding Counts
   listed-totals pins named below other {n} {states} x y =
+      let some = passed-step k tree steps tests edges operands _ _ (λ a. a) (x .comes .0) in
       let xs = alternativesOf tree k steps tests edges operands in
       let same = blanked-lists ρ k xs some pins named below other states n in (
         x .comes .1 .yeses ∙ same 1 ∙ sym (y .comes .1 .yeses),
@@ -193,6 +197,7 @@ module _ (ρ : Rules) (k : ℕ) (tree steps tests edges operands : List ℕ)
       → (m .answer ≡ m′ .answer) × (m .tries ≡ m′ .tries)
   unfolding listed.Takes
   listed-push {q} {q′} {row} {row′} s x y =
+      let some = passed-step k tree steps tests edges operands _ _ (λ h. h .accepted) (x .comes .0) in
       let xs = alternativesOf tree k steps tests edges operands in
       let i = q .rows .kept .0 in
       let j = q′ .rows .kept .0 in
