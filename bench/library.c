@@ -30,17 +30,11 @@ void library_tree(const char *text, const Trace *t, Pattern *p)
     memcpy(p->tree, e.tree, e.len);
 }
 
-Told library_tells(Pattern *p, size_t names, Rooms rooms)
-{
-    dachsmond_told r = dachsmond_rewrite(dachsmond_old_rules(), names, p->tree, p->length, p->steps, rooms.steps,
-                                         p->tests, rooms.tests, p->edges, rooms.edges, p->operands, rooms.operands);
-    return (Told){r.number, r.place, r.count};
-}
-
 void library_rewrite(Pattern *p, size_t names)
 {
-    Told r = library_tells(p, names, (Rooms){sizeof p->steps, sizeof p->tests, sizeof p->edges,
-                                             sizeof p->operands / sizeof *p->operands});
+    dachsmond_told r = dachsmond_rewrite(dachsmond_old_rules(), names, p->tree, p->length, p->steps, sizeof p->steps,
+                                         p->tests, sizeof p->tests, p->edges, sizeof p->edges, p->operands,
+                                         sizeof p->operands / sizeof *p->operands);
     stop_if("rewrite", r.number, r.place);
     p->alternatives = r.count;
 }

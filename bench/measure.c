@@ -6,7 +6,6 @@
      beyond     the same of a pattern that the target is not about
      call       one row or one push: by tree twin and library, by lists twin and library
      growing    alternatives: their totals twin and library, rewriting alone twin and library
-     lighter    the same: rewriting alone, the twin that checks less and the library
      rows       rows: reading them twin and library, the totals of the first pattern twin and library
    A time is the least over RUNS runs; with 0 RUNS all is compared and nothing is timed. In a run each side has its
    turn, and does what is short many times. Runs that take over LIMIT seconds together are stopped, but never before
@@ -23,9 +22,6 @@
 PAD(PLACE);
 
 enum { SHORT = 200000, LIMIT = 4, WINDOW = 16, SOME = 1000, FEW = 16 };
-
-/* the byte of `01` in a tree */
-enum { RISES = 64 + 9 * 1 + 2 };
 
 static int runs;
 static uint8_t whole[4 << 20], file[4 << 20];
@@ -98,12 +94,6 @@ static void twin_rewrites(void)
     if (!twin_rewrite(&twin, trace.names)) exit(1);
 }
 static void library_rewrites(void) { library_rewrite(&by_library, trace.names); }
-static const Rooms ALL = {MAX_ALTERNATIVES, MAX_ALTERNATIVES * MAX_STEPS, MAX_ALTERNATIVES * MAX_TESTS,
-                          MAX_ALTERNATIVES * MAX_TESTS};
-static void twin_tells_all(void)
-{
-    if (twin_tells(&twin, trace.names, ALL).number != 0) exit(1);
-}
 
 /* One of the first `cycle` rows after the other, with WINDOW rows before it; or pushed, at times that rise. By tree
    the twin rewrites each time. */
@@ -134,108 +124,6 @@ ASKS(library_row_by_lists, 1, false, true)
 ASKS(library_push_by_tree, 1, true, false)
 ASKS(library_push_by_lists, 1, true, true)
 
-/* Rewriting is compared on trees that are good and on trees that are not: what came of it, and all memory. How often
-   each of the four ends was met. */
-static int met[19];
-
-static void compare_tells(const char *label, const uint8_t *tree, size_t length, size_t names, Rooms rooms)
-{
-    static Pattern a, b;
-    memset(&a, 0xa5, sizeof a);
-    memcpy(a.tree, tree, length);
-    a.length = length;
-    b = a;
-    Told x = twin_tells(&a, names, rooms), y = library_tells(&b, names, rooms);
-    bool alike = x.number == y.number && x.place == y.place && x.count == y.count;
-    if (!alike || memcmp(a.tree, b.tree, sizeof a.tree) || memcmp(a.steps, b.steps, sizeof a.steps) ||
-        memcmp(a.tests, b.tests, sizeof a.tests) || memcmp(a.edges, b.edges, sizeof a.edges) ||
-        memcmp(a.operands, b.operands, sizeof a.operands))
-        differ("rewriting", label);
-    met[x.number]++;
-}
-
-static uint32_t chance(uint32_t below)
-{
-    static uint32_t seed = 1;
-    seed = seed * 1664525 + 1013904223;
-    return (seed >> 16) % below;
-}
-
-/* An edge on a name, so many times, and then so many operators: grouped from the right. For an operator of booleans
-   names, and one edge at the end. */
-static size_t nested(uint8_t *to, int many, uint8_t b)
-{
-    size_t n = 0;
-    for (int i = 0; i < many; i++) {
-        to[n++] = (uint8_t)(i % 32);
-        if (b >= 50) to[n++] = RISES;
-    }
-    for (int i = 1; i < many; i++) to[n++] = b;
-    if (b < 50) to[n++] = RISES;
-    return n;
-}
-
-/* `! ( .. & B )`, or `( .. ) ? B : C`, so many times around a name, and an edge: grouped from the left. */
-static size_t wrapped(uint8_t *to, int many, bool choices)
-{
-    size_t n = 0;
-    to[n++] = 0;
-    for (int i = 0; i < many; i++) {
-        to[n++] = 1;
-        to[n++] = choices ? 2 : 40;
-        to[n++] = choices ? 60 : 147;
-    }
-    to[n++] = RISES;
-    return n;
-}
-
-/* Bytes by chance, such that the operands of each are there, of the right sorts; then all that is left is joined. Now
-   and then one byte is any other. */
-static size_t by_chance(uint8_t *to)
-{
-    bool vector[MAX_NODES];
-    size_t many = 1 + chance(60), n = 0, top = 0;
-    while (n < many || top > 1 || !vector[0]) {
-        bool two = top > 1 && (n >= many || chance(2)), last = top > 0 && vector[top - 1];
-        if (two && top > 2 && !last && !vector[top - 2] && !vector[top - 3] && chance(4) == 0) {
-            to[n++] = 60;
-            top -= 2;
-        } else if (two) {
-            bool before = vector[top - 2];
-            to[n++] = last ? before ? 50 + (uint8_t)chance(6) : 57 : before ? 56 : 40 + (uint8_t)chance(10);
-            vector[--top - 1] = last || before;
-        } else if (top > 0 && !last && (n >= many || chance(2))) {
-            vector[top - 1] = n >= many || chance(4);
-            to[n++] = vector[top - 1] ? 64 + (uint8_t)chance(83) : 147;
-        } else {
-            to[n++] = (uint8_t)chance(40);
-            vector[top++] = false;
-        }
-    }
-    if (chance(4) == 0) to[chance((uint32_t)n)] = (uint8_t)chance(256);
-    return n;
-}
-
-/* The tree of a pattern; each list short by one, too few names and too many; each byte another; each beginning. */
-static void compare_broken(const char *label, const Pattern *p)
-{
-    uint8_t tree[MAX_NODES];
-    Rooms just = {p->alternatives, p->all_steps, p->all_tests, p->all_tests};
-    compare_tells(label, p->tree, p->length, MAX_NAMES, ALL);
-    compare_tells(label, p->tree, p->length, MAX_NAMES, just);
-    for (int k = 0; k < 4; k++) {
-        Rooms less = just;
-        (k == 0 ? &less.steps : k == 1 ? &less.tests : k == 2 ? &less.edges : &less.operands)[0]--;
-        compare_tells(label, p->tree, p->length, MAX_NAMES, less);
-    }
-    for (size_t names = 0; names < 40; names++) compare_tells(label, p->tree, p->length, names, ALL);
-    for (size_t i = 0; i < p->length; i++) {
-        compare_tells(label, p->tree, i, MAX_NAMES, ALL);
-        memcpy(tree, p->tree, p->length);
-        for (int b = 0; b < 256; b += 5) tree[i] = (uint8_t)b, compare_tells(label, tree, p->length, MAX_NAMES, ALL);
-    }
-}
-
 /* Reads the text, rewrites by both sides, and compares the lists. */
 static void take(const char *label, const char *text)
 {
@@ -252,20 +140,6 @@ static void take(const char *label, const char *text)
         memcmp(twin.edges, by_library.edges, twin.all_tests) ||
         memcmp(twin.operands, by_library.operands, twin.all_tests * sizeof *twin.operands))
         differ("alternatives", label);
-    compare_broken(label, &twin);
-}
-
-static void compare_rewriting(void)
-{
-    uint8_t tree[MAX_NODES];
-    for (int many = 1; many <= 80; many++) {
-        for (uint8_t b = 40; b < 57; b++)
-            compare_tells("grouped from the right", tree, nested(tree, many, b), MAX_NAMES, ALL);
-        for (int k = 0; k < 2; k++)
-            compare_tells("grouped from the left", tree, wrapped(tree, many, k), MAX_NAMES, ALL);
-    }
-    for (int i = 0; i < 100000; i++) compare_tells("by chance", tree, by_chance(tree), 16 + chance(17), ALL);
-    if (!met[0] || !met[9] || !met[10] || !met[18]) differ("rewriting", "not all of 0, 9, 10 and 18 were met");
 }
 
 static bool same(Counts a, Counts b) { return a.yes == b.yes && a.no == b.no && a.unknown == b.unknown; }
@@ -409,7 +283,6 @@ int main(int argc, char **argv)
     take_rows(MAX_ROWS);
     if (length != whole_length || memcmp(file, whole, length)) differ("the file", argv[1]);
     take(FIRST, FIRST);
-    compare_rewriting();
     compare_counts(FIRST, hand_counts_chain);
     printf("counts\t%u %u %u\n", said[0].yes, said[0].no, said[0].unknown);
     say("whole", "reading", 2, (Job *const[]){twin_reads, library_reads});
@@ -429,13 +302,8 @@ int main(int argc, char **argv)
         sprintf(label, "%d", many);
         take(label, joined(" | ", many, RISE, 1));
         compare_counts(label, NULL);
-        say("growing", label, 4, (Job *const[]){twin_counts, library_counts, twin_tells_all, library_rewrites});
-        say("lighter", label, 2, (Job *const[]){twin_rewrites, library_rewrites});
+        say("growing", label, 4, (Job *const[]){twin_counts, library_counts, twin_rewrites, library_rewrites});
     }
-    take("64 tests in one step", wide());
-    say("growing", "64 tests in one step", 4,
-        (Job *const[]){twin_counts, library_counts, twin_tells_all, library_rewrites});
-    say("lighter", "64 tests in one step", 2, (Job *const[]){twin_rewrites, library_rewrites});
     static const size_t ROWS[] = {1000, 8000, MAX_ROWS};
     for (int i = 0; i < 3; i++) {
         sprintf(label, "%zu", ROWS[i]);

@@ -39,19 +39,12 @@ Matched twin_row(size_t names, const uint64_t *times, const uint8_t *states, siz
 void twin_empty(void);
 Matched twin_push(size_t names, uint64_t time, const uint8_t *row);
 
-/* How many entries each list has room for; what came of a call: done, with a count, or refused. */
-typedef struct { size_t steps, tests, edges, operands; } Rooms;
-typedef struct { uint8_t number; size_t place, count; } Told;
-
-/* rewriting.c: from the tree of a pattern to its lists; twin_rewrite checks less, and says whether the tree is
-   accepted */
-Told twin_tells(Pattern *p, size_t names, Rooms rooms);
+/* rewriting.c: from the tree of a pattern to its lists; whether the tree is accepted */
 bool twin_rewrite(Pattern *p, size_t names);
 
-/* library.c: a call that is refused ends the program, but for library_tells */
+/* library.c: a call that is refused ends the program */
 void library_read(const uint8_t *file, size_t length, Trace *t);
 void library_tree(const char *text, const Trace *t, Pattern *p);
-Told library_tells(Pattern *p, size_t names, Rooms rooms);
 void library_rewrite(Pattern *p, size_t names);
 Counts library_totals(const Pattern *p, const Trace *t, size_t rows);
 Matched library_row(const Pattern *p, bool lists, size_t names, const uint64_t *times, const uint8_t *states,

@@ -1,5 +1,5 @@
-# The table of bench/run, from the lines of bench/measure.c, bench/dumps.c and bench/cell.c and two lines of bench/run:
-# times in nanoseconds. Of lines with the same section and label the least times count.
+# The table of bench/run, from the lines of bench/measure.c and two lines of bench/run: times in nanoseconds. Of lines
+# with the same section and label the least times count.
 function part(x, of) { return x == 0 ? "" : sprintf(x / of < 100 ? "%.3f" : "%.0f", x / of) }
 function ratio(x, of) { return x == 0 ? "" : sprintf(x / of < 10 ? "%.3f" : "%.0f", x / of) }
 function whole(label, twin, library, other) {
@@ -14,13 +14,6 @@ function head(left, first, second) {
     printf "\n%-30s %-28s  %s\n", "", first, second
     printf "%-30s %9s %9s %8s  %9s %9s %8s\n", left, "C twin", "library", "ratio", "C twin", "library", "ratio"
 }
-function lighter(  i) {
-    printf "\n%-30s %s\n", "", "rewriting beside the twin that does not ask for brackets and room, microseconds"
-    printf "%-30s %9s %9s %8s\n", "alternatives joined by |", "C twin", "library", "ratio"
-    for (i = 1; i <= lights; i++)
-        printf "%-30s %9s %9s %8s\n", light[i], part(light_a[i], 1e3), part(light_b[i], 1e3),
-            ratio(light_b[i], light_a[i])
-}
 function heading(section) {
     if (section == "call") head("one row or one push", "by tree, microseconds", "by lists, microseconds")
     if (section == "growing") head("alternatives joined by |", "matching, milliseconds", "rewriting, microseconds")
@@ -30,14 +23,6 @@ function heading(section) {
     printf "%-36s %9s %9s %9s %9s %9s\n", "65,535 rows of 32 pins", "C twin", "library", "by hand", "library",
         "by hand"
 }
-function of_bytes(label, key) {
-    printf "%-36s %9s %9s %9s %12.2f\n", label, part(dumped[key, 0], 1e6), part(dumped[key, 1], 1e6),
-        dumped[key, 0] ? ratio(dumped[key, 1], dumped[key, 0]) : "", dumped[key, 1] / dumped[key, 2]
-}
-function of_cell(text, list) {
-    printf "%-36s %9s %9s %9s\n", text, part(cell[list, 0], 1e6), part(cell[list, 1], 1e6),
-        ratio(cell[list, 1], cell[list, 0])
-}
 function target(text, value, most) {
     printf "  %-58s %s, %s\n", text, value <= most ? "met" : "NOT met", ratio(value, 1)
 }
@@ -46,8 +31,6 @@ function grown(what, small, large) {
         large <= 1.1 * small && small <= 1.1 * large ? "met" : "NOT met", 100 * (large / small - 1)
 }
 $1 == "awk" { awk = $2; next }
-$1 == "sharing" || $1 == "patterns" { cell[$1, 0] = $2; cell[$1, 1] = $3; next }
-$1 ~ /^(dump|dump-written|trace-file)$/ { dumped[$1, 0] = $2; dumped[$1, 1] = $3; dumped[$1, 2] = $4; next }
 $1 == "program" { by_program[0] = $2; by_program[1] = $3; next }
 $1 != "counts" {
     key = $1 "\t" $2
@@ -59,8 +42,6 @@ END {
         split(order[k], name, "\t")
         a = least[order[k], 3]; b = least[order[k], 4]; c = least[order[k], 5]; d = least[order[k], 6]
         if (name[1] == "beyond") { whole(name[2], a, b, c); continue }
-        if (name[1] == "lighter") { light[++lights] = name[2]; light_a[lights] = a; light_b[lights] = b; continue }
-        if (name[1] == "rows" && section != "rows") lighter()
         if (name[1] != section && section == "whole") {
             whole("01 A -> 10 B & C, read too; awk", read_a + first_a, read_b + first_b, awk)
             if (by_program[0]) whole("60 patterns, dachsmond table", by_program[0], by_program[1], 0)
@@ -84,23 +65,11 @@ END {
             reading[name[2]] = b / name[2]; matching[name[2]] = d / name[2]
         }
     }
-    printf "\n%-36s %9s %9s %9s %12s\n", "32 pins, 65,535 rows", "C twin ms", "library", "ratio", "ns per byte"
-    of_bytes("a dump read", "dump")
-    of_bytes("a dump written", "dump-written")
-    of_bytes("a trace file read", "trace-file")
-    printf "  a byte of a dump takes %.0f times a byte of a trace file, the whole trace %.0f times\n",
-        (dumped["dump", 1] / dumped["dump", 2]) / (dumped["trace-file", 1] / dumped["trace-file", 2]),
-        dumped["dump", 1] / dumped["trace-file", 1]
-    printf "\n%-36s %9s %9s %9s\n", "60 patterns of a cell, ms", "60 calls", "one call", "ratio"
-    of_cell("on 10 pins, which share tests", "sharing")
-    of_cell("on 32 pins, which share few", "patterns")
     print "\ntargets"
     target("reading at most 0.6 times the twin", read_b / read_a, 0.6)
     grown("reading", reading[8000], reading[65535])
     grown("matching", matching[8000], matching[65535])
     target("rewriting at most 3 times the twin", rewriting, 3)
-    target("60 patterns that share tests, one call a third of 60 calls", cell["sharing", 1] / cell["sharing", 0], 1 / 3)
-    target("a dump read at most 2 times the twin", dumped["dump", 1] / dumped["dump", 0], 2)
     target("the library's row by tree at most 20 times by lists", tree, 20)
     printf "  %-58s met by %d of %d patterns%s\n", "matching at most 0.12 times the twin", under, patterns,
         over ? "; over it:" over : ""

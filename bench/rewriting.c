@@ -1,10 +1,7 @@
 /* A C twin of rewriting: from a tree to its alternatives in four lists. The nodes are gone through once, and for each
    the steps and tests of its alternatives are counted, which is also the check of limit 8. Then the lists are written,
-   each test at its place.
-     twin_tells     the job of dachsmond_rewrite: refuses with 18, 10 and 9, as document 01 asks. For 10 it checks form,
-                    sorts and names of the tree, limit 8, and that its text needs no more than 32 brackets deep. For 9
-                    the lists are measured before anything is written
-     twin_rewrite   the lighter one: it does not ask for brackets and room */
+   each test at its place. It checks form, sorts and names of the tree and limit 8, but not whether a text can
+   have so many brackets and bytes. */
 #include "measure.h"
 
 enum { THEN = 50, EITHER, WITH_THEN, ANY_ORDER, WITH, OR, WHILE_RIGHT, WHILE_LEFT };
@@ -13,7 +10,7 @@ enum { BOOLEAN, VECTOR };
 /* A part of the tree ends behind its node. p and q are the nodes of the vectors that it joins, condition is where the
    condition ends. Of each alternative the number of its steps and of its tests. */
 typedef struct {
-    uint8_t sort, depth;
+    uint8_t sort;
     uint16_t p, q, condition, count, steps[MAX_ALTERNATIVES], tests[MAX_ALTERNATIVES];
 } Node;
 
@@ -91,36 +88,8 @@ static bool count_node(size_t at, const uint16_t *operand, int many)
     return count_joined(n, b);
 }
 
-/* The level of a byte, from the strongest on: 0 names and literals, 1 prefix operators, 2 `^` to `<=`, 3 `&`, 4 `->` to
-   `<&>`, 5 `|`, 6 `? :`. */
-static int level_of(uint8_t b)
-{
-    static const uint8_t LEVELS[16] = {3, 5, 2, 2, 2, 2, 2, 2, 2, 2, 4, 4, 4, 4, 3, 5};
-    return b < 40 ? 0 : b < 56 ? LEVELS[b - 40] : b < 60 ? 3 : b < 64 ? 6 : 1;
-}
-
-/* How deep the brackets of an operand nest, in a place that takes levels up to `place`; 33 stands for more than 32. */
-static uint8_t bracketed(size_t at, int place)
-{
-    uint8_t depth = nodes[at].depth;
-    return level_of(tree[at]) > place && depth < 33 ? depth + 1 : depth;
-}
-
-static uint8_t deeper(uint8_t x, uint8_t y) { return x < y ? y : x; }
-
-/* Two operands group from the left, so the right one takes a level less. */
-static void count_brackets(size_t at, const uint16_t *operand, int many)
-{
-    int level = level_of(tree[at]);
-    uint8_t *depth = &nodes[at].depth;
-    if (many == 0) *depth = 0;
-    else if (many == 1) *depth = bracketed(operand[0], 1);
-    else if (many == 2) *depth = deeper(bracketed(operand[0], level), bracketed(operand[1], level - 1));
-    else *depth = deeper(bracketed(operand[0], 5), deeper(nodes[operand[1]].depth, nodes[operand[2]].depth));
-}
-
 /* The root's place, or -1. */
-static int count_nodes(size_t length, size_t names, bool brackets)
+static int count_nodes(size_t length, size_t names)
 {
     uint16_t open[MAX_NODES];
     int top = 0;
@@ -128,7 +97,6 @@ static int count_nodes(size_t length, size_t names, bool brackets)
     for (size_t at = 0; at < length; at++) {
         int many = operands_of(tree[at], names);
         if (many < 0 || many > top || !count_node(at, open + top - many, many)) return -1;
-        if (brackets) count_brackets(at, open + top - many, many);
         top -= many;
         open[top++] = (uint16_t)at;
     }
@@ -199,36 +167,15 @@ static void put_all(Pattern *to, const Node *n)
     }
 }
 
-static void put_lists(Pattern *to, int root)
+bool twin_rewrite(Pattern *to, size_t names)
 {
+    tree = to->tree;
+    int root = count_nodes(to->length, names);
+    if (root < 0) return false;
     edge_out = to->edges;
     operand_out = to->operands;
     to->alternatives = to->all_steps = 0;
     put_all(to, nodes + root);
     to->all_tests = (size_t)(edge_out - to->edges);
-}
-
-bool twin_rewrite(Pattern *to, size_t names)
-{
-    tree = to->tree;
-    int root = count_nodes(to->length, names, false);
-    if (root < 0) return false;
-    put_lists(to, root);
     return true;
-}
-
-Told twin_tells(Pattern *to, size_t names, Rooms rooms)
-{
-    tree = to->tree;
-    if (names < 1 || names > MAX_NAMES) return (Told){18, 0, 0};
-    int root = count_nodes(to->length, names, true);
-    if (root < 0 || nodes[root].depth > 32) return (Told){10, 0, 0};
-    const Node *n = nodes + root;
-    size_t steps = 0, tests = 0;
-    for (int t = 0; t < n->count; t++) steps += n->steps[t], tests += n->tests[t];
-    if (rooms.steps < n->count) return (Told){9, n->count, 0};
-    if (rooms.tests < steps) return (Told){9, steps, 0};
-    if (rooms.edges < tests || rooms.operands < tests) return (Told){9, tests, 0};
-    put_lists(to, root);
-    return (Told){0, 0, n->count};
 }

@@ -11,9 +11,8 @@
    until 1.0 times were 32 bits wide, so a program that lends lists of times has to be changed and compiled again.
 
    A call takes less than 256 KB of stack. The proofs say nothing of that: tests/stack measures each call on the inputs
-   that recurse deepest (142,416 bytes at most, for all patterns of a cell, which hold 64 columns) and reckons from the
-   object code how much any input can take (247,392 bytes at most, for a line of the table). Nothing is allocated
-   and nothing is kept. */
+   that recurse deepest (150,048 bytes at most, for a line of the table, which holds 64 columns) and reckons from the
+   object code how much any input can take (260,760 bytes at most). Nothing is allocated and nothing is kept. */
 #ifndef DACHSMOND_H
 #define DACHSMOND_H
 #include <stdbool.h>
@@ -22,7 +21,7 @@
 
 /* The version of this header. dachsmond_version() tells that of the library: 65536 * major + 256 * minor. */
 #define DACHSMOND_VERSION_MAJOR 4
-#define DACHSMOND_VERSION_MINOR 2
+#define DACHSMOND_VERSION_MINOR 1
 #define DACHSMOND_VERSION (65536 * DACHSMOND_VERSION_MAJOR + 256 * DACHSMOND_VERSION_MINOR)
 
 #ifdef __cplusplus
@@ -71,15 +70,6 @@ typedef struct {
     size_t rows;
 } dachsmond_trace;
 
-/* How many names and rows a value change dump has, and how many of its variables were passed over, or refused. */
-typedef struct {
-    uint8_t number;
-    size_t place;
-    size_t names;
-    size_t rows;
-    size_t passed;
-} dachsmond_dump;
-
 /* The changed variables of a row, bit i for name i, and how many they are, or refused. */
 typedef struct {
     uint8_t number;
@@ -116,14 +106,6 @@ typedef struct {
     uint32_t no;
     uint32_t unknown;
 } dachsmond_counted;
-
-/* One tally of all patterns of a cell: how many rows answer yes, no and unknown, and the numbers tried added up. */
-typedef struct {
-    uint32_t yes;
-    uint32_t no;
-    uint32_t unknown;
-    uint32_t tries;
-} dachsmond_tally;
 
 /* How many rows a queue keeps, their states and their times, oldest first, with zeros behind them. */
 typedef struct {
@@ -171,18 +153,6 @@ dachsmond_trace dachsmond_read_trace(const uint8_t *file, size_t file_len, uint8
 dachsmond_told dachsmond_write_trace(const uint8_t *names, size_t names_len, const uint64_t *times, size_t times_len,
                                      const uint8_t *states, size_t states_len, size_t n, uint8_t *out, size_t out_len);
 
-/* A value change dump (document 02, [8]; docs/VCD.md) into three lists, names in slots, times, and states. The path chooses
-   a scope, `tb.u1`; an empty one chooses none. The first fault in the file: 11, 13, 23 to 26; then 9 for the first
-   short list. The same file is gone through three times, so it may not change meanwhile. */
-dachsmond_dump dachsmond_read_vcd(const uint8_t *file, size_t file_len, const uint8_t *path, size_t path_len,
-                                  uint8_t *names, size_t names_len, uint64_t *times, size_t times_len,
-                                  uint8_t *states, size_t states_len);
-
-/* The value change dump of a trace of n rows, its pins outside any scope, at the front of `out`; its length, at most
-   7,734,830: 18, 12, 13 and 15 row by row, 9. */
-dachsmond_told dachsmond_write_vcd(const uint8_t *names, size_t names_len, const uint64_t *times, size_t times_len,
-                                   const uint8_t *states, size_t states_len, size_t n, uint8_t *out, size_t out_len);
-
 /* The changes of a row of a trace of n rows and so many names; row 0 has none: 18, 15, 19. */
 dachsmond_changed dachsmond_changes_at(size_t names, size_t n, const uint8_t *states, size_t states_len, uint32_t row);
 
@@ -227,25 +197,6 @@ dachsmond_told dachsmond_match_all(dachsmond_rules rules, size_t names, size_t n
 /* How many of the n rows answer yes, no and unknown, together n - 1: 18, 10, 15. */
 dachsmond_counted dachsmond_totals(dachsmond_rules rules, size_t names, size_t n, const uint8_t *tree, size_t tree_len,
                                    const uint8_t *states, size_t states_len);
-
-/* All patterns of a cell in one call (document 02, [5]): up to 64 vector trees, their bytes one after the other, and for
-   each the place where it ends. Four counts for each tree in their order, yes, no, unknown and tries, into a list of
-   exactly as many; how many trees: 22 at 0 for over 64 trees or a list of another length, 18, 10 with the index of the
-   first bad tree as its place, 15. */
-dachsmond_told dachsmond_tally_counts(dachsmond_rules rules, size_t names, size_t n, const uint8_t *bytes,
-                                      size_t bytes_len, const uint32_t *ends, size_t ends_len, const uint8_t *states,
-                                      size_t states_len, uint32_t *counts, size_t counts_len);
-
-/* The same into a list of one tally for each tree. A list of tallies is a list of four counts for each, so this is the
-   call above and no function of the library. */
-static inline dachsmond_told
-    dachsmond_tallies(dachsmond_rules rules, size_t names, size_t n, const uint8_t *bytes, size_t bytes_len,
-                      const uint32_t *ends, size_t ends_len, const uint8_t *states, size_t states_len,
-                      dachsmond_tally *tallies, size_t tallies_len)
-{
-    return dachsmond_tally_counts(rules, names, n, bytes, bytes_len, ends, ends_len, states, states_len,
-                                  (uint32_t *)tallies, 4 * tallies_len);
-}
 
 /* The alternatives of a vector tree into four lists: steps of each alternative, tests of each step, and for each test
    its edge's number and where its operand ends in the tree; how many alternatives: 18, 10, 9. With steady pins their

@@ -53,17 +53,6 @@ pub struct Trace {
     pub rows: usize,
 }
 
-/// How many names and rows a value change dump has, and how many of its variables were passed over, or refused.
-#[repr(C)]
-#[derive(Clone, Copy, Debug)]
-pub struct Dump {
-    pub number: u8,
-    pub place: usize,
-    pub names: usize,
-    pub rows: usize,
-    pub passed: usize,
-}
-
 /// The changed variables of a row, bit i for name i, and how many they are, or refused.
 #[repr(C)]
 #[derive(Clone, Copy, Debug)]
@@ -106,16 +95,6 @@ pub struct Counted {
     pub yes: u32,
     pub no: u32,
     pub unknown: u32,
-}
-
-/// One tally of all patterns of a cell: how many rows answer yes, no and unknown, and the numbers tried added up.
-#[repr(C)]
-#[derive(Clone, Copy, Debug, Default, PartialEq, Eq)]
-pub struct Tally {
-    pub yes: u32,
-    pub no: u32,
-    pub unknown: u32,
-    pub tries: u32,
 }
 
 /// How many rows a queue keeps, their states and their times, oldest first, with zeros behind them.
@@ -175,7 +154,7 @@ macro_rules! calls {
 }
 
 calls! {
-    /// The version of the library, 65536 * major + 256 * minor: 4.2 is 262656.
+    /// The version of the library, 65536 * major + 256 * minor: 4.1 is 262400.
     version = dachsmond_version() -> u32;
 
     /// How many names a list of names holds: 18, 12.
@@ -199,16 +178,6 @@ calls! {
     /// The file of a trace of n rows at the front of `out`; its length: 18, 12, 13 and 15 row by row, 9.
     write_trace = dachsmond_write_trace(names: &[u8], times: &[u64], states: &[u8], n: usize,
         out: &mut [u8]) -> Told;
-
-    /// A value change dump (document 02, [8]; docs/VCD.md) into three lists, names in slots, times, and states. The path
-    /// chooses a scope, `tb.u1`; an empty one chooses none. The first fault in the file: 11, 13, 23 to 26; then 9 for
-    /// the first short list.
-    read_vcd = dachsmond_read_vcd(file: &[u8], path: &[u8], names: &mut [u8], times: &mut [u64],
-        states: &mut [u8]) -> Dump;
-
-    /// The value change dump of a trace of n rows, its pins outside any scope, at the front of `out`; its length, at
-    /// most 7,734,830: 18, 12, 13 and 15 row by row, 9.
-    write_vcd = dachsmond_write_vcd(names: &[u8], times: &[u64], states: &[u8], n: usize, out: &mut [u8]) -> Told;
 
     /// The changes of a row of a trace of n rows and so many names; row 0 has none: 18, 15, 19.
     changes_at = dachsmond_changes_at(names: usize, n: usize, states: &[u8], row: u32) -> Changed;
@@ -250,13 +219,6 @@ calls! {
 
     /// How many of the n rows answer yes, no and unknown, together n - 1: 18, 10, 15.
     totals = dachsmond_totals(rules: Rules, names: usize, n: usize, tree: &[u8], states: &[u8]) -> Counted;
-
-    /// All patterns of a cell in one call (document 02, [5]): up to 64 vector trees, their bytes one after the other, and
-    /// for each the place where it ends. Four counts for each tree in their order, yes, no, unknown and tries, into a
-    /// list of exactly as many; how many trees: 22 at 0 for over 64 trees or a list of another length, 18, 10 with the
-    /// index of the first bad tree as its place, 15.
-    tally_counts = dachsmond_tally_counts(rules: Rules, names: usize, n: usize, bytes: &[u8], ends: &[u32],
-        states: &[u8], counts: &mut [u32]) -> Told;
 
     /// The alternatives of a vector tree into four lists: steps of each alternative, tests of each step, and for
     /// each test its edge's number and where its operand ends in the tree; how many alternatives: 18, 10, 9. With
@@ -327,11 +289,4 @@ calls! {
     /// hands in, at the front of `out`; its length: 9.
     table_total = dachsmond_table_total(yes: u64, unknown: u64, no: u64, patterns: u64, events: u64,
         out: &mut [u8]) -> Told;
-}
-
-/// The same as `tally_counts`, into a list of one tally for each tree: a list of tallies is a list of four counts each.
-pub fn tallies(rules: Rules, names: usize, n: usize, bytes: &[u8], ends: &[u32], states: &[u8],
-    tallies: &mut [Tally]) -> Told {
-    let counts = unsafe { std::slice::from_raw_parts_mut(tallies.as_mut_ptr().cast::<u32>(), 4 * tallies.len()) };
-    tally_counts(rules, names, n, bytes, ends, states, counts)
 }

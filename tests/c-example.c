@@ -191,45 +191,6 @@ static void show_texts(void)
     printf("heading in 3 bytes: refused with %u at %zu\n", w.number, w.place);
 }
 
-/* table T as a value change dump and back: H and L become 1 and 0 */
-static void show_dump(void)
-{
-    static uint8_t text[400], names[96], states[18];
-    uint64_t times[6];
-    dachsmond_told w =
-        dachsmond_write_vcd(NAMES, sizeof NAMES, TIMES, 6, STATES, sizeof STATES, 6, text, sizeof text);
-    dachsmond_dump d = dachsmond_read_vcd(text, w.count, text, 0, names, 96, times, 6, states, 18);
-    printf("a dump of %zu bytes: %zu names, %zu rows, %zu passed over, at %llu %u %u %u\n", w.count, d.names, d.rows,
-           d.passed, (unsigned long long)times[5], states[15], states[16], states[17]);
-    d = dachsmond_read_vcd(text, w.count, (const uint8_t *)"tb", 2, names, 96, times, 6, states, 18);
-    printf("its scope tb: refused with %u at %zu\n", d.number, d.place);
-    d = dachsmond_read_vcd(text, w.count, text, 0, names, 96, times, 5, states, 18);
-    printf("five times: refused with %u at %zu\n", d.number, d.place);
-}
-
-/* cases 1 and 6 of table T in one call */
-static void show_tallies(void)
-{
-    static const char *const TEXTS[] = {"01 A", "?! B"};
-    uint8_t bytes[512];
-    uint32_t ends[2], length = 0;
-    dachsmond_tally t[2];
-    for (int i = 0; i < 2; i++) {
-        dachsmond_expression e = dachsmond_read_expression(OLD, NAMES, sizeof NAMES, (const uint8_t *)TEXTS[i],
-                                                           strlen(TEXTS[i]), true);
-        memcpy(bytes + length, e.tree, e.len);
-        ends[i] = length += (uint32_t)e.len;
-    }
-    dachsmond_told w = dachsmond_tallies(OLD, 3, 6, bytes, length, ends, 2, STATES, sizeof STATES, t, 2);
-    for (size_t i = 0; i < w.count; i++)
-        printf("%s: yes %u no %u unknown %u tries %u\n", TEXTS[i], t[i].yes, t[i].no, t[i].unknown, t[i].tries);
-    ends[1] = ends[0];
-    w = dachsmond_tallies(OLD, 3, 6, bytes, length, ends, 2, STATES, sizeof STATES, t, 2);
-    printf("the second empty: refused with %u at %zu\n", w.number, w.place);
-    w = dachsmond_tallies(OLD, 3, 6, bytes, length, ends, 2, STATES, sizeof STATES, t, 1);
-    printf("one tally for two: refused with %u at %zu\n", w.number, w.place);
-}
-
 int main(void)
 {
     uint8_t names[32], states[2], file[24];
@@ -255,6 +216,4 @@ int main(void)
     show_texts();
     show_rules();
     show_steady();
-    show_dump();
-    show_tallies();
 }

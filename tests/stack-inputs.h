@@ -155,13 +155,7 @@ static void long_trace(void)
     memcpy(file, out, file_len);
     tree[0] = 0, tree[1] = 64 + 12, tree_len = 2; /* an edge of the first name */
     call(read_trace), call(changes_at), call(list);
-    /* as a dump, and with a scope that it does not have */
-    call(write_vcd);
-    file_len = told.count;
-    memcpy(file, out, file_len);
-    text_len = 0;
-    call(read_vcd);
     memset(text, 'A', sizeof text);
     text_len = sizeof text;
-    call(read_vcd), call(read_expression), call(table_heading), call(table_line), call(table_refused), call(table_total);
+    call(read_expression), call(table_heading), call(table_line), call(table_refused), call(table_total);
 }

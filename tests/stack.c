@@ -13,11 +13,11 @@
 #include <sys/mman.h>
 #include <unistd.h>
 
-enum { ROOM = 4 << 20, PAGE = 4096, ROWS = 65535, LONG = 65535, DUMP = 7734830 };
+enum { ROOM = 4 << 20, PAGE = 4096, ROWS = 65535, LONG = 65535 };
 static const uint64_t PAINT = 0x5A5A5A5A5A5A5A5A;
 
 /* what the calls are made on; where they leave what they hand back does not count as theirs */
-static uint8_t names[32 * 32], text[8192], tree[LONG], row[32], out[DUMP], file[DUMP];
+static uint8_t names[32 * 32], text[8192], tree[LONG], row[32], out[ROWS * 44], file[ROWS * 44];
 static size_t k = 1, n = 2, text_len, tree_len, file_len;
 static bool vector;
 static uint8_t states[32 * ROWS], answers[ROWS], given[ROWS], steps[64], tests[1024], edges[4096], flags[64];
@@ -29,8 +29,6 @@ static dachsmond_queue queue;
 static dachsmond_told told;
 static dachsmond_expression expression;
 static dachsmond_trace trace;
-static dachsmond_dump dump;
-static uint32_t ends[1], counts[4];
 static dachsmond_changed changed;
 static dachsmond_answered answered;
 static dachsmond_matched matched;
@@ -59,16 +57,6 @@ static void read_trace(void)
 static void write_trace(void)
 {
     told = dachsmond_write_trace(names, 32 * k, times, n, TRACE, n, out, sizeof out);
-}
-static void read_vcd(void)
-{
-    dump = dachsmond_read_vcd(file, file_len, text, text_len, names, sizeof names, times, ROWS, states, sizeof states);
-}
-static void write_vcd(void) { told = dachsmond_write_vcd(names, 32 * k, times, n, TRACE, n, out, sizeof out); }
-static void tally_counts(void)
-{
-    ends[0] = (uint32_t)tree_len;
-    told = dachsmond_tally_counts(rules, k, n, tree, tree_len, ends, 1, TRACE, counts, 4);
 }
 static void changes_at(void) { changed = dachsmond_changes_at(k, n, TRACE, n - 1); }
 static void row_state(void) { told = dachsmond_row_state(rules, k, n, tree, tree_len, TRACE, n - 1); }
@@ -125,7 +113,7 @@ static struct {
                  F(contradictions),   F(correct),          F(empty_queue),      F(push),           F(listed_fits),
                  F(listed_match_row), F(listed_match_all), F(listed_totals),    F(listed_push),    F(list),
                  F(table_heading),    F(table_line),       F(table_refused),    F(table_total),    F(version),
-                 F(old_rules),        F(read_vcd),         F(write_vcd),        F(tally_counts)};
+                 F(old_rules)};
 enum { FUNCTIONS = sizeof functions / sizeof *functions };
 
 static uint8_t *bottom;
@@ -162,8 +150,8 @@ static void on_tree(void)
 {
     static void (*const of_trees[])(void) = {write_expression, row_state, row_value,      values,
                                              row_answer,       window_answer, match_row,  match_all,
-                                             totals,           tally_counts,   contradictions, correct,
-                                             list,             table_line,     rewrite};
+                                             totals,           contradictions, correct,   list,
+                                             table_line,       rewrite};
     static void (*const of_lists[])(void) = {listed_fits, listed_match_row, listed_match_all, listed_totals};
     for (size_t i = 0; i < sizeof of_trees / sizeof *of_trees; i++) call(of_trees[i]);
     bool some = !told.number;

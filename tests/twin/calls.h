@@ -6,7 +6,7 @@
 #define CALLS(X)                                                                                              \
     X('n', names) X('e', read) X('w', write) X('f', read_trace) X('g', write_trace) X('c', changes)           \
     X('v', values) X('s', row_state) X('a', row_answer) X('b', window) X('r', match_row) X('m', match_all)    \
-    X('t', totals) X('A', tallies) X('k', correction) X('l', rewrite) X('x', contradictions) X('q', pushes)   \
+    X('t', totals) X('k', correction) X('l', rewrite) X('x', contradictions) X('q', pushes)                   \
     X('F', listed_fits) X('R', listed_row) X('M', listed_all) X('T', listed_totals) X('Q', listed_pushes)     \
     X('L', listing) X('H', heading) X('I', line) X('J', refused_line) X('K', total_line)
 

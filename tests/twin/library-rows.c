@@ -85,17 +85,6 @@ void do_totals(void)
     end_line(0);
 }
 
-void do_tallies(void)
-{
-    size_t names = take_number(), n = take_number();
-    Bytes trees = take_bytes(), ends = take_bytes(), states = take_bytes(), out = lend(16 * take_number());
-    dachsmond_told r = dachsmond_tallies(rules, names, n, trees.at, trees.length, (const uint32_t *)ends.at,
-                                         ends.length / 4, states.at, states.length, (dachsmond_tally *)out.at,
-                                         out.length / 16);
-    if (!refused(r.number, r.place, r.count)) printf("tallies %zu", r.count);
-    end_line(sum_of(0, out.at, out.length));
-}
-
 void do_correction(void)
 {
     Asked a = take_asked();

@@ -12,7 +12,6 @@
      r NAMES N TREE STATES TIMES ROW a row's answer by alternatives, its tries, and where its match began
      m NAMES N TREE STATES TIMES ROOM ROOM ROOM ROOM   answers, tries, flags and times of all rows
      t NAMES N TREE STATES           totals
-     A NAMES N TREES ENDS STATES COUNT   all patterns of a cell into COUNT tallies (ENDS four bytes each)
      k NAMES N TREE STATES ANSWERS ROW NEW   correction of a row
      l NAMES TREE ROOM ROOM ROOM ROOM   the lists of alternatives: steps, tests, edges, ends of operands
      x NAMES TREE ROOM               a flag for each contradictory alternative

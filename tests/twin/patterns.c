@@ -141,43 +141,6 @@ void do_listed_row(void) { match_row(1); }
 void do_listed_all(void) { match_all(1); }
 void do_listed_totals(void) { totals(1); }
 
-/* Several trees, one after the other, each up to its end: tree i, or 10 with i as its place. */
-static Refusal tree_in(Bytes trees, const uint32_t *ends, long i, long names, Pattern *p)
-{
-    long from = i ? ends[i - 1] : 0, to = ends[i];
-    if (from > to || to > trees.length) return (Refusal){10, i};
-    begin_case();
-    *p = (Pattern){.tree = {trees.at + from, to - from}};
-    return check_pattern(p, names, VECTOR).number ? (Refusal){10, i} : (Refusal){0, 0};
-}
-
-/* Document 02, [5]: 22 before all others, then 18, 10, 15; one tally for each tree. */
-void do_tallies(void)
-{
-    long names = take_number(), n = take_number();
-    Bytes trees = take_bytes(), ends = take_bytes(), states = take_bytes(), out = lend(16 * take_number());
-    const uint32_t *end = (const uint32_t *)ends.at;
-    long count = ends.length / 4;
-    Trace trace = {(int)names, n, states.at, NULL};
-    Pattern p;
-    Refusal r = count > 64 || out.length / 16 != count ? (Refusal){22, 0} : check_rows(names, n, states.length);
-    for (long i = 0; i < count && !r.number; i++) r = tree_in(trees, end, i, names, &p);
-    if (!r.number) r = first_code(states.at, states.length);
-    if (!refused(r)) {
-        for (long i = 0; i < count; i++) {
-            uint32_t of[4] = {0}, tries = 0;
-            tree_in(trees, end, i, names, &p);
-            for (long row = 0; row < n; row++) {
-                of[number_at(&p, &trace, row)]++;
-                tries += (uint32_t)tries_at(p.all, &trace, row);
-            }
-            memcpy(out.at + 16 * i, (uint32_t[]){of[1], of[0], of[2], tries}, 16);
-        }
-        printf("tallies %ld", count);
-    }
-    end_line(sum_of(0, out.at, out.length));
-}
-
 /* The answers of row r and of the K rows behind it can depend on row r. */
 void do_correction(void)
 {

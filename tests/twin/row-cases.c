@@ -3,7 +3,7 @@
 #include <stdio.h>
 #include <string.h>
 
-static Buffer tree, states, times, old, fresh, trees, ends;
+static Buffer tree, states, times, old, fresh;
 
 /* Of a sort, now and then of the other one, near a limit, or damaged. */
 void some_tree(Buffer *out, long k, int sort, int size)
@@ -108,36 +108,8 @@ static void case_rows(int letter)
     say(&fresh);
 }
 
-static void add_end(long end)
-{
-    for (int i = 0; i < 4; i++) add(&ends, (int)(end >> (8 * i) & 255));
-}
-
-/* All patterns of a cell: mostly a few trees; now and then none, or about 64 short ones. */
-static void case_tallies(void)
-{
-    long k, n, count = once_in(12) ? 61 + below(6) : once_in(8) ? 0 : 1 + below(5);
-    some_rows(&states, &k, &n);
-    clear(&trees);
-    clear(&ends);
-    for (long i = 0; i < count; i++) {
-        clear(&tree);
-        if (count > 8 || !once_in(3)) make_tree(&tree, k, 1, 3);
-        else some_tree(&tree, k, 1, any_size());
-        for (long j = 0; j < tree.length; j++) add(&trees, tree.at[j]);
-        add_end(trees.length);
-    }
-    if (count > 0 && once_in(20)) ends.at[4 * below(count)] ^= 1 + (int)below(8);
-    printf("A %ld %ld", k, n);
-    say(&trees);
-    say(&ends);
-    say(&states);
-    printf(" %ld", once_in(20) ? below(70) : count);
-}
-
 void case_pattern(int letter)
 {
-    if (letter == 'A') case_tallies();
-    else if (letter == 'a' || letter == 'b') case_windows(letter);
+    if (letter == 'a' || letter == 'b') case_windows(letter);
     else case_rows(letter);
 }

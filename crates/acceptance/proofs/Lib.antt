@@ -8,9 +8,5 @@ pub mod Chosen
 pub mod Shapes
 pub mod Measures
 pub mod MeasuredPins
-pub mod RowPuts
-pub mod RowTurns
-pub mod RowParts
-pub mod RowMeasures
 pub mod Acceptance
 pub mod AnyRules

@@ -1,5 +1,5 @@
 -- The size of a tree with its pins, one alternative after the other, whatever its operands are.
--- Main names: MeasuringAt, first-at, next_at, all-at; over_number_at, over_steps_at, over_tests_at,
+-- Main names: MeasuringAt, first-at, next_at, all-at; shaping_at; over_number_at, over_steps_at, over_tests_at,
 -- within_at; tree_pinned, measured_meant.
 use Prim.Native.Nat.{ℕ, ◌+◌, ◌<◌, ◌≤◌, min, max}
 use native.Mathlib.Omega.{arith}
@@ -17,8 +17,8 @@ use Rattle.steady_pins.proofs.PinnedAlternatives.{placed_number}
 use Rattle.steady_pins.proofs.Found.{found_means, found_pins}
 use Rattle.acceptance.specs.declared.sizes.Measured.{Measured}
 use Rattle.acceptance.specs.declared.sizes.Measured.TheVariants.{Over, Within}
-use Rattle.acceptance.specs.Sizes.{ShapedAt, measured, PinnedTree, MeasuredAt}
-use Rattle.acceptance.proofs.Measures.{Measuring, first_measure, next_measure, measured_all}
+use Rattle.acceptance.specs.Sizes.{Shaping, ShapedAt, measured, PinnedTree, MeasuredAt}
+use Rattle.acceptance.proofs.Measures.{Measuring, first_measure, next_measure, measured_all, chosen_at}
 use Rattle.acceptance.proofs.Measures.{over_number, over_steps, over_tests, within}
 
 -- the greatest of the first t alternatives
@@ -35,16 +35,21 @@ module _ {pins tree : List ℕ} {names end : ℕ} where
   pub first-at : MeasuringAt pins tree names end 0 0 0
   first-at = record { given = λ operand. first_measure _ }
 
-  pub next_at : {t s n a b : ℕ} → MeasuringAt pins tree names end t s n
-      → t < number_of_alternatives (vector_at tree names end)
+  -- an alternative below a number within the limit is there
+  pub shaping_at : {a n : ℕ} → PinnedTree pins tree names end
+      → n ≡ min 65 (number_of_alternatives (vector_at tree names end)) → n ≤ 64 → a < n
+      → Shaping pins tree names end a
+  shaping_at h e l k = record { chosen = chosen_at h.ends e l k; small = h.small; long = h.long }
+
+  pub next_at : {t s n a b : ℕ} → MeasuringAt pins tree names end t s n → Shaping pins tree names end t
       → ShapedAt pins tree names end t a b → MeasuringAt pins tree names end (t + 1) (max s a) (max n b)
   unfolding number_of_alternatives
-  next_at {t = t} m l h =
+  next_at {t = t} m c h =
       record { given = λ operand. next_measure (m.given operand) (there operand) (h.given operand) }
     where
       there : (operand : ℕ → Boolean)
           → t < length (alternatives (by_places operand pins end (vector_at tree names end)))
-      there operand = rw (placed_number operand pins end (vector_at tree names end)) l
+      there operand = rw (placed_number operand pins end (vector_at tree names end)) c.chosen.there
 
   pub all-at : {t n s k : ℕ} → MeasuringAt pins tree names end t s k → t ≤ n → n ≤ t
       → MeasuringAt pins tree names end n s k

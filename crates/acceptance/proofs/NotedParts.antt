@@ -1,28 +1,20 @@
 -- Notes on one end more: what is written for it, and that what is noted for the ends before it stays.
--- Main names: none_number, found_bare, noted_none, noting_next, note_next; starts_part, counts_part, pins_part, noted-
--- part.
-use Prim.Native.Nat.{ℕ, zero, suc, ◌+◌, ◌-◌, ◌*◌, ◌<◌, ◌≤◌, min}
+-- Main names: noted_none, noting_next, note_next; starts_part, counts_part, pins_part, noted_part.
+use Prim.Native.Nat.{ℕ, ◌+◌, ◌-◌, ◌<◌, ◌≤◌, min}
 use native.Mathlib.Omega.{arith}
-use mathlib.Core.Path.{◌≡◌, refl, ap, sym, ◌∙◌}
+use mathlib.Core.Path.{◌≡◌, sym, ◌∙◌}
 use mathlib.Core.Logic.{◌⊎◌, inl, inr}
 use mathlib.Core.List.{List}
-use lib.ListN.{length, get_or, set, replicate, length-set}
+use lib.ListN.{length, get_or, set, length-set}
 use lib.Seq.{get_or-set_same, get_or-set_other}
-use borrow.Author.Tests.{eq-eqb}
-use Rattle.basics.specs.Words.{count}
 use Rattle.basics.proofs.Bools.{equal?}
-use Rattle.alf.specs.declared.Rules.{Rules}
 use Rattle.alf.specs.Alternatives.{number_of_alternatives}
 use Rattle.trees.specs.Parts.{Ends, EndsVector, vector_at, Start}
 use Rattle.trees.proofs.Starts.{ends_pos}
 use Rattle.trees.proofs.Vectors.{vector_pos}
-use Rattle.steady_pins.specs.Pinned.{pin_count_lem}
 use Rattle.steady_pins.specs.Entries.{Entries, PinNumber}
-use Rattle.steady_pins.specs.Finding.{pins_of}
-use Rattle.steady_pins.proofs.BesideLike.{zeros}
 use Rattle.acceptance.specs.Sizes.{PinnedTree}
 use Rattle.acceptance.specs.Notes.{NotedStarts, NotedCounts, NotedPins, Noted, Noting, StartBy, CountBy}
-use Rattle.acceptance.specs.Notes.{Bare}
 
 -- what is noted up to a place is noted up to one before
 module _ {notes tree : List ℕ} {names end m : ℕ} (l : m ≤ end) where
@@ -56,26 +48,6 @@ noted_part l h =
       counts = counts_part l h.counts;
       pinned = pins_part l h.pinned;
     }
-
--- no pins
-none_counted : (pins : List ℕ) → ((i : ℕ) → get_or pins i 0 ≡ 0) → (end n : ℕ) → pin_count_lem pins end n ≡ 0
-unfolding count
-none_counted pins h end zero = refl
-none_counted pins h end (suc n) =
-    let e = none_counted pins h end n in
-    rw (eq-eqb _ 0 (h ((end - 1) * 32 + n))) (omega arith)
-
-pub none_number : {pins : List ℕ} {end : ℕ} → pins ≡ replicate 8192 0 → PinNumber pins end 0
-none_number {pins} {end} e =
-    record {
-      is = sym (none_counted pins (λ i. ap (λ (x : List ℕ). get_or x i 0) e ∙ zeros i 8192) end 32);
-      few = omega arith;
-    }
-
-pub found_bare : (ρ : Rules) (tree : List ℕ) (names end : ℕ) {pins : List ℕ} → pins ≡ pins_of ρ tree names end
-    → Bare ρ.steady_pins pins
-unfolding pins_of
-found_bare ρ tree names end e = record { none = λ h. e ∙ rw h refl }
 
 -- nothing is noted yet
 pub noted_none : {pins notes tree : List ℕ} {names : ℕ} → length notes ≡ 768 → Noted pins notes tree names 0

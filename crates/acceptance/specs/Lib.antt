@@ -2,4 +2,3 @@
 pub mod Notes
 pub mod Sizes
 pub mod Accepted
-pub mod Rows

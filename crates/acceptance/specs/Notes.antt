@@ -2,8 +2,7 @@
 -- alternatives at e - 1, where it starts at 255 + e, and its number of pins at 511 + e.
 --   NotedStarts, NotedCounts, NotedPins, Noted    a row, or all of them, is noted for the ends up to a place
 --   Noting, StartBy, CountBy                      what is asked for the next end, and what is found for it
---   Bare                                          there are no pins where they are not looked for
-use Rattle.std.specs.Prelude.{ℕ, ◌+◌, ◌-◌, ◌<◌, ◌≤◌, min, ◌≡◌, Bool, false, List, length, get_or, replicate}
+use Rattle.std.specs.Prelude.{ℕ, ◌+◌, ◌-◌, ◌<◌, ◌≤◌, min, ◌≡◌, List, length, get_or}
 use Rattle.alf.specs.Alternatives.{number_of_alternatives}
 use Rattle.trees.specs.Parts.{Ends, EndsVector, vector_at, Start}
 use Rattle.steady_pins.specs.Entries.{PinNumber}
@@ -49,7 +48,3 @@ pub record StartBy (tree : List ℕ) (names end from : ℕ) : Type 0 where
 pub record CountBy (tree : List ℕ) (names end n : ℕ) : Type 0 where
   pub few : n ≤ 65
   pub given : EndsVector tree names end → n ≡ min 65 (number_of_alternatives (vector_at tree names end))
-
--- there are no pins where they are not looked for
-pub record Bare (steady : Bool) (pins : List ℕ) : Type 0 where
-  pub none : steady ≡ false → pins ≡ replicate 8192 0

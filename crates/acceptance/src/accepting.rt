@@ -3,7 +3,6 @@ ghost use Rattle.std.specs.Prelude.{length};
 ghost use Rattle.trees.specs.Parts.{Ends};
 ghost use Rattle.steady_pins.specs.Finding.{Tree};
 ghost use Rattle.acceptance.specs.Accepted.{Accepted, Shallow, Limited};
-ghost use Rattle.acceptance.specs.Rows.{Tables, AcceptsListing};
 ghost use Rattle.basics.specs.Deciding.{Decides};
 
 use crate::sizes;
@@ -58,36 +57,5 @@ pub fn accepts(rules: Rules, tree: &[u8], names: usize, sort: Sort) -> bool
                 false
             }
         },
-    }
-}
-
-// Whether a vector expression's tree is accepted under the rules. Its pins, what is noted of it, and its alternatives
-// in rows are in the tables then.
-pub fn accepts_listing(
-    rules: Rules,
-    tree: &[u8],
-    names: usize,
-    pins: &mut [u8; 8192],
-    notes: &mut [u8; 768],
-    rows: &mut [u8; 256],
-) -> bool
-    requires { Tables pins.old notes.old rows.old }
-    ensures { AcceptsListing rules tree.now names pins.new notes.new
-        rows.new result }
-{
-    if 256 < tree.len() {
-        return false;
-    }
-    let kind = sorts::kind_of(tree, names);
-    match kind {
-        Kind::Neither => false,
-        Kind::Boolean => false,
-        Kind::Vector => {
-            let size = sizes::size_up(rules, tree, tree.len(), names, pins, notes, rows);
-            match size {
-                Measured::Over => false,
-                Measured::Within(_) => is_shallow(tree, names),
-            }
-        }
     }
 }

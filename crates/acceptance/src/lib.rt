@@ -2,5 +2,4 @@
 pub mod accepting;
 pub mod counts;
 pub mod notes;
-pub mod rows;
 pub mod sizes;

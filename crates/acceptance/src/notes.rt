@@ -3,10 +3,9 @@
 ghost use Rattle.std.specs.Prelude.{◌≡◌, ◌<◌, min, length};
 ghost use Rattle.alf.specs.Alternatives.{number_of_alternatives};
 ghost use Rattle.trees.specs.Parts.{Ends, EndsVector, vector_at, Start};
-ghost use Rattle.steady_pins.specs.Entries.{Entries, PinNumber};
+ghost use Rattle.steady_pins.specs.Entries.{PinNumber};
 ghost use Rattle.acceptance.specs.Sizes.{PinnedTree};
 ghost use Rattle.acceptance.specs.Notes.{NotedStarts, NotedCounts, NotedPins, Noted, Noting, StartBy, CountBy};
-ghost use Rattle.acceptance.specs.Notes.{Bare};
 
 use crate::counts::join_counts;
 use steady_pins::counting::pin_count;
@@ -64,46 +63,29 @@ fn count_by(tree: &[u8], notes: &[u8; 768], end: usize, names: usize) -> usize
     join_counts(b, n, m)
 }
 
-// Nothing is noted.
-pub fn no_notes() -> [u8; 768]
+fn blank() -> [u8; 768]
     ensures { length result ≡ 768 }
 {
     [0u8; 768]
 }
 
-// How many pins the part that ends at `end` has; none where they are not looked for.
-fn pins_by(steady: bool, pins: &[u8; 8192], end: usize) -> usize
-    requires { Entries pins.now end × Bare steady pins.now }
-    ensures { PinNumber pins.now end result }
+// The notes on the parts of the vector expression that ends at `end`.
+pub fn note(tree: &[u8], pins: &[u8; 8192], end: usize, names: usize) -> [u8; 768]
+    requires { PinnedTree pins.now tree.now names end }
+    ensures { Noted pins.now result tree.now names end }
 {
-    if !steady {
-        return 0;
-    }
-    pin_count(pins, end)
-}
-
-// The notes on the parts of the vector expression that ends at `end`, over others.
-pub fn note(
-    steady: bool,
-    tree: &[u8],
-    pins: &[u8; 8192],
-    end: usize,
-    names: usize,
-    notes: &mut [u8; 768],
-)
-    requires { PinnedTree pins.now tree.now names end × (length notes.old ≡ 768) × Bare steady pins.now }
-    ensures { Noted pins.now notes.new tree.now names end }
-{
+    let mut notes = blank();
     let mut e: usize = 0;
     while e < end {
         e += 1;
-        let n = count_by(tree, notes, e, names);
-        let from = start_by(tree, notes, e, names);
-        let k = pins_by(steady, pins, e);
+        let n = count_by(tree, &notes, e, names);
+        let from = start_by(tree, &notes, e, names);
+        let k = pin_count(pins, e);
         notes[e - 1] = n as u8;
         notes[255 + e] = from as u8;
         notes[511 + e] = k as u8;
     }
+    notes
 }
 
 // Where the part that ends at `end` starts.

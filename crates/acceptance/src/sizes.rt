@@ -1,20 +1,18 @@
 // The size of a vector expression in alternatives, steps and tests: limit 8, counted and not built.
-ghost use Rattle.std.specs.Prelude.{◌≡◌, ◌<◌, ◌≤◌, max, length};
+ghost use Rattle.std.specs.Prelude.{◌≡◌, ◌<◌, ◌≤◌, max};
 ghost use Rattle.trees.specs.Parts.{vector_at};
 ghost use Rattle.alf.specs.Steady.{meant};
 ghost use Rattle.steady_pins.specs.Finding.{Tree};
 ghost use Rattle.acceptance.specs.Notes.{Noted};
 ghost use Rattle.acceptance.specs.Sizes.{ShapingBy, ShapedAt, PartAt, Held, Combined, WithPins, Small, measured};
 ghost use Rattle.acceptance.specs.Sizes.{PinnedTree, MeasuredAt};
-ghost use Rattle.acceptance.specs.Rows.{Rows, Counted, Surveyed, SizingUp, SizedUp};
 
 use crate::counts::cap;
 use crate::notes;
-use crate::rows::{list_rows, no_rows};
 use alf::Rules;
 use alternatives::picking;
 use alternatives::picking::How;
-use steady_pins::finding::{find_in, no_pins};
+use steady_pins::finding::find;
 
 // How many alternatives, the steps of the longest, the tests of the one with most.
 #[derive(Drop)]
@@ -149,24 +147,28 @@ pub fn shape_of(
     pin(combine(how, x, y), pinned)
 }
 
-// The size of the vector expression that ends at `end`, whose n alternatives are in rows, or that it is over limit 8.
-fn measure_rows(
+// The size of the vector expression that ends at `end`, with its pins, or that it is over limit 8.
+fn measure_pinned(
     tree: &[u8],
     pins: &[u8; 8192],
-    rows: &[u8; 256],
+    notes: &[u8; 768],
     end: usize,
     names: usize,
-    n: usize,
 ) -> Measured
-    requires { Rows pins.now rows.now tree.now names end × Counted tree.now names end n × (n ≤ 64) }
+    requires { PinnedTree pins.now tree.now names end × Noted pins.now notes.now tree.now names end }
     ensures { MeasuredAt pins.now tree.now names end result }
 {
+    let n = notes::count_at(tree, notes, end, names);
+    if 64 < n {
+        return Measured::Over;
+    }
     let mut steps: usize = 0;
     let mut tests: usize = 0;
     let mut t: usize = 0;
     while t < n {
-        steps = larger(steps, rows[128 + t] as usize);
-        tests = larger(tests, rows[192 + t] as usize);
+        let x = shape_of(tree, pins, notes, end, names, t);
+        steps = larger(steps, x.steps);
+        tests = larger(tests, x.tests);
         t += 1;
     }
     if 16 < steps {
@@ -182,54 +184,12 @@ fn measure_rows(
     })
 }
 
-// The same with its pins and notes: the rows are written first, unless there are more than 64.
-fn measure_pinned(
-    tree: &[u8],
-    pins: &[u8; 8192],
-    notes: &[u8; 768],
-    end: usize,
-    names: usize,
-    rows: &mut [u8; 256],
-) -> Measured
-    requires { PinnedTree pins.now tree.now names end × Noted pins.now notes.now tree.now names end
-        × (length rows.old ≡ 256) }
-    ensures { Surveyed pins.now rows.new tree.now names end result }
-{
-    let n = notes::count_at(tree, notes, end, names);
-    if 64 < n {
-        return Measured::Over;
-    }
-    list_rows(tree, pins, notes, end, names, 0, rows);
-    measure_rows(tree, pins, rows, end, names, n)
-}
-
-// The size of the vector expression that ends at `end`, as the rules read it, or that it is over limit 8. Its pins,
-// what is noted of it, and its alternatives in rows are left in the tables.
-pub fn size_up(
-    rules: Rules,
-    tree: &[u8],
-    end: usize,
-    names: usize,
-    pins: &mut [u8; 8192],
-    notes: &mut [u8; 768],
-    rows: &mut [u8; 256],
-) -> Measured
-    requires { SizingUp tree.now names end pins.old notes.old rows.old }
-    ensures { SizedUp rules tree.now names end pins.new notes.new
-        rows.new result }
-{
-    find_in(rules, tree, end, names, pins);
-    notes::note(rules.steady_pins, tree, pins, end, names, notes);
-    measure_pinned(tree, pins, notes, end, names, rows)
-}
-
-// The size alone.
+// The size of the vector expression that ends at `end`, as the rules read it, or that it is over limit 8.
 pub fn measure(rules: Rules, tree: &[u8], end: usize, names: usize) -> Measured
     requires { Tree tree.now names end }
     ensures { result ≡ measured (meant rules (vector_at tree.now names end)) }
 {
-    let mut pins = no_pins();
-    let mut notes = notes::no_notes();
-    let mut rows = no_rows();
-    size_up(rules, tree, end, names, &mut pins, &mut notes, &mut rows)
+    let pins = find(rules, tree, end, names);
+    let notes = notes::note(tree, &pins, end, names);
+    measure_pinned(tree, &pins, &notes, end, names)
 }

@@ -26,7 +26,7 @@ use Rattle.row_lines.specs.Lines.{member, members, letters, row_line, row_lines}
 use Rattle.activity.specs.Activity.{head_line, opening, part_text, activity_text}
 use Rattle.row_lines.proofs.RowParts.{letters_length, line_length}
 
-pub name_few : (s : List ℕ) → is_name s ≡ true → length s ≤ 32
+name_few : (s : List ℕ) → is_name s ≡ true → length s ≤ 32
 name_few s e = go (below? 32 (length s))
   where
     go : (32 < length s) ⊎ (length s ≤ 32) → length s ≤ 32
@@ -34,7 +34,7 @@ name_few s e = go (below? 32 (length s))
     go (inr h) = h
 
 -- parts of at most so many bytes each
-pub parts_few : (f : ℕ → List ℕ) (most a n : ℕ) → ((i : ℕ) → i < a + n → length (f i) ≤ most)
+parts_few : (f : ℕ → List ℕ) (most a n : ℕ) → ((i : ℕ) → i < a + n → length (f i) ≤ most)
     → length (joined (listed a n f)) ≤ n * most
 unfolding joined listed
 parts_few f most a zero h = omega arith

@@ -27,13 +27,12 @@ fn finish(out: usize, names: &[u8], times: &[u64], states: &[u8], kept: &[u8], o
 fn blank_by(
     rules: Rules,
     out: usize,
-    end: usize,
     names: &[u8],
     times: &[u64],
     states: &mut [u8],
     kept: &mut [u8],
 ) {
-    if keep_words(rules, out, end, names, kept) {
+    if keep_words(rules, out, names, kept) {
         let o = overwrite(names.len() / 32, times.len(), states, kept);
         finish(out, names, times, states, kept, o);
     }
@@ -43,7 +42,6 @@ fn blank_by(
 fn blank_front(
     rules: Rules,
     out: usize,
-    end: usize,
     names: &[u8],
     times: &[u64],
     states: &mut [u8],
@@ -51,25 +49,23 @@ fn blank_front(
 ) {
     let k = names.len() / 32;
     if k <= kept.len() {
-        blank_by(rules, out, end, names, times, states, &mut kept[0..k]);
+        blank_by(rules, out, names, times, states, &mut kept[0..k]);
     }
 }
 
 fn blank_lent(
     rules: Rules,
     out: usize,
-    end: usize,
     names: &[u8],
     times: &[u64],
     states: &mut [u8],
     kept: &mut [u8; 32],
 ) {
-    blank_front(rules, out, end, names, times, states, kept);
+    blank_front(rules, out, names, times, states, kept);
 }
 
-// Argument `out` names the file to write, and the words behind it, up to argument `end`, are patterns, `-f` FILE, and
-// `--keep` PIN...
-pub fn blank(rules: Rules, out: usize, end: usize, names: &[u8], times: &[u64], states: &mut [u8]) {
+// Argument `out` names the file to write, and the words behind it are patterns, `-f` FILE, and `--keep` PIN...
+pub fn blank(rules: Rules, out: usize, names: &[u8], times: &[u64], states: &mut [u8]) {
     let mut kept = [0u8; 32];
-    blank_lent(rules, out, end, names, times, states, &mut kept);
+    blank_lent(rules, out, names, times, states, &mut kept);
 }

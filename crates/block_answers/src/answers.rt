@@ -4,8 +4,8 @@ ghost use Rattle.alternatives.specs.InMemory.{alternatives_of_lem};
 ghost use Rattle.matcher.specs.Tables.{FillAsked, Filled};
 ghost use Rattle.blocks.specs.Rows.{Suited, Scratch};
 
+use crate::filling::fill_blocks;
 use alf::Rules;
-use block_filling::filling::fill_blocks;
 use blocks::rows::{prepare, suits};
 
 // All rows: by columns if 64 are enough, else row by row.

@@ -1,2 +1,3 @@
 // The answers and the numbers tried at all rows of a trace, by columns where they suit.
 pub mod answers;
+pub mod filling;

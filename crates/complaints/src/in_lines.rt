@@ -16,7 +16,7 @@ fn reason_in_line(number: u8) {
 }
 
 // The number and the place, and where that is: lines are counted from 1, and bytes of a line from 0.
-pub fn note_spot(number: usize, at: usize, r: Refusal) {
+fn note_spot(number: usize, at: usize, r: Refusal) {
     note(b" (");
     note_number(r.number as usize);
     note(b" at ");

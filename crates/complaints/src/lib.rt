@@ -1,9 +1,7 @@
 // What the program complains of, in plain words: refusals with their number and place, and words that it does not
 // know. It is proved to be safe and to end; no contract can say what is written. A refusal in one of many lines is in
-// `in_lines`, and one of a value change dump in `in_dumps`.
-pub mod in_dumps;
+// `in_lines`.
 pub mod in_lines;
-pub mod spots;
 
 use basics::Refusal;
 use console::output::{complain, note, note_number};
@@ -14,8 +12,7 @@ fn note_line(words: &[u8], k: usize) {
     note(part(words, k, b'\n'));
 }
 
-// What a number of document 01's table says, and a number of document 02 from 20 on; line 0 is for a number that is
-// none of them.
+// What a number of document 01's table says; line 0 is for a number that is none of them.
 fn reason(number: u8) {
     let words = b"refused
 text over 4,096 bytes
@@ -37,15 +34,8 @@ the count of rows is wrong
 bytes after the end
 lists that do not fit each other, or too few or too many names or rows
 no such row
-no block of a description goes on like this
-an output that is an input too, or stands twice in one clause, or is the 33rd
-more than 64 expressions, or lists of different length
-no value change dump goes on like this, or it has no pin or no row
-a variable that is a vector or a real number
-a code that no variable has, or that one has already
-no name of a pin, or over 32 bytes, or one that a pin has already
 ";
-    if number < 27 {
+    if number < 20 {
         note_line(words, number as usize);
     } else {
         note_line(words, 0);

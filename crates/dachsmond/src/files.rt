@@ -1,17 +1,11 @@
-// Trace files and value change dumps for C: reading and writing.
-ghost use Rattle.dump_reader.specs.Reading.{ReadsDump};
-ghost use Rattle.dump_writer.specs.Writing.{WritesDump};
+// Trace files for C: reading and writing.
 ghost use Rattle.trace_reader.specs.Reading.{Reads};
 ghost use Rattle.trace_writer.specs.Writing.{Writes};
 ghost use Rattle.telling.specs.Handing.{Hands, told, told_trace};
-ghost use Rattle.telling.specs.Dumps.{told_dump};
 
-use dump_reader::read::read_vcd;
-use dump_writer::write::write_vcd;
 use telling::outcomes::tell;
 use telling::rows::tell_trace;
-use telling::vcd::tell_dump;
-use telling::{Dump, Told, Trace};
+use telling::{Told, Trace};
 use trace_reader::read::read_trace;
 use trace_writer::write::write_trace;
 
@@ -43,36 +37,4 @@ pub extern "C" fn dachsmond_write_trace(
         out.new) told result }
 {
     tell(write_trace(names, times, states, n, out))
-}
-
-// Reads a value change dump into three lent lists. A path chooses a scope; an empty one chooses none.
-#[unsafe(no_mangle)]
-pub extern "C" fn dachsmond_read_vcd(
-    file: &[u8],
-    path: &[u8],
-    names: &mut [u8],
-    times: &mut [u64],
-    states: &mut [u8],
-) -> Dump
-    ensures { Hands (ReadsDump path.now file.now names.old
-        times.old states.old names.new times.new
-        states.new) told_dump result }
-{
-    tell_dump(read_vcd(file, path, names, times, states))
-}
-
-// Writes a trace as a value change dump into a lent buffer.
-#[unsafe(no_mangle)]
-pub extern "C" fn dachsmond_write_vcd(
-    names: &[u8],
-    times: &[u64],
-    states: &[u8],
-    n: usize,
-    out: &mut [u8],
-) -> Told
-    ensures { Hands (WritesDump names.now times.now states.now n
-        out.old
-        out.new) told result }
-{
-    tell(write_vcd(names, times, states, n, out))
 }

@@ -1,6 +1,5 @@
 // The library for C: the public calls under plain names, `include/dachsmond.h` declares them. A call hands on to the
 // crate that has it and tells what came of it in numbers (`telling`). Lent memory is a pointer and a length.
-pub mod cell;
 pub mod changing;
 pub mod files;
 pub mod listed;

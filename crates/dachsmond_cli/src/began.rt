@@ -1,8 +1,6 @@
-// A command by the words behind it. `list` may have the option `--began` there, and `scopes` reads no trace.
-use crate::on_trace;
-use program_words::asked::{Asked, behind, from_trace};
-use program_words::commands::{SCOPES, expects};
-use scopes_command::scopes;
+// A command on a trace, by the words behind it. `list` may have the option `--began` there.
+use crate::words::expects;
+use crate::{Asked, on_trace};
 use text_commands::{BEGAN, LIST};
 use text_parts::lines::line_of;
 
@@ -13,20 +11,26 @@ fn is_began(at: usize) -> bool {
     line_of(b"--began\n", &word[..n]) == 0
 }
 
+// The argument behind one of the first.
+fn behind(at: usize) -> usize {
+    if at < 8 { at + 1 } else { at }
+}
+
 // `list`, where the trace and the pattern stand behind the option.
 fn begin_began(a: Asked, more: usize) {
     if expects(LIST, b"list --began", more) {
-        on_trace(from_trace(a, behind(a.trace)), BEGAN);
+        let rules = a.rules;
+        let trace = behind(a.trace);
+        let first = behind(a.first);
+        on_trace(
+            Asked {
+                rules,
+                trace,
+                first,
+            },
+            BEGAN,
+        );
     }
-}
-
-// A command whose words are as many as it expects.
-fn go(a: Asked, c: usize) {
-    if c == SCOPES {
-        scopes(a.trace);
-        return;
-    }
-    on_trace(a, c);
 }
 
 // The command, and how many words stand behind it.
@@ -40,6 +44,6 @@ pub fn begin(a: Asked, c: usize, word: &[u8], more: usize) {
         }
     }
     if expects(c, word, more) {
-        go(a, c);
+        on_trace(a, c);
     }
 }

@@ -1,15 +1,15 @@
 // `blank`, on what the trace fills. It is not among the commands of `start`: with it the compiler gives `start` a frame
 // of its own, and the program takes 4.5 MB more of the stack.
+use crate::Asked;
 use crate::lists::{codes_in, front_states, front_times};
 use blank_command::blank;
-use program_words::asked::Asked;
 use text_parts::parts::front;
 
 fn on_lists(a: Asked, names: &[u8], times: &[u64], states: &mut [u8], k: usize, n: usize) {
     let l = front(names, codes_in(32, k));
     let t = front_times(times, n);
     let s = front_states(states, codes_in(n, k));
-    blank(a.rules, a.first, a.end, l, t, s);
+    blank(a.rules, a.first, l, t, s);
 }
 
 pub fn blank_lent(

@@ -1,37 +1,64 @@
-// Dachsmond, the program: counts patterns of pin events in a trace. Here a command meets its trace; `program_words` has
-// the words. What is printed of an answer is made by one call of the library.
+// Dachsmond, the program: counts patterns of pin events in a trace. Here are the commands, their arguments, files and
+// complaints; `words` has the words. What is printed of an answer is made by one call of the library.
 mod began;
 mod blanked;
-mod converted;
 mod lists;
+mod words;
 
 use crate::began::begin;
 use crate::blanked::blank_lent;
-use crate::converted::convert_lent;
 use crate::lists::{codes_in, front_states, front_times};
+use crate::words::{help, named, option, ruled};
+use alf::Rules;
 use complaints::{unfit, unknown};
 use console::output::say;
 use correct_command::correct;
-use loading::traces::Loaded;
+use loading::traces::{Loaded, load};
 use make_command::load_text;
-use program_words::asked::{Asked, what_is_asked};
-use program_words::commands::{
-    BLANK, CONVERT, CORRECT, MAKE, NONE, REWRITE, SCOPES, SHOW, TABLE, VERSION, named,
-};
-use program_words::help::help;
 use show_command::show;
+use states::rules::old_rules;
 use table_command::{first_look, table};
 use text_commands::answer;
 use text_parts::parts::front;
-use trace_loading::load;
 use trace_saving::write_to;
 
-// A command on a trace; `list`, `values` and `rewrite` answer a text. `blank` and `convert` have files of their own.
+// The commands by their number in `named`. `list` is 1 and `values` is 2, as `text_commands` has them.
+const TABLE: usize = 0;
+
+const BLANK: usize = 3;
+
+const REWRITE: usize = 4;
+
+const SHOW: usize = 5;
+
+const CORRECT: usize = 6;
+
+const MAKE: usize = 7;
+
+const VERSION: usize = 8;
+
+const NONE: usize = 12;
+
+// The options by their number in `option`.
+const EQUAL: usize = 0;
+
+const STEADY: usize = 1;
+
+// How a command is asked: the rules of reading and evaluation, the argument that names the trace, or the text for
+// `make`, and the first one behind it.
+#[derive(Drop)]
+struct Asked {
+    rules: Rules,
+    trace: usize,
+    first: usize,
+}
+
+// A command on a trace; `list`, `values` and `rewrite` answer a text. `blank` is in a file of its own.
 fn start(a: Asked, c: usize, names: &[u8], times: &[u64], states: &mut [u8]) {
     match c {
-        TABLE => table(a.rules, a.first, a.end, names, times.len(), states),
+        TABLE => table(a.rules, a.first, names, times.len(), states),
         SHOW => show(names, times, states),
-        CORRECT => correct(a.first, names, times, states),
+        CORRECT => correct(names, times, states),
         MAKE => write_to(a.first, names, times, states),
         _ => answer(a.rules, a.first, c, names, times, states),
     }
@@ -67,11 +94,10 @@ fn on_lent(
     }
 }
 
-// The trace that an argument names: a text for `make`, and else a trace file or a dump.
+// The trace that argument i names: a text for `make`, and else a trace file.
 fn take_trace(
     c: usize,
     i: usize,
-    scope: usize,
     names: &mut [u8; 1024],
     times: &mut [u64; 65535],
     states: &mut [u8; 2097120],
@@ -79,7 +105,7 @@ fn take_trace(
     if c == MAKE {
         return load_text(i, names, times, states);
     }
-    load(i, scope, names, times, states)
+    load(i, names, times, states)
 }
 
 // The trace is loaded once, whatever is asked of it.
@@ -87,88 +113,94 @@ fn on_trace(a: Asked, c: usize) {
     let mut names = [0u8; 1024];
     let mut times = [0u64; 65535];
     let mut states = [0u8; 2097120];
-    let l = take_trace(c, a.trace, a.scope, &mut names, &mut times, &mut states);
+    let l = take_trace(c, a.trace, &mut names, &mut times, &mut states);
     if c == BLANK {
         blank_lent(a, &names, &times, &mut states, l.names, l.rows);
-        return;
-    }
-    if c == CONVERT {
-        convert_lent(a, &names, &times, &mut states, l.names, l.rows);
         return;
     }
     on_lent(a, c, &names, &times, &mut states, l.names, l.rows);
 }
 
-// Options before a command that has no use for them are complained of: `--equal-branches` is for one that evaluates, or
-// for `blank`, `--steady-pins` for one that reads a text, and `--scope` for one that reads a trace.
-fn is_fit(a: Asked, c: usize) -> bool {
+// The command, and how many words stand behind it.
+fn run(word: &[u8], more: usize) {
+    let c = named(word);
+    if NONE <= c {
+        unknown(word);
+        return;
+    }
+    if c < VERSION {
+        let rules = old_rules();
+        let a = Asked {
+            rules,
+            trace: 2,
+            first: 3,
+        };
+        begin(a, c, word, more);
+        return;
+    }
+    if c == VERSION {
+        say(b"dachsmond 4.1\n");
+        return;
+    }
+    help();
+}
+
+// A command behind options: behind `--equal-branches` one that evaluates, or `blank`, behind `--steady-pins` one that
+// reads a text.
+fn run_ruled(a: Asked, word: &[u8], more: usize) {
+    let c = named(word);
     if a.rules.equal_branches {
         if BLANK < c {
             unfit(b"--equal-branches", b"table, list, values or blank\n", 0);
-            return false;
+            return;
         }
     }
-    if a.rules.steady_pins {
-        if REWRITE < c {
-            unfit(
-                b"--steady-pins",
-                b"table, list, values, blank or rewrite\n",
-                0,
-            );
-            return false;
-        }
-    }
-    if a.scope != 0 {
-        if CONVERT < c {
-            unfit(
-                b"--scope",
-                b"PATH and table, list, values, blank, rewrite, show, correct or convert\n",
-                0,
-            );
-            return false;
-        }
-    }
-    true
-}
-
-// A command, and how many words stand behind it.
-fn run(a: Asked, c: usize, word: &[u8], more: usize) {
-    if c == VERSION {
-        say(b"dachsmond 4.2\n");
-        return;
-    }
-    if SCOPES < c {
-        help();
+    if REWRITE < c {
+        unfit(
+            b"--steady-pins",
+            b"table, list, values, blank or rewrite\n",
+            0,
+        );
         return;
     }
     begin(a, c, word, more);
 }
 
-// The command is a word, of no length where it is missing.
-fn run_word(a: Asked, word: &[u8], more: usize) {
-    let c = named(word);
-    if !is_fit(a, c) {
+// The command behind two options, which is argument 3; where it is missing, a word of no length is none.
+fn behind_both(rules: Rules, count: usize) {
+    let a = Asked {
+        rules,
+        trace: 4,
+        first: 5,
+    };
+    let mut word = io::buffer();
+    let n = os::arg(3, &mut word);
+    if count < 4 {
+        run_ruled(a, b"", 0);
         return;
     }
-    if NONE <= c {
-        unknown(word);
-        return;
-    }
-    run(a, c, word, more);
+    run_ruled(a, &word[..n], count - 4);
 }
 
-fn run_asked(a: Asked) {
+// The command behind an option, which is argument 2, or another option.
+fn behind_option(rules: Rules, count: usize) {
+    let a = Asked {
+        rules,
+        trace: 3,
+        first: 4,
+    };
     let mut word = io::buffer();
-    let n = os::arg(a.command, &mut word);
-    if a.end <= a.command {
-        run_word(a, b"", 0);
+    let n = os::arg(2, &mut word);
+    if count < 3 {
+        run_ruled(a, b"", 0);
         return;
     }
-    if a.end <= a.trace {
-        run_word(a, &word[..n], 0);
+    let o = option(&word[..n]);
+    if o <= STEADY {
+        behind_both(ruled(rules, o), count);
         return;
     }
-    run_word(a, &word[..n], a.end - a.trace);
+    run_ruled(a, &word[..n], count - 3);
 }
 
 fn main() {
@@ -177,5 +209,12 @@ fn main() {
         first_look();
         return;
     }
-    run_asked(what_is_asked(count));
+    let mut word = io::buffer();
+    let n = os::arg(1, &mut word);
+    let o = option(&word[..n]);
+    if o <= STEADY {
+        behind_option(ruled(old_rules(), o), count);
+        return;
+    }
+    run(&word[..n], count - 2);
 }

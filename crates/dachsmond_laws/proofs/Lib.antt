@@ -4,5 +4,3 @@ pub mod ListTheorems
 pub mod Reliability
 pub mod ReliableCalls
 pub mod FirstQueue
-pub mod DumpNumbers
-pub mod DumpTheorems

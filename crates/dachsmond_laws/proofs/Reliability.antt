@@ -1,4 +1,4 @@
--- One law over what is handed on (specs/Reliable): where a contract's refusals have numbers of the call and leave
+-- One law over what is handed on (specs/Reliable): where a contract's refusals have numbers of the table and leave
 -- memory as it was, C may rely on the number. Then the same for each kind of result.
 --   reliable    whatever the kind
 --   of_outcome, of_expression, of_reading, of_changes, of_answer, of_match, of_counts, of_push
@@ -39,13 +39,13 @@ use Rattle.dachsmond_laws.specs.Reliable as kinds
 use Rattle.dachsmond_laws.specs.Reliable.{Kind, RefusalTold, Reliable, Nothing}
 
 -- a result is this refusal, or its number is 0
-abbrev pub Parts : {A B : Type 0} → Kind A B → A → Type 0
+abbrev Parts : {A B : Type 0} → Kind A B → A → Type 0
 Parts k a = ((f : Refusal) × (a ≡ k.refused f)) ⊎ (k.number (k.tell a) ≡ 0)
 
 module _ {A B : Type 0} (k : Kind A B) (allowed : A → Type 0) (kept : B → Type 0)
     (parts : (a : A) → allowed a → Parts k a)
     (named : (f : Refusal) → k.number (k.tell (k.refused f)) ≡ f.number)
-    (table : (f : Refusal) → allowed (k.refused f) → (1 ≤ f.number) × (f.number ≤ k.last))
+    (table : (f : Refusal) → allowed (k.refused f) → (1 ≤ f.number) × (f.number ≤ 19))
     (keeps : (f : Refusal) → allowed (k.refused f) → kept (k.tell (k.refused f))) where
   refusal_told : {r : B} (h : Hands allowed k.tell r) (f : Refusal) → h.result ≡ k.refused f
       → RefusalTold k allowed r
@@ -59,7 +59,7 @@ module _ {A B : Type 0} (k : Kind A B) (allowed : A → Type 0) (kept : B → Ty
         is_told = t;
         is_number = n;
         from_1 = omega (arith, n, (table f a).0);
-        to_last = omega (arith, n, (table f a).1);
+        to_19 = omega (arith, n, (table f a).1);
       }
 
   done_zero : {r : B} (h : Hands allowed k.tell r) → kinds.Done k h.result → k.number r ≡ 0
@@ -87,7 +87,7 @@ module _ {A B : Type 0} (k : Kind A B) (allowed : A → Type 0) (kept : B → Ty
       }
 
 -- A kind each.
-pub outcome_parts : (a : Outcome) → Parts kinds.outcomes a
+outcome_parts : (a : Outcome) → Parts kinds.outcomes a
 unfolding told
 outcome_parts (Done n) = inr refl
 outcome_parts (Refused f) = inl (f, refl)

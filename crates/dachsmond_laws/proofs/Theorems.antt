@@ -165,5 +165,5 @@ contradictions_unique {ρ} {names} {tree} {flags} x y = (
 )
 
 -- the version, which takes nothing
-pub version_unique : (r s : ℕ) → r ≡ 262656 → s ≡ 262656 → r ≡ s
+pub version_unique : (r s : ℕ) → r ≡ 262400 → s ≡ 262400 → r ≡ s
 version_unique r s x y = x ∙ sym y

@@ -1,13 +1,10 @@
 -- What C may rely on by the number that a function hands over, `number` 0 or another: 0 exactly where the call was
--- done; else the number of a refusal, from 1 to the last that the call has, and all lent memory is as it was. The last
--- is 19, document 01's table; 22 for all patterns of a cell, 26 for reading a value change dump (document 02).
---   Kind              how a kind of result (A) is handed to C (B): as it is told, its number, a refusal among them, and
---                     the last number of a refusal
+-- done; else document 01's number of a refusal, from 1 to 19, and all lent memory is as it was.
+--   Kind              how a kind of result (A) is handed to C (B): as it is told, its number, a refusal among them
 --   Done              a result that is no refusal
 --   RefusalTold       C is told of a refusal that the contract allows
 --   Reliable          what C may rely on, of a function
---   outcomes, expressions, readings, row_changes, row_answers, matches, counts, pushes, cell_outcomes, dumps
---                     the kinds of results
+--   outcomes, expressions, readings, row_changes, row_answers, matches, counts, pushes     the kinds of results
 --   Nothing           no memory is lent to write to
 --   EmptyQueue        what `dachsmond_empty_queue` hands over
 use Rattle.std.specs.Prelude.{ℕ, ◌≤◌, ◌≡◌, replicate}
@@ -27,8 +24,6 @@ use Rattle.matching_calls.specs.declared.matching.Matching.TheVariants as matchi
 use Rattle.matching_calls.specs.declared.matching.Counting.{Counting}
 use Rattle.matching_calls.specs.declared.matching.Counting.TheVariants as counting
 use Rattle.queue_calls.specs.declared.pushing.Pushing.{Pushing}
-use Rattle.dump_reader.specs.declared.Reading as dumping
-use Rattle.dump_reader.specs.declared.Reading.TheVariants as dump-reading
 use Rattle.telling.specs.declared.Told.{Told}
 use Rattle.telling.specs.declared.Expression.{Expression}
 use Rattle.telling.specs.declared.Trace.{Trace}
@@ -38,29 +33,26 @@ use Rattle.telling.specs.declared.Matched.{Matched}
 use Rattle.telling.specs.declared.Counted.{Counted}
 use Rattle.telling.specs.declared.Queue.{Queue}
 use Rattle.telling.specs.declared.Pushed.{Pushed}
-use Rattle.telling.specs.declared.Dump.{Dump}
 use Rattle.telling.specs.Handing.{Hands, told, told_expression, told_trace, told_changes, told_answer}
 use Rattle.telling.specs.Matching.{told_match, told_counts, queue_of_lem, told_push}
-use Rattle.telling.specs.Dumps.{told_dump}
 
 pub record Kind (A B : Type 0) : Type 0 where
   pub tell : A → B
   pub number : B → ℕ
   pub refused : Refusal → A
-  pub last : ℕ
 
 -- no refusal
 abbrev pub Done : {A B : Type 0} → Kind A B → A → Type 0
 Done k a = (f : Refusal) → a ≡ k.refused f → ⊥
 
--- C is told of a refusal that the contract allows, and its number is one of the call's
+-- C is told of a refusal that the contract allows, and its number is one of the table's
 pub record RefusalTold {A B : Type 0} (k : Kind A B) (allowed : A → Type 0) (r : B) : Type 0 where
   pub refusal : Refusal
   pub is_allowed : allowed (k.refused refusal)
   pub is_told : r ≡ k.tell (k.refused refusal)
   pub is_number : k.number r ≡ refusal.number
   pub from_1 : 1 ≤ k.number r
-  pub to_last : k.number r ≤ k.last
+  pub to_19 : k.number r ≤ 19
 
 -- a function whose contract is `Hands allowed k.tell r`; `kept r` says that all lent memory is as it was
 pub record Reliable {A B : Type 0} (k : Kind A B) (allowed : A → Type 0) (kept : B → Type 0) : Type 0 where
@@ -75,25 +67,25 @@ Nothing r = Unit {0}
 
 -- The kinds.
 abbrev pub outcomes : Kind Outcome Told
-outcomes = record { tell = told; number = λ r. r.number; refused = Refused; last = 19 }
+outcomes = record { tell = told; number = λ r. r.number; refused = Refused }
 
 abbrev pub expressions : Kind Read Expression
-expressions = record { tell = told_expression; number = λ r. r.number; refused = refused_by; last = 19 }
+expressions = record { tell = told_expression; number = λ r. r.number; refused = refused_by }
 
 abbrev pub readings : Kind Reading Trace
-readings = record { tell = told_trace; number = λ r. r.number; refused = reading.Refused; last = 19 }
+readings = record { tell = told_trace; number = λ r. r.number; refused = reading.Refused }
 
 abbrev pub row_changes : Kind RowChanges Changed
-row_changes = record { tell = told_changes; number = λ r. r.number; refused = changing.Refused; last = 19 }
+row_changes = record { tell = told_changes; number = λ r. r.number; refused = changing.Refused }
 
 abbrev pub row_answers : Kind written.Told Answered
-row_answers = record { tell = told_answer; number = λ r. r.number; refused = answering.Refused; last = 19 }
+row_answers = record { tell = told_answer; number = λ r. r.number; refused = answering.Refused }
 
 abbrev pub matches : Kind Matching Matched
-matches = record { tell = told_match; number = λ r. r.number; refused = matching.Refused; last = 19 }
+matches = record { tell = told_match; number = λ r. r.number; refused = matching.Refused }
 
 abbrev pub counts : Kind Counting Counted
-counts = record { tell = told_counts; number = λ r. r.number; refused = counting.Refused; last = 19 }
+counts = record { tell = told_counts; number = λ r. r.number; refused = counting.Refused }
 
 -- a push by a queue that C hands in
 abbrev pub pushes : Queue → Kind Pushing Pushed
@@ -102,16 +94,7 @@ pushes q =
       tell = told_push;
       number = λ r. r.number;
       refused = λ f. record { told = matching.Refused f; queue = queue_of_lem q };
-      last = 19;
     }
-
--- all patterns of a cell
-abbrev pub cell_outcomes : Kind Outcome Told
-cell_outcomes = record { tell = told; number = λ r. r.number; refused = Refused; last = 22 }
-
--- a value change dump that is read
-abbrev pub dumps : Kind dumping.Reading Dump
-dumps = record { tell = told_dump; number = λ r. r.number; refused = dump-reading.Refused; last = 26 }
 
 -- a queue that keeps nothing, all zeros
 abbrev pub EmptyQueue : Queue → Type 0

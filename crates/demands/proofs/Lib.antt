@@ -1,11 +1,9 @@
--- The three demands hold: demand_1, demand_1_jobs, demand_1_cells, demand_1_dumps, demand_2, demand_2_values,
--- demand_2_dumps, demand_3; numbers, cases_stand. Asked, Surviving and Flagging lead there.
+-- The three demands hold: demand_1, demand_1_jobs, demand_2, demand_2_values, demand_3; numbers, cases_stand. Asked,
+-- Surviving and Flagging lead there.
 pub mod Asked
 pub mod Surviving
 pub mod Demand1
 pub mod Jobs
-pub mod Cells
-pub mod Dumps
 pub mod Flagging
 pub mod Feeding
 pub mod Demand2

@@ -1,5 +1,4 @@
 -- What `count_text` comes to, case by case, and that it is one thing.
---   trace_refused    18 and 15 of the trace show no bytes
 --   text_refused     the text is refused
 --   tree_counted     the text is read, and its tree is counted or refused
 --   counted_rows     what is counted is counted on 1 to 65,535 rows
@@ -42,7 +41,7 @@ unfolding Decodes top_vector
 tree_is {ρ} f = ap (λ (s : Stack). meant ρ (top_vector s)) (vector_decodes f)
 
 -- 18 and 15 of the trace show no bytes of the text
-pub trace_refused : (k n : ℕ) (states text : List ℕ) {q : Refusal} → RefusedBy (trace_checks k n states) q
+trace_refused : (k n : ℕ) (states text : List ℕ) {q : Refusal} → RefusedBy (trace_checks k n states) q
     → RefusedIn text (trace_checks k n states) q
 unfolding all numbers_of among
 trace_refused k n states text h = in_silent text (trace_checks k n states) refl h

@@ -16,7 +16,7 @@ pub struct Line {
 }
 
 // The line of what is counted; its length. Refused with 9.
-pub fn write_counted(text: &[u8], n: usize, counted: Counting, out: &mut [u8]) -> Outcome
+fn write_counted(text: &[u8], n: usize, counted: Counting, out: &mut [u8]) -> Outcome
     requires { Tabled n counted }
     ensures { Delivers (line_of text.now n counted) out.old out.new result }
 {

@@ -101,12 +101,13 @@ fn next(i: usize) -> usize {
     i
 }
 
-// All words behind argument `out`, up to argument `end`; whether nothing was complained of.
-pub fn keep_words(rules: Rules, out: usize, end: usize, names: &[u8], kept: &mut [u8]) -> bool {
+// All words behind argument `out`; whether nothing was complained of.
+pub fn keep_words(rules: Rules, out: usize, names: &[u8], kept: &mut [u8]) -> bool {
+    let count = os::arg_count();
     let mut kind = PATTERN;
     let mut good = true;
     let mut i = next(out);
-    while i < end {
+    while i < count {
         let w = take(rules, names, Way { kind, good }, i, kept);
         kind = w.kind;
         good = w.good;

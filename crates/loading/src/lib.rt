@@ -1,4 +1,5 @@
-// What the program reads: files and arguments. It is proved to be safe and to end; no contract can say what is read.
+// What the program reads: files and arguments, and the trace that an argument names. It is proved to be safe and to
+// end; no contract can say what is read.
 pub mod files;
 pub mod patterns;
 pub mod traces;

@@ -1,9 +1,11 @@
 // The command `make`: the trace of a text that has the form of what `show` prints. The text is read by a call of the
 // library; here are the file, the longest text that is read, and complaints with the line. That a text which `show`
 // printed is read as the trace that it showed is a theorem (trace_text_laws/proofs/Inverse).
+mod spots;
+
+use crate::spots::spot_of;
 use basics::Refusal;
 use complaints::in_lines::refused_in_line;
-use complaints::spots::spot_of;
 use console::output::{complain, failed, note};
 use loading::files::{Filled, fill};
 use loading::traces::{Loaded, nothing};

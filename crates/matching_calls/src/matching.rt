@@ -1,17 +1,16 @@
 // Matching by the alternatives of a tree: a row's answer, the number tried and the time where the match began, those of
 // all rows, the totals.
 ghost use Rattle.basics.specs.Deciding.{Decides};
+ghost use Rattle.matching_calls.specs.Matching.{TreeRow, TreeRows, TreeLists, MatchesTree, FillsTree, TotalsTree};
 ghost use Rattle.matching_calls.specs.Matching.{Lent, RowMatch, AllMatched, RowTotals};
 
-use crate::all_rows::match_tree_all;
-use crate::one_row::match_tree;
-use crate::row_totals::total_tree;
 use alf::{RowNo, Rules, Sort};
 use basics::{Outcome, Refusal};
-use beginnings::times::Dated;
+use beginnings::times::{Dated, date, mark};
 use judging::checks::{Verdict, check_rows};
 use judging::timed::{check_timed, check_timed_row};
 use matcher::tables::Total;
+use rewriting::lists::alternatives_of;
 
 // A row's answer, the number of alternatives tried and the time where the match began, or a refusal.
 #[derive(Drop)]
@@ -25,6 +24,110 @@ pub enum Matching {
 pub enum Counting {
     Counted(Total),
     Refused(Refusal),
+}
+
+// An accepted tree, at a row that is there.
+fn match_tree(
+    rules: Rules,
+    names: usize,
+    tree: &[u8],
+    times: &[u64],
+    states: &[u8],
+    row: usize,
+) -> Dated
+    requires { TreeRow rules names tree.now times.now states.now row }
+    ensures { MatchesTree rules names tree.now times.now states.now row
+        result.answer result.tries result.began }
+{
+    let a = alternatives_of(rules, tree, names);
+    let count = a.count;
+    let step_count = a.step_count;
+    let test_count = a.test_count;
+    let steps = a.steps;
+    let tests = a.tests;
+    let edges = a.edges;
+    let operands = a.operands;
+    let found = matcher::answers::match_row(
+        rules,
+        tree,
+        names,
+        states,
+        &steps[..count],
+        &tests[..step_count],
+        &edges[..test_count],
+        &operands[..test_count],
+        row,
+    );
+    date(times, &steps[..count], row, found)
+}
+
+// At all n rows, into lists of n entries.
+fn match_tree_all(
+    rules: Rules,
+    names: usize,
+    n: usize,
+    tree: &[u8],
+    times: &[u64],
+    states: &[u8],
+    answers: &mut [u8],
+    tried: &mut [u32],
+    given: &mut [u8],
+    began: &mut [u64],
+)
+    requires { TreeLists rules names n tree.now times.now states.now answers.old tried.old given.old
+        began.old }
+    ensures { FillsTree rules names n tree.now times.now states.now
+        answers.new tried.new given.new began.new }
+{
+    let a = alternatives_of(rules, tree, names);
+    let count = a.count;
+    let step_count = a.step_count;
+    let test_count = a.test_count;
+    let steps = a.steps;
+    let tests = a.tests;
+    let edges = a.edges;
+    let operands = a.operands;
+    block_answers::answers::match_all(
+        rules,
+        tree,
+        names,
+        states,
+        &steps[..count],
+        &tests[..step_count],
+        &edges[..test_count],
+        &operands[..test_count],
+        n,
+        answers,
+        tried,
+    );
+    mark(times, &steps[..count], n, answers, tried, given, began);
+}
+
+// The totals of n rows.
+fn total_tree(rules: Rules, names: usize, n: usize, tree: &[u8], states: &[u8]) -> Total
+    requires { TreeRows rules names n tree.now states.now }
+    ensures { TotalsTree rules names n tree.now
+        states.now result.yes result.no result.unknown }
+{
+    let a = alternatives_of(rules, tree, names);
+    let count = a.count;
+    let step_count = a.step_count;
+    let test_count = a.test_count;
+    let steps = a.steps;
+    let tests = a.tests;
+    let edges = a.edges;
+    let operands = a.operands;
+    block_totals::totals::totals(
+        rules,
+        tree,
+        names,
+        states,
+        &steps[..count],
+        &tests[..step_count],
+        &edges[..test_count],
+        &operands[..test_count],
+        n,
+    )
 }
 
 // The answer of a vector expression at a row, the number of its alternatives tried, and the time where the match began.

@@ -2,7 +2,7 @@
 // printed behind a `?`.
 use alf::{Rules, Sort};
 use reader::{Read, read_expression};
-use run_clocks::is_behind;
+use run_calls::clocks::is_behind;
 use run_lists::lend;
 use run_printing::printing::{broken, character, refusal, write};
 use run_routes::{push_in, queue_in, row_in, rows_in, totals_in, zeros_in};

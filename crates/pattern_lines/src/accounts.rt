@@ -1,17 +1,12 @@
-// The lines of the table: the heading, the lines of patterns that are counted together, and the sums with them, the
-// totals.
-ghost use Rattle.std.specs.Prelude.{length};
-ghost use Rattle.told_lines.specs.Batches.{Gathered, AllTold, LineAsked};
-
+// The lines of the table: the heading, a pattern's line, made by a call of `jobs`, and the sums with it, the totals.
 use alf::Rules;
 use basics::Outcome;
 use complaints::{refused, refused_text};
 use console::output::{complain, note, say_front};
 use jobs::sums::{Adding, add};
+use jobs::table::table_line;
 use matching_calls::matching::Counting;
 use table_lines::lines::{Sums, write_heading, write_total};
-use told_lines::batches::{Batch, count_batch, line_of};
-use told_lines::gathering::Texts;
 
 // What was written is said, or it is said why not.
 fn deliver(out: &[u8], o: Outcome) {
@@ -44,86 +39,39 @@ fn account(text: &[u8], c: Counting, s: Sums) -> Sums {
     }
 }
 
-// The line of pattern i. One that is refused spoils neither the others nor the table: its line says so.
+// A pattern's line. One that is refused spoils neither the others nor the table: its line says so.
 fn say_line(
     rules: Rules,
     names: &[u8],
     n: usize,
     states: &[u8],
     text: &[u8],
-    t: Texts,
-    b: Batch,
-    i: usize,
     out: &mut [u8],
     s: Sums,
-) -> Sums
-    requires { LineAsked rules names.now n states.now text.now t b i }
-{
-    let l = line_of(rules, names, n, states, text, t, b, i, out);
+) -> Sums {
+    let l = table_line(rules, names, n, states, text, out);
     let counted = l.counted;
     let written = l.written;
     deliver(out, written);
-    let starts = t.starts;
-    let ends = t.ends;
-    let from = starts[i];
-    let to = ends[i];
-    account(&text[from..to], counted, s)
+    account(text, counted, s)
 }
 
-// The lines of all patterns, in their order.
-fn say_lines(
+fn lent(
     rules: Rules,
     names: &[u8],
     n: usize,
     states: &[u8],
     text: &[u8],
-    t: Texts,
-    b: Batch,
-    out: &mut [u8],
-    s: Sums,
-) -> Sums
-    requires { Gathered (length text.now) t × AllTold rules names.now n states.now text.now t b }
-{
-    let mut sums = s;
-    let mut i: usize = 0;
-    while i < t.count {
-        sums = say_line(rules, names, n, states, text, t, b, i, out, sums);
-        i += 1;
-    }
-    sums
-}
-
-fn say_lent(
-    rules: Rules,
-    names: &[u8],
-    n: usize,
-    states: &[u8],
-    text: &[u8],
-    t: Texts,
-    b: Batch,
     out: &mut [u8; 66048],
     s: Sums,
-) -> Sums
-    requires { Gathered (length text.now) t × AllTold rules names.now n states.now text.now t b }
-{
-    say_lines(rules, names, n, states, text, t, b, out, s)
+) -> Sums {
+    say_line(rules, names, n, states, text, out, s)
 }
 
-// Up to 64 patterns, each a part of a text, in one pass over the trace: their lines, and the sums with them.
-pub fn say_texts(
-    rules: Rules,
-    names: &[u8],
-    n: usize,
-    states: &[u8],
-    text: &[u8],
-    t: Texts,
-    s: Sums,
-) -> Sums
-    requires { Gathered (length text.now) t }
-{
-    let b = count_batch(rules, names, n, states, text, t);
+// One pattern: its line, and the sums with it.
+pub fn pattern(rules: Rules, names: &[u8], n: usize, states: &[u8], text: &[u8], s: Sums) -> Sums {
     let mut out = [0u8; 66048];
-    say_lent(rules, names, n, states, text, t, b, &mut out, s)
+    lent(rules, names, n, states, text, &mut out, s)
 }
 
 // The first line of the table.

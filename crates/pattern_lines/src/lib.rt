@@ -1,5 +1,5 @@
 // The lines of the table, printed: the heading, a line for each pattern, whose totals go to the sums, the totals; the
-// patterns of a text, one a line, up to 64 in one pass over the trace. It is proved to be safe and to end. What the
-// lines and the sums are, the contracts of `told_lines`, `jobs` and `table_lines` say.
+// patterns of a text, one a line. It is proved to be safe and to end; what the lines and the sums are, the contracts of
+// `jobs` and `table_lines` say.
 pub mod accounts;
 pub mod patterns;

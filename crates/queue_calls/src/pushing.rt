@@ -11,9 +11,8 @@ ghost use Rattle.judging.specs.Orders.{Judged};
 ghost use Rattle.timed_queue.specs.TimedQueues.{held_times};
 ghost use Rattle.queue_calls.specs.Pushing.{RowFits, Small, KeepsRows, Keeps, last_time, Early, late};
 ghost use Rattle.matching_calls.specs.declared.matching.Matching.TheVariants.{Found};
-ghost use Rattle.queue_calls.specs.Pushing.{DecidesQueue, JudgesPush, Push};
+ghost use Rattle.queue_calls.specs.Pushing.{DecidesQueue, JudgesPush, TreePush, PushesTree, Push};
 
-use crate::by_tree::push_tree;
 use acceptance::accepting::accepts;
 use acceptance::sizes::{Measured, measure};
 use alf::{Rules, Sort, Stamp};
@@ -21,6 +20,7 @@ use basics::refusing::refusal_of;
 use judging::checks::{Verdict, judge, next};
 use judging::timed::first_early;
 use matching_calls::matching::Matching;
+use rewriting::lists::alternatives_of;
 use states::codes::first_bad_code;
 use timed_queue::queues::{Pushed, Queue};
 
@@ -145,6 +145,41 @@ pub fn judge_push(fits: bool, good: bool, queue: Queue, time: Stamp, row: &[u8])
     ensures { JudgesPush fits good queue time.0 row.now result }
 {
     next(judge(fits, good, row), judge_time(queue, time))
+}
+
+// An accepted tree, a queue and a row that fit.
+fn push_tree(
+    rules: Rules,
+    names: usize,
+    tree: &[u8],
+    queue: Queue,
+    time: Stamp,
+    row: &[u8],
+) -> Pushed
+    requires { TreePush rules names tree.now queue row.now }
+    ensures { PushesTree rules names tree.now queue time.0 row.now result.told.answer
+        result.told.tries result.told.began result.queue }
+{
+    let a = alternatives_of(rules, tree, names);
+    let count = a.count;
+    let step_count = a.step_count;
+    let test_count = a.test_count;
+    let steps = a.steps;
+    let tests = a.tests;
+    let edges = a.edges;
+    let operands = a.operands;
+    timed_queue::queues::push(
+        rules,
+        tree,
+        names,
+        &steps[..count],
+        &tests[..step_count],
+        &edges[..test_count],
+        &operands[..test_count],
+        queue,
+        time,
+        row,
+    )
 }
 
 // What a push comes to, as it is told.

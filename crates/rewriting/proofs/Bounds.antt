@@ -1,7 +1,7 @@
 -- Limit 8, for the alternatives of an accepted tree with their operands as places: at most 64, of at most 16 steps and
 -- 64 tests each; so the lists have at most 64, 1,024 and 4,096 entries.
 -- Main names: accepted_limited, Bounded, few_steps, few_tests; ready_ends, ready_pins, ready_means, ready_bounded,
--- shape_exact, ready_number, ready_there, count_exact, ready_short.
+-- shape_exact, count_exact, ready_chosen, ready_shaping, ready_pinned, ready_short.
 use Prim.Native.Nat.{ℕ, zero, suc, ◌+◌, ◌*◌, ◌<◌, ◌≤◌, min}
 use native.Mathlib.Omega.{arith}
 use native.Mathlib.Nat.{suc-mul}
@@ -25,7 +25,7 @@ use Rattle.steady_pins.specs.Pinned.{by_places, Pins}
 use Rattle.steady_pins.proofs.PinnedAlternatives.{placed_number, placed_length}
 use Rattle.steady_pins.proofs.Found.{found_means, found_pins}
 use Rattle.acceptance.specs.Accepted.{sort_of_lem, over_size, Accepted, Limited}
-use Rattle.acceptance.specs.Sizes.{ShapedAt}
+use Rattle.acceptance.specs.Sizes.{Chosen, Shaping, ShapedAt, PinnedTree}
 use Rattle.acceptance.proofs.Acceptance.{accepted_vector, accepted_tree, accepted_decodes}
 use Rattle.rewriting.specs.Lists.{joined, alternatives_by, alternative_of, Ready}
 use Rattle.step_tests.proofs.Exchanging.{test_on}
@@ -164,18 +164,27 @@ module _ (pins tree : List ℕ) (names : ℕ) (a : Ready pins tree names) where
       let v = tests_joined (alternative_of pins tree names t) in
       (omega (arith, (g.given name).steps_is, k.short t), omega (arith, (g.given name).tests_is, k.light t))
 
-  pub ready_number : number_of_alternatives (vector_at tree names (length tree)) ≡ length (alternatives_by pins tree names)
+  number : number_of_alternatives (vector_at tree names (length tree)) ≡ length (alternatives_by pins tree names)
   unfolding number_of_alternatives
-  ready_number = sym (placed_number name pins (length tree) (vector_at tree names (length tree)))
-
-  -- an alternative that is there is one of the expression's
-  pub ready_there : {t : ℕ} → t < length (alternatives_by pins tree names)
-      → t < number_of_alternatives (vector_at tree names (length tree))
-  ready_there l = omega (arith, ready_number)
+  number = sym (placed_number name pins (length tree) (vector_at tree names (length tree)))
 
   pub count_exact : {n : ℕ} → n ≡ min 65 (number_of_alternatives (vector_at tree names (length tree)))
       → n ≡ length (alternatives_by pins tree names)
-  count_exact e = omega (arith, ready_number, ready_bounded.few)
+  count_exact e = omega (arith, number, ready_bounded.few)
+
+  pub ready_chosen : {t : ℕ} → t < length (alternatives_by pins tree names) → Chosen tree names (length tree) t
+  ready_chosen l =
+      record {
+        ends = ready_ends a;
+        there = omega (arith, number);
+        few = omega (arith, number, ready_bounded.few);
+      }
+
+  pub ready_shaping : {t : ℕ} → t < length (alternatives_by pins tree names) → Shaping pins tree names (length tree) t
+  ready_shaping l = record { chosen = ready_chosen l; small = a.accepted.tokens; long = (ready_pins a).long }
+
+  pub ready_pinned : PinnedTree pins tree names (length tree)
+  ready_pinned = record { ends = ready_ends a; small = a.accepted.tokens; long = (ready_pins a).long }
 
   -- a pin adds no step
   short_all : (xs : List Alternative) → ((t : ℕ) → length (get_or xs t []) ≤ 16) → greatest_of length xs ≤ 16

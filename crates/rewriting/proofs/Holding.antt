@@ -2,11 +2,10 @@
 -- that the whole value follows from the tree.
 --   step_entries, test_entries, edge_entries, operand_entries    how many entries each list has
 --   front_taken                     the front of a list that is laid over another
---   found_ready, listed_prepared, sized_prepared    a tree with the pins that are found; with its notes and rows
+--   found_ready                     a tree with the pins that are found
 --   arrays_fillable                 arrays have room for any tree that is accepted
 --   meant_number, meant_same        places instead of operands
 --   holds                           what is filled, as long as the counts say, holds the alternatives
---   listed_holds                    the same of arrays that were zeros
 --   holds_number                    how many alternatives there are
 --   steps_within, tests_within, edges_within, operands_within    what is in use stands in the arrays
 --   holds_unique                    two such values of a tree are equal
@@ -22,11 +21,8 @@ use Rattle.alf.specs.Steady.{meant}
 use Rattle.alf.specs.declared.Rules.{Rules}
 use Rattle.alf.specs.declared.Sort.TheVariants as sort
 use Rattle.acceptance.specs.Accepted.{Accepted}
-use Rattle.acceptance.specs.declared.sizes.Measured.{Measured}
-use Rattle.acceptance.specs.Rows as tables
 use Rattle.acceptance.proofs.Acceptance.{accepted_vector, accepted_tree}
 use Rattle.rewriting.specs.declared.lists.Alternatives.{Alternatives}
-use Rattle.rewriting.specs.declared.lists.Lengths.{Lengths}
 use Rattle.steady_pins.specs.Finding.{pins_of}
 use Rattle.steady_pins.proofs.Found.{found_means}
 use Rattle.steady_pins.proofs.PinnedAlternatives.{placed_number}
@@ -34,9 +30,8 @@ use Rattle.step_tests.proofs.Exchanging.{alternative_on, placed_same}
 use Rattle.trees.specs.Parts.{vector_at, boolean_at}
 use Rattle.step_tests.specs.OperandPlaces.{edge_of, end_of}
 use Rattle.rewriting.specs.Lists.{joined, alternatives_at, step_list, test_list, edge_list, operand_list}
-use Rattle.rewriting.specs.Lists.{Ready, Prepared, Long, Filled, Fillable, InUse, Holds, Listing, listed}
-use Rattle.rewriting.specs.Lists.{alternatives_by}
-use Rattle.rewriting.proofs.Bounds.{ready_pins, ready_bounded, ready_number, few_steps, few_tests}
+use Rattle.rewriting.specs.Lists.{Ready, Long, Filled, Fillable, InUse, Holds}
+use Rattle.rewriting.proofs.Bounds.{ready_pins, ready_bounded, few_steps, few_tests}
 use Rattle.rewriting.proofs.Meaning.{lists_stand, lists_shape}
 use Rattle.alternatives.specs.InMemory.{alternatives_of_lem}
 use Rattle.alternatives.proofs.Cuts.{cut-length}
@@ -90,21 +85,6 @@ pub found_ready : {ρ : Rules} {pins tree : List ℕ} {names : ℕ} → Accepted
     → pins ≡ pins_of ρ tree names (length tree) → Ready pins tree names
 found_ready {ρ} a e = record { rules = ρ; accepted = a; found = e }
 
-pub listed_prepared : {ρ : Rules} {pins notes rows tree : List ℕ} {names : ℕ} → Accepted ρ names sort.Vector tree
-    → tables.Listed ρ tree names pins notes rows → Prepared pins notes rows tree names
-listed_prepared a h = record { ready = found_ready a h.found; noted = h.noted; listed = h.rows_are }
-
-pub sized_prepared : {ρ : Rules} {pins notes rows tree : List ℕ} {names : ℕ} {m : Measured}
-    → Accepted ρ names sort.Vector tree → tables.SizedUp ρ tree names (length tree) pins notes rows m
-    → Prepared pins notes rows tree names
-sized_prepared {tree = tree} {names = names} a h =
-    let r = found_ready a h.found in
-    record {
-      ready = r;
-      noted = h.noted;
-      listed = h.rows_are (omega (arith, ready_number _ tree names r, (ready_bounded _ tree names r).few));
-    }
-
 module _ (ρ : Rules) (tree : List ℕ) (names : ℕ) (a : Accepted ρ names sort.Vector tree) (v : Alternatives)
     (l : Long (alternatives_at ρ tree names) v.count v.step_count v.test_count)
     (f : Filled (alternatives_at ρ tree names) (replicate 64 0) (replicate 1024 0) (replicate 4096 0) (replicate 4096 0)
@@ -155,16 +135,6 @@ module _ (ρ : Rules) (tree : List ℕ) (names : ℕ) (a : Accepted ρ names sor
         stands = rw (steps_front, tests_front, edges_front, operands_front)
             (lists_stand tree names h _ k ∙ ap alternatives (found_means ρ (accepted_tree tree names a)));
       }
-
-pub listed_holds : {ρ : Rules} {pins tree : List ℕ} {names : ℕ} {steps tests edges operands : List ℕ} {n : Lengths}
-    {steps' tests' edges' operands' : List ℕ} → Listing ρ tree names steps tests edges operands
-    → pins ≡ pins_of ρ tree names (length tree)
-    → Long (alternatives_by pins tree names) n.alternatives n.steps n.tests
-    → Filled (alternatives_by pins tree names) steps tests edges operands steps' tests' edges' operands'
-    → Holds ρ tree names (listed n steps' tests' edges' operands')
-listed_holds h e l f =
-    holds _ _ _ h.accepted _ (rw e at l)
-    (rw (e, h.no_steps, h.no_tests, h.no_edges, h.no_operands) at f)
 
 -- operands as places change neither how many alternatives there are nor anything but the operands
 module _ {ρ : Rules} {tree : List ℕ} {names : ℕ} (a : Accepted ρ names sort.Vector tree) where

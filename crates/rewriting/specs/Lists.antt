@@ -1,6 +1,6 @@
 -- The alternatives of a tree as four lists; alternatives/specs/InMemory says what the lists stand for.
 --   joined, alternatives_by, alternatives_at   lists one after the other; the alternatives of a tree, operands as places
---   Ready, Prepared    a tree that is accepted, with the pins that are found in it; with its notes and rows
+--   Ready          a tree that is accepted, with the pins that are found in it
 --   step_list       for each alternative its number of steps
 --   test_list       for each step, all alternatives' steps one after the other, its number of tests
 --   edge_list       for each test, all steps' tests one after the other, the number of its edge
@@ -8,22 +8,17 @@
 --   Long, Filled, Fillable         how long the lists are, the lists at the front of four others, their room
 --   alternative_of, Adding, Added   the steps of one alternative behind others
 --   InUse, Holds                   the lists of a tree by value
---   listed, Listing                the lists in four arrays with how long they are; a tree, and arrays of zeros
 use Rattle.std.specs.Prelude.{ℕ, ◌+◌, ◌<◌, ◌≤◌, ◌≡◌, List, [], ◌∷◌, ◌++◌, map, length, get_or, take, replicate}
 use Rattle.std.proofs.lemmas.List.Edits.{sets}
 use Rattle.alf.specs.Expressions.{name}
-use Rattle.alf.specs.Alternatives.{Alternative, alternatives, steps_of}
+use Rattle.alf.specs.Alternatives.{Alternative, alternatives}
 use Rattle.alf.specs.Steady.{meant}
 use Rattle.alf.specs.declared.Rules.{Rules}
 use Rattle.alf.specs.declared.Sort.TheVariants.{Vector}
 use Rattle.trees.specs.Parts.{vector_at}
 use Rattle.acceptance.specs.Accepted.{Accepted}
-use Rattle.acceptance.specs.Notes.{Noted}
-use Rattle.acceptance.specs.Sizes.{alternative_at, Chosen}
-use Rattle.acceptance.specs.Rows.{Rows}
 use Rattle.alternatives.specs.InMemory.{alternatives_of_lem, Shape}
 use Rattle.rewriting.specs.declared.lists.Alternatives.{Alternatives}
-use Rattle.rewriting.specs.declared.lists.Lengths.{Lengths}
 use Rattle.steady_pins.specs.Pinned.{by_places}
 use Rattle.steady_pins.specs.Finding.{pins_of}
 use Rattle.step_tests.specs.OperandPlaces.{numbers, ends}
@@ -49,12 +44,6 @@ pub record Ready (pins tree : List ℕ) (names : ℕ) : Type 0 where
   pub rules : Rules
   pub accepted : Accepted rules names Vector tree
   pub found : pins ≡ pins_of rules tree names (length tree)
-
--- with what is noted of it, and its alternatives in rows
-pub record Prepared (pins notes rows tree : List ℕ) (names : ℕ) : Type 0 where
-  pub ready : Ready pins tree names
-  pub noted : Noted pins notes tree names (length tree)
-  pub listed : Rows pins rows tree names (length tree)
 
 unfoldable pub step_list : List Alternative → List ℕ
 step_list xs = map length xs
@@ -90,28 +79,24 @@ pub record Fillable (pins tree : List ℕ) (names : ℕ) (steps tests edges oper
   pub edges_room : length (joined (joined (alternatives_by pins tree names))) ≤ length edges
   pub operands_room : length (joined (joined (alternatives_by pins tree names))) ≤ length operands
 
+-- the n steps of alternative t, behind others: what is asked, and what is written
 abbrev pub alternative_of : List ℕ → List ℕ → ℕ → ℕ → Alternative
 alternative_of pins tree names t = get_or (alternatives_by pins tree names) t []
 
--- the n steps of alternative t of a part, behind others: what is asked, and what is written
-pub record Adding (pins notes tree : List ℕ) (names end t n : ℕ) (tests : List ℕ) (s : ℕ) (edges operands : List ℕ)
+pub record Adding (pins tree : List ℕ) (names t n : ℕ) (tests : List ℕ) (s : ℕ) (edges operands : List ℕ)
     (from : ℕ)
     : Type 0 where
-  pub chosen : Chosen tree names end t
-  pub short : steps_of (vector_at tree names end) ≤ 64
-  pub few : length tree ≤ 256
-  pub long : length pins ≡ 8192
-  pub noted : Noted pins notes tree names end
-  pub steps : n ≡ length (alternative_at name pins tree names end t)
-  pub light : length (joined (alternative_at name pins tree names end t)) ≤ 64
+  pub ready : Ready pins tree names
+  pub there : t < length (alternatives_by pins tree names)
+  pub steps : n ≡ length (alternative_of pins tree names t)
   pub tests_room : s + n ≤ length tests
-  pub edges_room : from + length (joined (alternative_at name pins tree names end t)) ≤ length edges
-  pub operands_room : from + length (joined (alternative_at name pins tree names end t)) ≤ length operands
+  pub edges_room : from + length (joined (alternative_of pins tree names t)) ≤ length edges
+  pub operands_room : from + length (joined (alternative_of pins tree names t)) ≤ length operands
 
-pub record Added (x : Alternative) (tests : List ℕ) (s : ℕ) (edges operands : List ℕ) (from : ℕ)
+pub record Added (pins tree : List ℕ) (names t : ℕ) (tests : List ℕ) (s : ℕ) (edges operands : List ℕ) (from : ℕ)
     (tests' edges' operands' : List ℕ) (next : ℕ) : Type 0 where
-  pub counts : tests' ≡ sets tests s (map length x)
-  pub put : Put (joined x) from edges operands next edges' operands'
+  pub counts : tests' ≡ sets tests s (map length (alternative_of pins tree names t))
+  pub put : Put (joined (alternative_of pins tree names t)) from edges operands next edges' operands'
 
 -- the first n entries of a list are in use: they are there, and they are n
 pub record InUse (n : ℕ) (l : List ℕ) : Type 0 where
@@ -133,24 +118,3 @@ pub record Holds (ρ : Rules) (tree : List ℕ) (names : ℕ) (a : Alternatives)
   pub stands : alternatives_of_lem tree names (take a.count a.steps) (take a.step_count a.tests)
       (take a.test_count a.edges) (take a.test_count a.operands)
       ≡ alternatives (meant ρ (vector_at tree names (length tree)))
-
--- the lists in four arrays, with how long they are
-abbrev pub listed : Lengths → List ℕ → List ℕ → List ℕ → List ℕ → Alternatives
-listed n steps tests edges operands =
-    record {
-      count = n.alternatives;
-      step_count = n.steps;
-      test_count = n.tests;
-      steps = steps;
-      tests = tests;
-      edges = edges;
-      operands = operands;
-    }
-
--- what is asked: a tree that is accepted, and arrays of zeros
-pub record Listing (ρ : Rules) (tree : List ℕ) (names : ℕ) (steps tests edges operands : List ℕ) : Type 0 where
-  pub accepted : Accepted ρ names Vector tree
-  pub no_steps : steps ≡ replicate 64 0
-  pub no_tests : tests ≡ replicate 1024 0
-  pub no_edges : edges ≡ replicate 4096 0
-  pub no_operands : operands ≡ replicate 4096 0

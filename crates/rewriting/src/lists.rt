@@ -1,18 +1,14 @@
 // All alternatives of a tree, written into four lists: steps of each alternative, tests of each step, and for each test
 // its edge's number and its operand's end.
 ghost use Rattle.alf.specs.declared.Sort.TheVariants.{Vector};
-ghost use Rattle.alf.specs.Expressions.{name};
+ghost use Rattle.std.specs.Prelude.{length};
 ghost use Rattle.acceptance.specs.Accepted.{Accepted};
-ghost use Rattle.acceptance.specs.Sizes.{alternative_at};
-ghost use Rattle.rewriting.specs.Lists.{alternatives_by, Prepared, Adding, Added, Fillable, Filled, Long};
-ghost use Rattle.rewriting.specs.Lists.{Listing, Holds, listed};
+ghost use Rattle.acceptance.specs.Notes.{Noted};
+ghost use Rattle.rewriting.specs.Lists.{alternatives_by, Ready, Adding, Added, Fillable, Filled, Long, Holds};
 
-use acceptance::notes;
-use acceptance::notes::no_notes;
-use acceptance::rows::no_rows;
-use acceptance::sizes::size_up;
+use acceptance::{notes, sizes};
 use alf::Rules;
-use steady_pins::finding::no_pins;
+use steady_pins::finding::find;
 use step_tests::steps::put_step;
 
 // How many entries the lists have: alternatives, steps of all of them, tests of all those.
@@ -36,14 +32,9 @@ pub struct Alternatives {
 }
 
 // How long the lists are.
-pub fn lengths_of(
-    tree: &[u8],
-    pins: &[u8; 8192],
-    notes: &[u8; 768],
-    rows: &[u8; 256],
-    names: usize,
-) -> Lengths
-    requires { Prepared pins.now notes.now rows.now tree.now names }
+pub fn lengths_of(tree: &[u8], pins: &[u8; 8192], notes: &[u8; 768], names: usize) -> Lengths
+    requires { Ready pins.now tree.now names
+        × Noted pins.now notes.now tree.now names (length tree.now) }
     ensures { Long (alternatives_by pins.now tree.now names) result.alternatives result.steps
         result.tests }
 {
@@ -53,8 +44,9 @@ pub fn lengths_of(
     let mut tests: usize = 0;
     let mut t: usize = 0;
     while t < n {
-        steps += rows[128 + t] as usize;
-        tests += rows[192 + t] as usize;
+        let x = sizes::shape_of(tree, pins, notes, end, names, t);
+        steps += x.steps;
+        tests += x.tests;
         t += 1;
     }
     Lengths {
@@ -64,13 +56,12 @@ pub fn lengths_of(
     }
 }
 
-// The n steps of alternative t of the part that ends at `end`: how many tests each has, from place s on, and these
-// tests, from place `from` on; the place behind them.
+// The n steps of alternative t: how many tests each has, from place s on, and these tests, from place `from` on; the
+// place behind them.
 fn put_alternative(
     tree: &[u8],
     pins: &[u8; 8192],
     notes: &[u8; 768],
-    end: usize,
     names: usize,
     t: usize,
     n: usize,
@@ -80,12 +71,13 @@ fn put_alternative(
     operands: &mut [u16],
     from: usize,
 ) -> usize
-    requires { Adding pins.now notes.now tree.now names end t n tests.old s edges.old
-        operands.old from }
-    ensures { Added (alternative_at name pins.now tree.now names end t)
-        tests.old s edges.old operands.old from tests.new
-        edges.new operands.new result }
+    requires { Adding pins.now tree.now names t n tests.old s edges.old operands.old from
+        × Noted pins.now notes.now tree.now names (length tree.now) }
+    ensures { Added pins.now tree.now names t tests.old s
+        edges.old operands.old from tests.new edges.new
+        operands.new result }
 {
+    let end = tree.len();
     let mut at = from;
     let mut j: usize = 0;
     while j < n {
@@ -102,7 +94,6 @@ pub fn fill(
     tree: &[u8],
     pins: &[u8; 8192],
     notes: &[u8; 768],
-    rows: &[u8; 256],
     names: usize,
     steps: &mut [u8],
     tests: &mut [u8],
@@ -110,7 +101,7 @@ pub fn fill(
     operands: &mut [u16],
 )
     requires { Fillable pins.now tree.now names steps.old tests.old edges.old operands.old
-        × Prepared pins.now notes.now rows.now tree.now names }
+        × Noted pins.now notes.now tree.now names (length tree.now) }
     ensures { Filled (alternatives_by pins.now tree.now names) steps.old
         tests.old edges.old operands.old steps.new tests.new
         edges.new operands.new }
@@ -121,21 +112,11 @@ pub fn fill(
     let mut from: usize = 0;
     let mut t: usize = 0;
     while t < count {
-        let n = rows[128 + t] as usize;
-        steps[t] = rows[128 + t];
+        let x = sizes::shape_of(tree, pins, notes, end, names, t);
+        let n = x.steps;
+        steps[t] = n as u8;
         from = put_alternative(
-            tree,
-            pins,
-            notes,
-            rows[t] as usize + 1,
-            names,
-            rows[64 + t] as usize,
-            n,
-            tests,
-            s,
-            edges,
-            operands,
-            from,
+            tree, pins, notes, names, t, n, tests, s, edges, operands, from,
         );
         s += n;
         t += 1;
@@ -147,14 +128,14 @@ fn fill_arrays(
     tree: &[u8],
     pins: &[u8; 8192],
     notes: &[u8; 768],
-    rows: &[u8; 256],
     names: usize,
     steps: &mut [u8; 64],
     tests: &mut [u8; 1024],
     edges: &mut [u8; 4096],
     operands: &mut [u16; 4096],
 )
-    requires { Prepared pins.now notes.now rows.now tree.now names }
+    requires { Ready pins.now tree.now names
+        × Noted pins.now notes.now tree.now names (length tree.now) }
     ensures { Filled (alternatives_by pins.now tree.now names) steps.old
         tests.old edges.old operands.old steps.new tests.new
         edges.new operands.new }
@@ -163,7 +144,6 @@ fn fill_arrays(
         tree,
         pins,
         notes,
-        rows,
         names,
         &mut steps[..],
         &mut tests[..],
@@ -172,51 +152,22 @@ fn fill_arrays(
     );
 }
 
-// The alternatives of an accepted tree, as the rules read it, into arrays of zeros; how many of their entries are in
-// use.
-pub fn list_alternatives(
-    rules: Rules,
-    tree: &[u8],
-    names: usize,
-    steps: &mut [u8; 64],
-    tests: &mut [u8; 1024],
-    edges: &mut [u8; 4096],
-    operands: &mut [u16; 4096],
-) -> Lengths
-    requires { Listing rules tree.now names steps.old tests.old edges.old operands.old }
-    ensures { Holds rules tree.now names (listed result steps.new tests.new
-        edges.new operands.new) }
-{
-    let mut pins = no_pins();
-    let mut notes = no_notes();
-    let mut rows = no_rows();
-    size_up(
-        rules,
-        tree,
-        tree.len(),
-        names,
-        &mut pins,
-        &mut notes,
-        &mut rows,
-    );
-    fill_arrays(
-        tree, &pins, &notes, &rows, names, steps, tests, edges, operands,
-    );
-    lengths_of(tree, &pins, &notes, &rows, names)
-}
-
-// The same, by value.
+// The alternatives of an accepted tree, as the rules read it.
 pub fn alternatives_of(rules: Rules, tree: &[u8], names: usize) -> Alternatives
     requires { Accepted rules names Vector tree.now }
     ensures { Holds rules tree.now names result }
 {
+    let pins = find(rules, tree, tree.len(), names);
+    let notes = notes::note(tree, &pins, tree.len(), names);
+    let lengths = lengths_of(tree, &pins, &notes, names);
     let mut steps = [0u8; 64];
     let mut tests = [0u8; 1024];
     let mut edges = [0u8; 4096];
     let mut operands = [0u16; 4096];
-    let lengths = list_alternatives(
-        rules,
+    fill_arrays(
         tree,
+        &pins,
+        &notes,
         names,
         &mut steps,
         &mut tests,

@@ -2,17 +2,17 @@
 ghost use Rattle.std.specs.Prelude.{◌≡◌, length};
 ghost use Rattle.alf.specs.Refusals.{NameCount};
 ghost use Rattle.basics.specs.Deciding.{Decides};
-ghost use Rattle.rewriting.specs.Lists.{alternatives_by, Prepared};
+ghost use Rattle.acceptance.specs.Notes.{Noted};
+ghost use Rattle.rewriting.specs.Lists.{alternatives_by, Ready};
 ghost use Rattle.rewriting_calls.specs.Calls.{Delivers, Rewrites};
 
-use acceptance::accepting::accepts_listing;
-use acceptance::notes::no_notes;
-use acceptance::rows::no_rows;
-use alf::Rules;
+use acceptance::accepting::accepts;
+use acceptance::notes::note;
+use alf::{Rules, Sort};
 use basics::Outcome;
 use basics::refusing::refuse;
 use rewriting::lists::{fill, lengths_of};
-use steady_pins::finding::no_pins;
+use steady_pins::finding::find;
 
 // Whether there are 1 to 32 names.
 pub fn names_fit(names: usize) -> bool
@@ -30,18 +30,18 @@ fn deliver(
     tree: &[u8],
     pins: &[u8; 8192],
     notes: &[u8; 768],
-    rows: &[u8; 256],
     steps: &mut [u8],
     tests: &mut [u8],
     edges: &mut [u8],
     operands: &mut [u16],
 ) -> Outcome
-    requires { Prepared pins.now notes.now rows.now tree.now names }
+    requires { Ready pins.now tree.now names
+        × Noted pins.now notes.now tree.now names (length tree.now) }
     ensures { Delivers (alternatives_by pins.now tree.now names) steps.old
         tests.old edges.old operands.old steps.new tests.new
         edges.new operands.new result }
 {
-    let l = lengths_of(tree, pins, notes, rows, names);
+    let l = lengths_of(tree, pins, notes, names);
     if steps.len() < l.alternatives {
         return refuse(9, l.alternatives);
     }
@@ -54,9 +54,7 @@ fn deliver(
     if operands.len() < l.tests {
         return refuse(9, l.tests);
     }
-    fill(
-        tree, pins, notes, rows, names, steps, tests, edges, operands,
-    );
+    fill(tree, pins, notes, names, steps, tests, edges, operands);
     Outcome::Done(l.alternatives)
 }
 
@@ -78,13 +76,10 @@ pub fn rewrite(
     if !names_fit(names) {
         return refuse(18, 0);
     }
-    let mut pins = no_pins();
-    let mut notes = no_notes();
-    let mut rows = no_rows();
-    if !accepts_listing(rules, tree, names, &mut pins, &mut notes, &mut rows) {
+    if !accepts(rules, tree, names, Sort::Vector) {
         return refuse(10, 0);
     }
-    deliver(
-        names, tree, &pins, &notes, &rows, steps, tests, edges, operands,
-    )
+    let pins = find(rules, tree, tree.len(), names);
+    let notes = note(tree, &pins, tree.len(), names);
+    deliver(names, tree, &pins, &notes, steps, tests, edges, operands)
 }

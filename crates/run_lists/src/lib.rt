@@ -1,12 +1,14 @@
-// The calls that write lists, as a line of `matching_runs` asks for them. The lists that are lent are copies of a
-// line's. All are proved to be safe and to end.
+// The calls that write lists, as a line of `matching_runs` asks for them, and what they come to. The lists that are
+// lent are copies of a line's. All are proved to be safe and to end.
 ghost use Rattle.std.specs.Prelude.{◌≤◌};
 
 use alf::{RowNo, Rules};
 use basics::Outcome;
 use matching_calls::matching::match_all;
-use run_clocks::{count_of, is_behind, times_of};
-use run_shown::{show_began, show_lists, show_outcomes, show_tried};
+use run_calls::clocks::{count_of, is_behind, times_of};
+use run_printing::printing::{character, number, outcome, write};
+use run_printing::states::{list, list_tried};
+use run_routes::totals_in;
 use run_words::lists::{copy_of, least, narrow};
 use run_words::words::{list_in, number_in};
 use update_calls::correcting::correct;
@@ -60,6 +62,48 @@ fn correct_in(
     )
 }
 
+// The row that is corrected, and what the correction comes to.
+fn show_correction(line: &[u8], c: Outcome) {
+    write(b", row ");
+    number(number_in(line, 4));
+    list(b" becomes", list_in(line, 5), 64, true);
+    character(b'\n');
+    outcome(c);
+}
+
+// All answers and the correction, with the totals in between.
+fn show_both(rules: Rules, line: &[u8], tree: &[u8], m: Outcome, c: Outcome) {
+    outcome(m);
+    character(b',');
+    totals_in(rules, line, tree);
+    character(b',');
+    outcome(c);
+}
+
+// All answers, of a case by their numbers; the correction; the states afterwards.
+fn show_outcomes(rules: Rules, kind: u8, line: &[u8], tree: &[u8], m: Outcome, c: Outcome) {
+    match kind {
+        b'v' => write(b" all"),
+        b'c' => show_correction(line, c),
+        _ => show_both(rules, line, tree, m, c),
+    }
+}
+
+// The states, and behind a word the answers.
+fn show_two(word: &[u8], states: &[u8; 64], s: usize, answers: &[u8; 64], a: usize) {
+    list(b"\n states", states, s, true);
+    list(word, answers, a, false);
+}
+
+// The lists afterwards.
+fn show_lists(kind: u8, states: &[u8; 64], s: usize, answers: &[u8; 64], a: usize) {
+    match kind {
+        b'v' => list(b"", answers, a, false),
+        b'c' => show_two(b"\n answers", states, s, answers, a),
+        _ => show_two(b" answers", states, s, answers, a),
+    }
+}
+
 // A list as a call left it.
 fn same(list: [u8; 64]) -> [u8; 64] {
     list
@@ -108,4 +152,36 @@ pub fn lend(rules: Rules, kind: u8, line: &[u8], tree: &[u8]) {
     lend_behind(rules, kind, line, tree, m, answers, a);
     show_tried(kind, &tried, t);
     show_began(kind, &given, a, &began, t);
+}
+
+// The numbers tried.
+fn show_tried(kind: u8, tried: &[u32; 64], t: usize) {
+    if kind != b'c' {
+        list_tried(tried, t);
+    }
+    character(b'\n');
+}
+
+// The first times where matches began.
+fn list_began(entries: &[u64], count: usize) {
+    write(b" began");
+    let mut i: usize = 0;
+    while i < entries.len() {
+        if i >= count {
+            return;
+        }
+        character(b' ');
+        number(entries[i] as usize);
+        i += 1;
+    }
+}
+
+// Whether a time is given, and the times.
+fn show_began(kind: u8, given: &[u8; 64], a: usize, began: &[u64; 64], t: usize) {
+    if kind == b'c' {
+        return;
+    }
+    list(b" given", given, a, false);
+    list_began(began, t);
+    character(b'\n');
 }

@@ -1,13 +1,13 @@
 // The calls that write no list, as a line of `matching_runs` asks for them: at a row, at all rows one by one, by the
 // queue, the totals, a push. Words 1 to 5 of a line are the names, the rows, the states, the row and the new row; the
-// times of the rows are those of `run_clocks`. All are proved to be safe and to end.
+// times of the rows are those of `run_calls`. All are proved to be safe and to end.
 use alf::{RowNo, Rules};
 use matching_calls::matching::totals;
 use run_calls::answers::counting;
+use run_calls::clocks::{count_of, is_behind, times_of};
+use run_calls::queues::{by_push, by_queue};
 use run_calls::rows::{at_row, at_rows, totals_first};
-use run_clocks::{count_of, is_behind, times_of};
 use run_printing::printing::character;
-use run_queues::{by_push, by_queue};
 use run_words::lists::narrow;
 use run_words::words::{list_in, number_in};
 

@@ -1,8 +1,7 @@
 -- The same as Attached, for the library for C: what a function of include/dachsmond.h ensures is that it hands on
 -- (`Hands`) a result that the call's contract allows, of its arguments at entry (a), its result (r) and its
 -- arguments at exit (e); and it requires nothing. So what is shut out of a call is shut out of its function for C.
--- Here: texts, files, rows, matching, a correction, a push. The others stand in AttachedListsForC and
--- AttachedDumpsForC.
+-- Here: texts, files, rows, matching, a correction, a push. The others stand in AttachedListsForC.
 use Prim.Native.Nat.{ℕ, ◌/◌}
 use mathlib.Core.Path.{◌≡◌}
 use lib.ListN.{length, replicate}
@@ -182,7 +181,7 @@ pub correct : (κs : Lfts 4) (a : Dens κs correct-kinds.ps) → correct-says.Pr
 correct κs a = (tt, λ r e p. p)
 
 pub version : (κs : Lfts 0) (a : Dens κs version-kinds.ps) → version-says.Pre κs a
-    × ((r : ℕ) (e : Dens κs version-kinds.ps) → version-says.Post κs a r e → r ≡ 262656)
+    × ((r : ℕ) (e : Dens κs version-kinds.ps) → version-says.Post κs a r e → r ≡ 262400)
 version κs a = (tt, λ r e p. p)
 
 pub old_rules_rule : (κs : Lfts 0) (a : Dens κs old-rules-kinds.ps) → old-rules-says.Pre κs a

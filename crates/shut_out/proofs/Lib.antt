@@ -52,13 +52,6 @@
 --     `activity`, `activity_on_T`, `no_other_activity`, `activity_attached` (Activity)
 -- a part of it refused on T or in a block of the program, or with another text
 --     `activity_part`, `part_on_T`, `blocks_shown`, `no_other_part`, `part_attached` (Activity)
--- all patterns of a cell refused without a reason, or accepted with one; a text among several that is told otherwise
--- than `count_text` tells it (document 02, [5])
---     `tallies`, `tally_records`, `text_not_refused`, `text_other`, `tallies_attached`, `tally_records_attached`,
---     `count_texts_attached` (RefusingCells)
--- a dump refused without a fault, or read with one; T as a dump refused (document 02, [8])
---     `write_vcd`, `dump_not_refused`, `dump_not_accepted`, `dump_other`, `dumped_on_T`, `read_vcd_attached`,
---     `write_vcd_attached` (RefusingDumps)
 -- a line of the table for a pattern that is counted otherwise, or for a good one that is said to be refused
 --     `counted_in_line`, `table_line` (RefusingJobs)
 -- a queue right at its first event only; one that keeps nothing
@@ -88,8 +81,6 @@ pub mod RefusingTreeTexts
 pub mod RefusingJobs
 pub mod RefusingBegan
 pub mod RefusingAlternatives
-pub mod RefusingCells
-pub mod RefusingDumps
 pub mod OnT
 pub mod EveryText
 pub mod EveryCall
@@ -110,7 +101,6 @@ pub mod AttachedLists
 pub mod AttachedJobs
 pub mod AttachedForC
 pub mod AttachedListsForC
-pub mod AttachedDumpsForC
 pub mod Activity
 pub mod LongTimes
 pub mod MadeTraces

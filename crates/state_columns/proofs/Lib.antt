@@ -1,6 +1,5 @@
 -- The laws that columns of states are proved by.
 pub mod Overs
 pub mod Stating
-pub mod Comparisons
 pub mod SpeltParts
 pub mod SpeltOperands

@@ -1,11 +1,13 @@
 // States one after the other in a list, made in place from those of a trace or of operands in the same list.
 ghost use Rattle.std.specs.Prelude.{◌+◌, ◌<◌, ◌≤◌, length};
+ghost use Rattle.alf.specs.Values.{chosen};
+ghost use Rattle.evaluator.specs.Rows.{IsState, settled_by};
 ghost use Rattle.state_columns.specs.Entries.{Stated, States, NameRows, Two, Three};
 ghost use Rattle.state_columns.specs.Entries.{name_rows, negated, operator_at, looked, operated, chosen_from};
 
-use crate::reducing::{chosen_of, not_of};
 use alf::Rules;
 use evaluator::operators;
+use states::states::not_of;
 
 // Those of name b at the n rows from `lo` on, to the entries from o on.
 pub fn copy_name(
@@ -92,6 +94,16 @@ pub fn operate(b: u8, parts: &mut [u8], o: usize, p: usize, n: usize)
     let mut table: [u8; 64] = [0; 64];
     put_operator(b, &mut table);
     look(&table, parts, o, p, n);
+}
+
+// The state of a choice by the state c, whose branches end with bytes a and b and have the states x and y.
+fn chosen_of(rules: Rules, a: u8, b: u8, c: u8, x: u8, y: u8) -> u8
+    requires { (c < 8) × (x < 8) × (y < 8) }
+    ensures { IsState (chosen rules c (settled_by a x) (settled_by b y)) result }
+{
+    let v = operators::settle(a, x);
+    let w = operators::settle(b, y);
+    operators::choose(rules, c, v, w)
 }
 
 // The choices by n states from o on, of those from p on and from q on, in the place of the first.

@@ -1,4 +1,3 @@
 // The states of a boolean expression at rows one after the other: columns of states.
 pub mod combining;
-pub mod reducing;
 pub mod spelling;

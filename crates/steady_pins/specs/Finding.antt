@@ -6,7 +6,7 @@
 --   front, back               the row of steps that an expression's operands begin with, and end with
 --   pin_entry, pin_row, step_marked    the pins of a step, between what is before it and what is after it
 --   marked, pins_of            the pins of an expression, over others; those of a tree
---   Tree, StepAt, Unmarked    what is asked
+--   Tree, StepAt              what is asked
 use Rattle.std.specs.Prelude.{ℕ, ◌-◌, ◌*◌, ◌≤◌, ◌≡◌, true, false, ◌&&◌, List, eqb, length, get_or, set, replicate}
 use Rattle.std.proofs.lemmas.List.Edits.{sets}
 use Rattle.basics.specs.Words.{if◌then◌else◌, listed}
@@ -83,7 +83,7 @@ unfoldable pub pins_of : Rules → List ℕ → ℕ → ℕ → List ℕ
 pins_of ρ tree names end =
     if ρ.steady_pins then marked end (vector_at tree names end) alone alone (replicate 8192 0) else replicate 8192 0
 
--- what is asked: a vector expression of at most 256 bytes; that it is a step; a table without pins
+-- what is asked: a vector expression of at most 256 bytes; that it is a step
 pub record Tree (tree : List ℕ) (names end : ℕ) : Type 0 where
   pub ends : EndsVector tree names end
   pub few : end ≤ 256
@@ -91,7 +91,3 @@ pub record Tree (tree : List ℕ) (names end : ℕ) : Type 0 where
 pub record StepAt (tree : List ℕ) (names end : ℕ) : Type 0 where
   pub is : Tree tree names end
   pub step : is_step_lem (vector_at tree names end) ≡ true
-
-pub record Unmarked (tree : List ℕ) (names end : ℕ) (pins : List ℕ) : Type 0 where
-  pub is : Tree tree names end
-  pub none : pins ≡ replicate 8192 0

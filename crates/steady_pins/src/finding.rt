@@ -4,7 +4,7 @@
 ghost use Rattle.std.specs.Prelude.{◌≡◌, ◌<◌, get_or, replicate};
 ghost use Rattle.basics.specs.Words.{listed};
 ghost use Rattle.trees.specs.Parts.{vector_at};
-ghost use Rattle.steady_pins.specs.Finding.{Tree, StepAt, Unmarked, alone, stepped, pins_of};
+ghost use Rattle.steady_pins.specs.Finding.{Tree, StepAt, alone, stepped, pins_of};
 ghost use Rattle.steady_pins.specs.Walking.{begun, over, passed, own_row, Walk, StepWalk, Walked, Apart};
 
 use crate::settling::{put_row, settle};
@@ -90,7 +90,7 @@ fn pass(mine: Beside, before: Beside) -> Beside
 }
 
 // No pins.
-pub fn no_pins() -> [u8; 8192]
+fn blank() -> [u8; 8192]
     ensures { result ≡ replicate 8192 0 }
 {
     [0u8; 8192]
@@ -213,23 +213,15 @@ fn mark_apart(tree: &[u8], end: usize, names: usize, rows: &mut [u8; 256], pins:
     mark_apart(tree, at, names, rows, pins);
 }
 
-// The steady pins of the vector expression that ends at `end`, into a table of none; none where the rules have none.
-pub fn find_in(rules: Rules, tree: &[u8], end: usize, names: usize, pins: &mut [u8; 8192])
-    requires { Unmarked tree.now names end pins.old }
-    ensures { pins.new ≡ pins_of rules tree.now names end }
-{
-    if rules.steady_pins {
-        let mut rows = no_rows();
-        mark_apart(tree, end, names, &mut rows, pins);
-    }
-}
-
-// The same, by value.
+// The steady pins of the vector expression that ends at `end`; none where the rules have none.
 pub fn find(rules: Rules, tree: &[u8], end: usize, names: usize) -> [u8; 8192]
     requires { Tree tree.now names end }
     ensures { result ≡ pins_of rules tree.now names end }
 {
-    let mut pins = no_pins();
-    find_in(rules, tree, end, names, &mut pins);
+    let mut pins = blank();
+    if rules.steady_pins {
+        let mut rows = no_rows();
+        mark_apart(tree, end, names, &mut rows, &mut pins);
+    }
     pins
 }

@@ -3,18 +3,21 @@
 -- Main names: left_asked, left_stepping, right_stepping, last_pins, join_put; only_stepping, only_pins, only_put.
 use Prim.Native.Nat.{ℕ, ◌+◌, ◌-◌, ◌≤◌}
 use native.Mathlib.Omega.{arith}
-use mathlib.Core.Path.{◌≡◌, ap, sym, ◌∙◌}
+use mathlib.Core.Path.{◌≡◌, ap, ◌∙◌}
+use mathlib.Core.Bool.{true}
 use mathlib.Core.Logic.{◌⊎◌, inl, inr}
 use mathlib.Core.List.{List, ◌++◌, append_assoc}
 use lib.ListN.{length, get_or, length-append}
+use Rattle.basics.proofs.Bools.{never}
 use Rattle.alf.specs.Expressions.{name, Vector, join, Join}
 use Rattle.alf.specs.Decoder.{join_at}
-use Rattle.alf.specs.Alternatives.{Step, number_of_alternatives, steps_of}
+use Rattle.alf.specs.Alternatives.{Step, Alternative, number_of_alternatives, steps_of}
 use Rattle.alf.proofs.Growth.{join_left, join_right}
 use Rattle.trees.specs.Parts.{vector_at, Start}
 use Rattle.trees.proofs.Vectors.{Joined}
 use Rattle.alternatives.specs.declared.picking.How.{How}
-use Rattle.alternatives.specs.Picks.{Picked}
+use Rattle.alternatives.specs.declared.picking.How.TheVariants.{Left, Right, LeftFirst, RightFirst, Together}
+use Rattle.alternatives.specs.Picks.{put, Picked}
 use Rattle.steady_pins.specs.Pinned.{pin_tests}
 use Rattle.acceptance.specs.Notes.{Noted}
 use Rattle.acceptance.specs.Sizes.{alternative_at, Chosen, ShapedAt}
@@ -22,12 +25,20 @@ use Rattle.acceptance.proofs.Numbers.{Number}
 use Rattle.acceptance.proofs.Chosen.{left_chosen, right_chosen}
 use Rattle.acceptance.proofs.NotedParts.{noted_part}
 use Rattle.acceptance.proofs.Shapes.{Only, part_by}
-use Rattle.step_tests.specs.Steps.{step_at, Placing, Stepping, LeftAsked, Put, Split, PinsFit, entries_at}
+use Rattle.step_tests.specs.Steps.{step_at, Placing, Stepping, LeftAsked, in_turn, Put, Split, PinsFit, entries_at}
 use Rattle.step_tests.proofs.Placing.{join_step, join_length, only_step, only_length}
 use Rattle.step_tests.proofs.Puts.{put_then, put_lengths}
 use Rattle.step_tests.proofs.PinPuts.{entries_few}
 use Rattle.step_tests.proofs.StepCases.{placing_shaping}
 use Rattle.step_tests.proofs.StepTests.{exact, pins_last, part as part-of}
+
+turn_length : (how : How) (x y : Alternative) → in_turn how ≡ true → length (put how x y) ≡ length x + length y
+unfolding put in_turn
+turn_length Left x y e = never e
+turn_length Right x y e = never e
+turn_length LeftFirst x y e = length-append x y
+turn_length RightFirst x y e = let l = length-append y x in omega arith
+turn_length Together x y e = never e
 
 -- a part's longest alternative is no longer than the whole's
 short_left : (j : Join) (p q : Vector) → steps_of (join j p q) ≤ 64 → steps_of p ≤ 64
@@ -63,12 +74,15 @@ module _ {pins t : List ℕ} {names end a j : ℕ} {edges operands : List ℕ} {
       record {
         shaping = part_by (placing_shaping h) n (omega (arith, s.before)) left;
         short = left_short;
-        beside = alternative_at name pins t names (end - 1) k;
-        beside_is = exact right_short o;
-        whole =
-            let l = join_length pins t names end a j h.chosen.ends g s p (omega (arith, left.few))
-            (omega (arith, right.few)) in
-            sym l ∙ z;
+        both = λ q.
+            let c = exact right_short o in
+            let l = join_length pins t names end a j h.chosen.ends g s p (omega (arith, left.few)) (omega (
+              arith,
+              right.few,
+            )) in
+            let b = turn_length how (alternative_at name pins t names m i) (alternative_at name pins t names (end - 1) k)
+            q in
+            omega (arith, c, l, b, z);
       }
 
   module _ {u v w l r : ℕ} (f : length (alternative_at name pins t names m i) ≡ u)

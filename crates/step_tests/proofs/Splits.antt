@@ -1,19 +1,17 @@
 -- The steps of an alternative that is put together of two.
 -- Main names: behind_empty, behind_own; split_left, split_right, split_left_first, split_right_first, split_together;
--- told_none, told_left, told_left_first, told_right_first, told_longer, told_one; get_d_conditioned.
+-- get_d_conditioned.
 use Prim.Native.Nat.{ℕ, zero, suc, ◌+◌, ◌-◌, ◌<◌, ◌≤◌}
 use native.Mathlib.Omega.{arith}
 use mathlib.Core.Path.{◌≡◌, refl, ap, sym, ◌∙◌}
 use mathlib.Core.List.{List, [], ◌∷◌, ◌++◌, append-nil}
-use lib.ListN.{length, get_or, length-append, get_or-eq_default}
+use lib.ListN.{length, get_or, get_or-eq_default}
 use Rattle.alf.specs.Expressions.{Boolean, the, pair}
 use Rattle.alf.specs.Alternatives.{test, Alternative, padded, zipped, overlaid, conditioned}
-use Rattle.alf.proofs.Steps.{overlaid_length}
-use Rattle.alternatives.specs.declared.picking.How.{How}
 use Rattle.alternatives.specs.declared.picking.How.TheVariants.{Left, Right, LeftFirst, RightFirst, Together}
 use Rattle.alternatives.specs.Picks.{put}
 use Rattle.basics.proofs.Entries.{get_d_map}
-use Rattle.step_tests.specs.Steps.{Behind, LeftTold, Split}
+use Rattle.step_tests.specs.Steps.{Behind, Split}
 
 -- a step that there is not
 none : (x : Alternative) (n : ℕ) → length x ≡ n → get_or x n [] ≡ []
@@ -83,31 +81,6 @@ module _ (n m j : ℕ) where
   unfolding put overlaid
   split_together b c =
       record { is = λ x y e d. rw (b.is x e, c.is y d, ← e, ← d) (zipped_step (padded _ x) (padded _ y) j) }
-
--- the steps of the left one, from those of the whole and of the right one
-pub told_none : (how : How) (steps right : ℕ) → LeftTold how steps right 0
-told_none how steps right = record { is = λ x y o e d q. absurd (omega arith) }
-
-module _ (steps right : ℕ) where
-  pub told_left : LeftTold Left steps right steps
-  unfolding put
-  told_left = record { is = λ x y o e d q. d }
-
-  pub told_left_first : LeftTold LeftFirst steps right (steps - right)
-  unfolding put
-  told_left_first = record { is = λ x y o e d q. let l = length-append x y in omega arith }
-
-  pub told_right_first : LeftTold RightFirst steps right (steps - right)
-  unfolding put
-  told_right_first = record { is = λ x y o e d q. let l = length-append y x in omega arith }
-
-  pub told_longer : right < steps → LeftTold Together steps right steps
-  unfolding put
-  told_longer h = record { is = λ x y o e d q. let l = overlaid_length x y in omega arith }
-
-  pub told_one : steps ≡ 1 → LeftTold Together steps right 1
-  unfolding put
-  told_one h = record { is = λ x y o e d q. let l = overlaid_length x y in omega arith }
 
 -- a condition's test comes last
 pub get_d_conditioned : (c : Boolean) (x : Alternative) (j : ℕ) → j < length x

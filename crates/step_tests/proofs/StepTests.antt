@@ -1,6 +1,6 @@
 -- The tests of a step, by the last byte of the expression: what is asked of its operands' steps holds, and what they
 -- write is the step.
--- Main names: exact, some_steps, part, pins_last; edge_fits, edge_pins, edge_put; before_placing, condition_placing, held_fits,
+-- Main names: exact, part, pins_last; edge_fits, edge_pins, edge_put; before_placing, condition_placing, held_fits,
 -- held_put.
 use Prim.Native.Nat.{ℕ, zero, suc, ◌+◌, ◌-◌, ◌<◌, ◌≤◌}
 use native.Mathlib.Omega.{arith}
@@ -10,10 +10,8 @@ use lib.ListN.{length, get_or, length-append}
 use Rattle.alf.specs.Expressions.{Boolean, name, the, Edge, pair, Vector, edge, while, Side, on-right, on-left}
 use Rattle.alf.specs.Bytes.{edge_number, half_number}
 use Rattle.alf.specs.Decoder.{edge_at}
-use Rattle.basics.specs.Words.{All, none, more}
-use Rattle.alf.specs.Alternatives.{test, Step, Alternative, conditioned, alternatives, steps_of}
+use Rattle.alf.specs.Alternatives.{test, Step, conditioned, alternatives, steps_of}
 use Rattle.alf.proofs.Steps.{conditioned_length}
-use Rattle.alf.proofs.WindowsAreAlternatives.{every_has_steps}
 use Rattle.alf.proofs.OperatorBytes.{edge_byte}
 use Rattle.alf.proofs.StackTops.{edge_top}
 use Rattle.alf.proofs.Parts.{made_last}
@@ -24,7 +22,7 @@ use Rattle.trees.specs.Parts.{EndsVector, vector_at, Start}
 use Rattle.trees.proofs.Vectors.{Conditioned, edge-is, before_is, vector_pos}
 use Rattle.steady_pins.specs.Pinned.{pin_tests}
 use Rattle.steady_pins.proofs.PinnedAlternatives.{placed_length}
-use Rattle.acceptance.specs.Sizes.{alternative_at, Chosen, Shaping, ShapedAt}
+use Rattle.acceptance.specs.Sizes.{alternative_at, Chosen, ShapedAt}
 use Rattle.acceptance.proofs.Measures.{chosen_there}
 use Rattle.acceptance.proofs.Chosen.{before_chosen, condition_chosen}
 use Rattle.step_tests.specs.Steps.{step_at, Placing, Put, Fits, OnePut, PinsFit}
@@ -44,20 +42,6 @@ exact {pins} {t} {names} {end} {a} l g =
     let e = long (alternatives (vector_at t names end)) a in
     let d = placed_length name pins end (vector_at t names end) a in
     omega (arith, (g.given name).steps_is)
-
--- each alternative has a step
-step_there : {xs : List Alternative} → All (λ x. 0 < length x) xs → (k : ℕ) → k < length xs
-    → 0 < length (get_or xs k [])
-step_there none k h = absurd (omega arith)
-step_there (more p s) zero h = p
-step_there (more p s) (suc k) h = step_there s k (omega arith)
-
-pub some_steps : {pins t : List ℕ} {names end a : ℕ} → Shaping pins t names end a
-    → 0 < length (alternative_at name pins t names end a)
-some_steps {pins} {t} {names} {end} {a} h =
-    let d = placed_length name pins end (vector_at t names end) a in
-    let e = step_there (every_has_steps (vector_at t names end)) a (chosen_there h.chosen) in
-    omega arith
 
 -- a condition adds no step
 while_length : (s : Side) (p : Vector) (c : Boolean) (a : ℕ) → a < length (alternatives p)

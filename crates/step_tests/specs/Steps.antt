@@ -1,17 +1,18 @@
 -- One step of one alternative, in memory.
 --   step_at               step j of alternative t of the expression that ends at a place
 --   Placing, Stepping, Put    what is asked, and what is written
---   LeftTold, LeftAsked  the steps of a left alternative, from those of the whole; what is asked for them
+--   in_turn, LeftAsked    what is asked for the steps of a left operand
 --   Behind, Split        a step behind empty ones, and a step of an alternative that is put together of two
 --   Fits, OnePut         one test
 --   one_pin, PinFits, PinsFit, entries_at     the tests of a part's pins
-use Rattle.std.specs.Prelude.{ℕ, ◌+◌, ◌<◌, ◌≤◌, ◌≡◌, List, [], ◌∷◌, ◌++◌, eqb, length, get_or, set}
+use Rattle.std.specs.Prelude.{ℕ, ◌+◌, ◌<◌, ◌≤◌, ◌≡◌, Bool, true, false, List, [], ◌∷◌, ◌++◌, eqb, length, get_or, set}
 use Rattle.std.proofs.lemmas.List.Edits.{sets}
 use Rattle.basics.specs.Words.{if◌then◌else◌}
 use Rattle.alf.specs.Expressions.{name, stays}
 use Rattle.alf.specs.Alternatives.{test, Step, Alternative, padded, alternatives, steps_of}
 use Rattle.trees.specs.Parts.{vector_at}
 use Rattle.alternatives.specs.declared.picking.How.{How}
+use Rattle.alternatives.specs.declared.picking.How.TheVariants.{Left, Right, LeftFirst, RightFirst, Together}
 use Rattle.alternatives.specs.Picks.{put}
 use Rattle.acceptance.specs.Notes.{Noted}
 use Rattle.acceptance.specs.Sizes.{alternative_at, Chosen, ShapingBy}
@@ -42,18 +43,18 @@ pub record Stepping (pins notes tree : List ℕ) (names end t steps j : ℕ) (ed
   pub counted : length (alternative_at name pins tree names end t) ≡ steps
   pub noted : Noted pins notes tree names end
 
--- of two alternatives that are put together the left one has r steps, from those of the whole and of the right one; 0
--- where these do not tell
-pub record LeftTold (how : How) (steps right r : ℕ) : Type 0 where
-  pub is : (x y : Alternative) → 0 < length x → length y ≡ right → length (put how x y) ≡ steps → 0 < r
-      → length x ≡ r
+-- whether one alternative follows the other; then the whole has the steps of both
+unfoldable pub in_turn : How → Bool
+in_turn Left = false
+in_turn Right = false
+in_turn LeftFirst = true
+in_turn RightFirst = true
+in_turn Together = false
 
 pub record LeftAsked (pins notes tree : List ℕ) (names left i : ℕ) (how : How) (steps right : ℕ) : Type 0 where
   pub shaping : ShapingBy pins notes tree names left i
   pub short : steps_of (vector_at tree names left) ≤ 64
-  pub beside : Alternative
-  pub beside_is : length beside ≡ right
-  pub whole : length (put how (alternative_at name pins tree names left i) beside) ≡ steps
+  pub both : in_turn how ≡ true → length (alternative_at name pins tree names left i) + right ≡ steps
 
 -- the tests of a step from a place on, the place behind them, and the lists as they were before and behind
 pub record Put (s : Step) (from : ℕ) (edges operands : List ℕ) (next : ℕ) (edges' operands' : List ℕ)

@@ -1,6 +1,6 @@
 // Which steps of two alternatives make step j of the one that is put together of them.
 ghost use Rattle.std.specs.Prelude.{◌≡◌, ◌-◌};
-ghost use Rattle.step_tests.specs.Steps.{Behind, LeftTold, Split};
+ghost use Rattle.step_tests.specs.Steps.{Behind, Split, in_turn};
 
 use alternatives::picking::How;
 
@@ -11,37 +11,24 @@ pub struct Two {
     pub right: usize,
 }
 
+// Whether one alternative follows the other.
+pub fn in_turn(how: How) -> bool
+    ensures { result ≡ in_turn how }
+{
+    match how {
+        How::Left => false,
+        How::Right => false,
+        How::LeftFirst => true,
+        How::RightFirst => true,
+        How::Together => false,
+    }
+}
+
 // How many more x is than y.
 fn more(x: usize, y: usize) -> usize
     ensures { result ≡ x - y }
 {
     if x < y { 0 } else { x - y }
-}
-
-// The steps of the left one of two that overlap: the longer one has so many, and each has one.
-fn overlapping(steps: usize, right: usize) -> usize
-    ensures { LeftTold How.Together steps right result }
-{
-    if right < steps {
-        return steps;
-    }
-    if steps == 1 {
-        return 1;
-    }
-    0
-}
-
-// The steps of the left one, from those of the whole and of the right one; 0 where these do not tell.
-pub fn left_told(how: How, steps: usize, right: usize) -> usize
-    ensures { LeftTold how steps right result }
-{
-    match how {
-        How::Left => steps,
-        How::Right => 0,
-        How::LeftFirst => more(steps, right),
-        How::RightFirst => more(steps, right),
-        How::Together => overlapping(steps, right),
-    }
 }
 
 // Step j behind some empty steps; n where it is one of those.

@@ -11,8 +11,7 @@ use acceptance::{notes, sizes};
 use alternatives::picking;
 use alternatives::picking::How;
 
-// The steps of alternative i of the left operand, which ends at `left`: from those of the whole and of the right one, or
-// counted where these do not tell.
+// The steps of alternative i of the left operand, which ends at `left`, from those of the whole and of the right one.
 fn left_steps(
     tree: &[u8],
     pins: &[u8; 8192],
@@ -27,9 +26,8 @@ fn left_steps(
     requires { LeftAsked pins.now notes.now tree.now names left i how steps right }
     ensures { length (alternative_at name pins.now tree.now names left i) ≡ result }
 {
-    let told = splitting::left_told(how, steps, right);
-    if 0 < told {
-        return told;
+    if splitting::in_turn(how) {
+        return steps - right;
     }
     let x = sizes::shape_of(tree, pins, notes, left, names, i);
     x.steps

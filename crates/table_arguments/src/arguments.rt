@@ -1,13 +1,10 @@
-// The command's words: patterns, and behind `-f` files of patterns. What is said of the patterns before a file is said
-// before the file is read. On a terminal it is told how far long work is.
-ghost use Rattle.std.specs.Prelude.{◌≤◌, ◌<◌};
-
-use crate::words::{Step, is_option, words};
+// The command's words: patterns, and behind `-f` files of patterns. On a terminal it is told how far long work is.
 use alf::Rules;
 use complaints::unfit;
 use console::output::{note, note_number};
 use loading::files::{Filled, take_argument};
 use loading::patterns::fill_patterns;
+use pattern_lines::accounts::pattern;
 use pattern_lines::patterns::lines;
 use table_lines::lines::Sums;
 use text_parts::parts::front;
@@ -46,11 +43,32 @@ fn file(rules: Rules, names: &[u8], n: usize, states: &[u8], path: &[u8], s: Sum
     file_lent(rules, names, n, states, path, &mut data, s)
 }
 
-// The file of patterns that argument i names.
-fn file_argument(rules: Rules, names: &[u8], n: usize, states: &[u8], i: usize, s: Sums) -> Sums {
-    let mut path = io::large_buffer();
-    let m = take_argument(i, &mut path);
-    file(rules, names, n, states, &path[..m], s)
+// Argument i: a pattern; behind `-f` a file of patterns.
+fn argument(
+    rules: Rules,
+    names: &[u8],
+    n: usize,
+    states: &[u8],
+    i: usize,
+    behind: bool,
+    s: Sums,
+) -> Sums {
+    let mut text = io::large_buffer();
+    let m = take_argument(i, &mut text);
+    if behind {
+        return file(rules, names, n, states, &text[..m], s);
+    }
+    pattern(rules, names, n, states, &text[..m], s)
+}
+
+// Whether argument i is `-f`; behind `-f` it is a file.
+fn is_option(i: usize, behind: bool) -> bool {
+    if behind {
+        return false;
+    }
+    let mut word = [0u8; 4];
+    let n = os::arg(i, &mut word);
+    check::same(&word[..n], b"-f")
 }
 
 // Whether it is told how far long work is: on a terminal, and where the table's lines go elsewhere.
@@ -87,52 +105,6 @@ fn finish(behind: bool, n: usize) {
     }
 }
 
-// Behind `-f` argument i is a file.
-fn behind_option(
-    rules: Rules,
-    names: &[u8],
-    n: usize,
-    states: &[u8],
-    i: usize,
-    count: usize,
-    s: Sums,
-) -> Step
-    ensures { i ≤ result.next }
-{
-    if count <= i {
-        return Step {
-            sums: s,
-            next: i,
-            behind: true,
-        };
-    }
-    Step {
-        sums: file_argument(rules, names, n, states, i, s),
-        next: i + 1,
-        behind: false,
-    }
-}
-
-// From argument i on: a file, or the patterns up to the next `-f`.
-fn step(
-    rules: Rules,
-    names: &[u8],
-    n: usize,
-    states: &[u8],
-    i: usize,
-    count: usize,
-    s: Sums,
-) -> Step
-    requires { i < count }
-    ensures { i < result.next }
-{
-    progress(i, count, n);
-    if is_option(i) {
-        return behind_option(rules, names, n, states, i + 1, count, s);
-    }
-    words(rules, names, n, states, i, count, s)
-}
-
 // All patterns of the command's words, from argument `first` on.
 pub fn arguments(
     rules: Rules,
@@ -147,10 +119,13 @@ pub fn arguments(
     let mut behind = false;
     let mut i: usize = first;
     while i < count {
-        let t = step(rules, names, n, states, i, count, sums);
-        sums = t.sums;
-        behind = t.behind;
-        i = t.next;
+        progress(i, count, n);
+        let option = is_option(i, behind);
+        if !option {
+            sums = argument(rules, names, n, states, i, behind, sums);
+        }
+        behind = option;
+        i += 1;
     }
     finish(behind, n);
     sums

@@ -1,3 +1,2 @@
-// The words of the command `table`: patterns, up to 64 in one pass over the trace, and files of patterns.
+// The words of the command `table`.
 pub mod arguments;
-pub mod words;

@@ -14,7 +14,7 @@ fn begin(n: usize, line: &mut [u8; 4096]) -> Sums {
     no_sums(n)
 }
 
-fn finish(s: Sums, line: &mut [u8; 4096]) {
+fn end(s: Sums, line: &mut [u8; 4096]) {
     say_total(line, s);
 }
 
@@ -33,11 +33,14 @@ fn say_rules(rules: Rules) {
     say(b"\n");
 }
 
-// The words from argument `first` on are patterns, up to argument `end`.
-pub fn table(rules: Rules, first: usize, end: usize, names: &[u8], n: usize, states: &[u8]) {
+// The words from argument `first` on are patterns.
+pub fn table(rules: Rules, first: usize, names: &[u8], n: usize, states: &[u8]) {
     let mut line = io::buffer();
     let s = begin(n, &mut line);
-    finish(arguments(rules, first, names, n, states, end, s), &mut line);
+    end(
+        arguments(rules, first, names, n, states, os::arg_count(), s),
+        &mut line,
+    );
     say_rules(rules);
 }
 
@@ -56,5 +59,5 @@ pub fn first_look() {
           10 C & ( 01 A -> 10 B )\n",
         s,
     );
-    finish(t, &mut line);
+    end(t, &mut line);
 }

@@ -2,4 +2,3 @@
 pub mod Handing
 pub mod Matching
 pub mod Listed
-pub mod Dumps

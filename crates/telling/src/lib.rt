@@ -4,7 +4,6 @@ pub mod matching;
 pub mod outcomes;
 pub mod rows;
 pub mod texts;
-pub mod vcd;
 
 // What came of a call: refused with a number at a place, or done, with a count of what it made.
 #[repr(C)]
@@ -35,17 +34,6 @@ pub struct Trace {
     pub place: usize,
     pub names: usize,
     pub rows: usize,
-}
-
-// What came of reading a value change dump: refused, or how many names and rows, and how many variables were passed over.
-#[repr(C)]
-#[derive(Drop)]
-pub struct Dump {
-    pub number: u8,
-    pub place: usize,
-    pub names: usize,
-    pub rows: usize,
-    pub passed: usize,
 }
 
 // The changes of a row: refused, or the set of changed variables and how many they are.

@@ -1,5 +1,5 @@
 -- Laws of the limits: what a token changes, and the first that goes over.
---   opens, closes_none, closes, leaves, sign_uncounted, uncounted, counts   `after`
+--   opens, closes_none, closes, leaves, uncounted, counts   `after`
 --   over_hit, over_more, over_end                           one turn of `first_over`, and its end
 use mathlib.Core.Path.{◌≡◌, refl, ap}
 use mathlib.Core.Bool.{Bool, true, false}
@@ -12,51 +12,39 @@ use lib.ListN.{length, take, drop, get_or, drop_of_length-le, length-take}
 use lib.Seq.{drop-cons, get_or-take}
 use borrow.Author.Tests.{eq-eqb, ne_eqb, eqb-false, lt-ltb, le-ltb}
 use Rattle.tokens.specs.Texts.{opened, counted}
-use Rattle.tokens.specs.Inner.{over_at}
-use Rattle.tokens.specs.Walking.{counted_words, counted_by, changed}
+use Rattle.tokens.specs.Inner.{changed, over_at}
 
-module _ {b : Bool} (s : Bool) (c n : ℕ) (h : b ≡ true) where
-  pub opens : c ≡ 62 → n + 1 ≡ changed b s c n
+module _ {b : Bool} (c n : ℕ) (h : b ≡ true) where
+  pub opens : c ≡ 62 → n + 1 ≡ changed b c n
   unfolding opened
   opens e = rw (h, eq-eqb c 62 e)
 
-  pub closes_none : (c ≡ 62 → ⊥) → c ≡ 63 → n ≡ 0 → 0 ≡ changed b s c n
+  pub closes_none : (c ≡ 62 → ⊥) → c ≡ 63 → n ≡ 0 → 0 ≡ changed b c n
   unfolding opened
   closes_none f e z = rw (h, ne_eqb c 62 f, eq-eqb c 63 e, z)
 
-  pub closes : (c ≡ 62 → ⊥) → c ≡ 63 → n - 1 ≡ changed b s c n
+  pub closes : (c ≡ 62 → ⊥) → c ≡ 63 → n - 1 ≡ changed b c n
   unfolding opened
   closes f e = rw (h, ne_eqb c 62 f, eq-eqb c 63 e)
 
-  pub leaves : (c ≡ 62 → ⊥) → (c ≡ 63 → ⊥) → n ≡ changed b s c n
+  pub leaves : (c ≡ 62 → ⊥) → (c ≡ 63 → ⊥) → n ≡ changed b c n
   unfolding opened
   leaves f e = rw (h, ne_eqb c 62 f, ne_eqb c 63 e)
 
--- what is no sign is counted alike, with signs and without them
-counted_by_lem : (s : Bool) (c n : ℕ) → (s ≡ true → c ≤ 147) → counted_by s c n ≡ counted c n
-unfolding counted_words
-counted_by_lem true c n h = rw (le-ltb 147 c (h refl))
-counted_by_lem false c n h = refl
+module _ {b : Bool} (c n : ℕ) (h : b ≡ false) where
+  pub uncounted : 61 ≤ c → c ≤ 63 → n ≡ changed b c n
+  unfolding counted
+  uncounted l k = rw h (go (eqb c 61) (eqb c 62) refl refl)
+    where
+      go : (x y : Bool) → eqb c 61 ≡ x → eqb c 62 ≡ y → n ≡ counted c n
+      go true y e f = rw e
+      go false true e f = rw (e, f)
+      go false false e f =
+          let z : c ≡ 63 = omega (arith, eqb-false c 61 e, eqb-false c 62 f) in rw (e, f, eq-eqb c 63 z)
 
-module _ {b : Bool} (s : Bool) (c n : ℕ) (h : b ≡ false) where
-  pub sign_uncounted : s ≡ true → 147 < c → n ≡ changed b s c n
-  unfolding counted_words
-  sign_uncounted e l = rw (h, e, lt-ltb 147 c l)
-
-  module _ (plain : s ≡ true → c ≤ 147) where
-    pub uncounted : 61 ≤ c → c ≤ 63 → n ≡ changed b s c n
-    unfolding counted
-    uncounted l k = rw (h, counted_by_lem s c n plain) (go (eqb c 61) (eqb c 62) refl refl)
-      where
-        go : (x y : Bool) → eqb c 61 ≡ x → eqb c 62 ≡ y → n ≡ counted c n
-        go true y e f = rw e
-        go false true e f = rw (e, f)
-        go false false e f =
-            let z : c ≡ 63 = omega (arith, eqb-false c 61 e, eqb-false c 62 f) in rw (e, f, eq-eqb c 63 z)
-
-    pub counts : (c ≡ 61 → ⊥) → (c ≡ 62 → ⊥) → (c ≡ 63 → ⊥) → n + 1 ≡ changed b s c n
-    unfolding counted
-    counts p q r = rw (h, counted_by_lem s c n plain, ne_eqb c 61 p, ne_eqb c 62 q, ne_eqb c 63 r)
+  pub counts : (c ≡ 61 → ⊥) → (c ≡ 62 → ⊥) → (c ≡ 63 → ⊥) → n + 1 ≡ changed b c n
+  unfolding counted
+  counts p q r = rw (h, ne_eqb c 61 p, ne_eqb c 62 q, ne_eqb c 63 r)
 
 over_cons :
     (f : ℕ → ℕ → ℕ) (limit n c : ℕ) (cs : List ℕ) →

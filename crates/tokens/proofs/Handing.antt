@@ -1,53 +1,49 @@
--- What `read_with` hands over, from what `scan` gives and what the limits say.
+-- What `read_tokens` hands over, from what `scan` gives and what the limits say.
 --   stopped_reading   refused with 2
 --   Whole, whole_of   the text's tokens, as they were written
 --   counting          they can be counted
 --   deep_reading, many_reading, whole_reading   refused with 3, with 4, or read
 use mathlib.Core.Path.{◌≡◌, refl, ap, ◌∙◌}
 use mathlib.Core.Bool.{Bool, true, false}
-use mathlib.Core.List.{List, ◌∷◌}
+use mathlib.Core.List.{List}
 use Prim.Native.Nat.{ℕ, ◌≤◌, ◌<◌}
 use native.Mathlib.Omega.{arith}
-use lib.ListN.{length, take, get_or, length-append, length-drop}
+use lib.ListN.{length, take, get_or, length-append}
 use Rattle.basics.specs.Refusing.{refusal}
 use Rattle.tokens.specs.declared.Tokens.{Tokens}
 use Rattle.tokens.specs.Texts.{Token, Reads}
 use Rattle.tokens.specs.Texts.Reads.{done, blank, token}
-use Rattle.tokens.specs.Tokenizing.{filled, codes_of, places_of, made, refused_by}
-use Rattle.tokens.specs.Inner.{Counting, over_at}
-use Rattle.tokens.specs.Walking.{step_by, counted_by, changed, Steps, ScanBy, ReadBy}
-use Rattle.tokens.specs.Walking.Steps.{done as steps-done, blank as steps-blank, token as steps_token}
-use Rattle.tokens.specs.Walking.ScanBy.{stopped, whole}
-use Rattle.tokens.specs.Walking.ReadBy.{stuck, deep, many, read}
+use Rattle.tokens.specs.Tokenizing.{filled, codes_of, places_of, made, refused_by, Tokenized}
+use Rattle.tokens.specs.Inner.{Scan, Counting, changed, over_at}
+use Rattle.tokens.specs.Inner.Scan.{stopped, whole}
 use Rattle.token_steps.proofs.Bytes.{contrary}
 use Rattle.token_steps.proofs.TokenStarts.{token_size}
 use Rattle.tokens.proofs.Filling.{filled_front, filled_at, filled_holds, column_length}
-use Rattle.tokens.proofs.WordSteps.{fit_by}
+use Rattle.tokens.proofs.ReadingLaws.{read_stuck, read_deep, read_many, read_whole}
 
 pub stopped_reading :
-    (signs : Bool) {text : List ℕ} {t : Tokens} →
+    {text : List ℕ} {t : Tokens} →
     length text ≤ 4096 →
-    ScanBy (step_by signs) text t →
+    Scan text t →
     t.refused ≡ true →
-    ReadBy (step_by signs) (counted_by signs) text t
+    Tokenized text t
 unfolding made
-stopped_reading signs l (stopped q s) h = stuck l q s
-stopped_reading signs l (whole ts r) h = absurd (contrary h refl)
+stopped_reading {text} l (stopped q s) h = read_stuck text l s
+stopped_reading l (whole ts r) h = absurd (contrary h refl)
 
-pub record Whole (signs : Bool) (text : List ℕ) (t : Tokens) : Type 0 where
+pub record Whole (text : List ℕ) (t : Tokens) : Type 0 where
   pub tokens : List Token
-  pub steps : Steps (step_by signs) 0 text tokens
+  pub read : Reads 0 text tokens
   pub count-is : t.count ≡ length tokens
   pub codes_are : t.codes ≡ filled (codes_of tokens)
   pub places_are : t.places ≡ filled (places_of tokens)
   pub is : t ≡ made tokens
 
-pub whole_of : {signs : Bool} {text : List ℕ} {t : Tokens} → ScanBy (step_by signs) text t → t.refused ≡ false
-    → Whole signs text t
+pub whole_of : {text : List ℕ} {t : Tokens} → Scan text t → t.refused ≡ false → Whole text t
 unfolding made refused_by
 whole_of (stopped q s) h = absurd (contrary refl h)
 whole_of (whole ts r) h =
-    record { tokens = ts; steps = r; count-is = refl; codes_are = refl; places_are = refl; is = refl }
+    record { tokens = ts; read = r; count-is = refl; codes_are = refl; places_are = refl; is = refl }
 
 -- no more tokens than bytes
 pub reads_short : {p : ℕ} {bs : List ℕ} {ts : List Token} → Reads p bs ts → length ts ≤ length bs
@@ -57,17 +53,9 @@ reads_short (token h t r) =
     let k = reads_short r in
     let j = token_size t.token in omega (arith, simp length-append at (ap length t.there))
 
-steps_short : (signs : Bool) {p : ℕ} {bs : List ℕ} {ts : List Token} → Steps (step_by signs) p bs ts
-    → length ts ≤ length bs
-steps_short signs steps-done = omega arith
-steps_short signs (steps-blank h r) = let k = steps_short signs r in omega arith
-steps_short signs (steps_token {b = b} {bs = bs} s e h c r) =
-    let k = steps_short signs r in
-    let f = (fit_by signs b bs).some (rw e at c) in omega (arith, rw (← e) at f, length-drop s.size (b ∷ bs))
-
-module _ {signs : Bool} {text : List ℕ} {t : Tokens} (l : length text ≤ 4096) (w : Whole signs text t) where
+module _ {text : List ℕ} {t : Tokens} (l : length text ≤ 4096) (w : Whole text t) where
   bound : t.count ≤ 4096
-  bound = let k = steps_short signs w.steps in omega (arith, w.count-is)
+  bound = let k = reads_short w.read in omega (arith, w.count-is)
 
   pub counting : (limit : ℕ) → limit ≤ 4096 → Counting t.codes t.count limit
   counting limit h =
@@ -89,27 +77,27 @@ module _ {signs : Bool} {text : List ℕ} {t : Tokens} (l : length text ≤ 4096
       rw w.places_are (filled_at (places_of w.tokens) i (omega (arith, w.count-is)))
 
   abbrev over : Bool → ℕ → ℕ
-  over b limit = over_at (changed b signs) limit 0 (take t.count t.codes)
+  over b limit = over_at (changed b) limit 0 (take t.count t.codes)
 
   module _ {i : ℕ} (b : Bool) (limit : ℕ) (e : i ≡ over b limit) where
     pub found_inside : i < t.count → i < 4096
     found_inside h = let k = bound in omega arith
 
-    index : i ≡ over_at (changed b signs) limit 0 (codes_of w.tokens)
-    index = e ∙ ap (over_at (changed b signs) limit 0) front
+    index : i ≡ over_at (changed b) limit 0 (codes_of w.tokens)
+    index = e ∙ ap (over_at (changed b) limit 0) front
 
   pub deep_reading :
       {i : ℕ} {r : Tokens} →
       i ≡ over true 32 →
       i < t.count →
       r ≡ refused_by (refusal 3 (get_or t.places i 0)) →
-      ReadBy (step_by signs) (counted_by signs) text r
+      Tokenized text r
   deep_reading {i} e h f =
       rw (f, place_at i h, index true 32 e)
-      (deep l w.steps (rw (← index true 32 e) (omega (arith, w.count-is))))
+      (read_deep text l w.read (rw (← index true 32 e) (omega (arith, w.count-is))))
 
   module _ {d : ℕ} (eq : d ≡ over true 32) (no : t.count ≤ d) where
-    shallow : length w.tokens ≤ over_at (changed true signs) 32 0 (codes_of w.tokens)
+    shallow : length w.tokens ≤ over_at (changed true) 32 0 (codes_of w.tokens)
     shallow = rw (← index true 32 eq) (omega (arith, w.count-is))
 
     pub many_reading :
@@ -117,11 +105,11 @@ module _ {signs : Bool} {text : List ℕ} {t : Tokens} (l : length text ≤ 4096
         i ≡ over false 256 →
         i < t.count →
         r ≡ refused_by (refusal 4 (get_or t.places i 0)) →
-        ReadBy (step_by signs) (counted_by signs) text r
+        Tokenized text r
     many_reading {i} e h f =
         rw (f, place_at i h, index false 256 e)
-        (many l w.steps shallow (rw (← index false 256 e) (omega (arith, w.count-is))))
+        (read_many text l w.read shallow (rw (← index false 256 e) (omega (arith, w.count-is))))
 
-    pub whole_reading : {i : ℕ} → i ≡ over false 256 → t.count ≤ i → ReadBy (step_by signs) (counted_by signs) text t
+    pub whole_reading : {i : ℕ} → i ≡ over false 256 → t.count ≤ i → Tokenized text t
     whole_reading {i} e h =
-        rw w.is (read l w.steps shallow (rw (← index false 256 e) (omega (arith, w.count-is))))
+        rw w.is (read_whole text l w.read shallow (rw (← index false 256 e) (omega (arith, w.count-is))))

@@ -2,11 +2,9 @@
 pub mod TextLaws
 pub mod ShownBytes
 pub mod Filling
-pub mod WordSteps
 pub mod Scanning
 pub mod Counts
 pub mod Places
 pub mod ReadingLaws
 pub mod Handing
 pub mod Theorems
-pub mod PlainTexts

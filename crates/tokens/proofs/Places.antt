@@ -1,5 +1,5 @@
 -- The first token that goes over a limit, as an index and as a byte of the text.
---   reads_rising, rising_lower     the places of a text's tokens rise
+--   reads_rising   the places of a text's tokens rise
 --   rising_at      .. from the first on
 --   over_first     the place of the first token over the limit is the first byte at which the number is over it
 --   over_none      where no token is, no byte is
@@ -22,16 +22,15 @@ abbrev pub Rising : ℕ → List Token → Type 0
 Rising lo [] = Unit {0}
 Rising lo (t ∷ ts) = (lo ≤ t.place) × Rising (suc t.place) ts
 
-pub rising_lower : (ts : List Token) (lo hi : ℕ) → lo ≤ hi → Rising hi ts → Rising lo ts
-rising_lower [] lo hi h r = tt
-rising_lower (t ∷ ts) lo hi h r = let k = r.0 in (omega arith, r.1)
+lower : (ts : List Token) (lo hi : ℕ) → lo ≤ hi → Rising hi ts → Rising lo ts
+lower [] lo hi h r = tt
+lower (t ∷ ts) lo hi h r = let k = r.0 in (omega arith, r.1)
 
 pub reads_rising : {p : ℕ} {bs : List ℕ} {ts : List Token} → Reads p bs ts → Rising p ts
 reads_rising done = tt
-reads_rising (blank {p = p} {ts = ts} h r) = rising_lower ts p (suc p) (omega arith) (reads_rising r)
+reads_rising (blank {p = p} {ts = ts} h r) = lower ts p (suc p) (omega arith) (reads_rising r)
 reads_rising (token {p = p} {w = w} {ts = ts} h t r) =
-    let k = token_size t.token in
-    (omega arith, rising_lower ts (suc p) (p + length w) (omega arith) (reads_rising r))
+    let k = token_size t.token in (omega arith, lower ts (suc p) (p + length w) (omega arith) (reads_rising r))
 
 pub rising_at : (ts : List Token) (lo k : ℕ) → Rising lo ts → k < length ts → lo ≤ get_or (places_of ts) k 0
 rising_at [] lo zero r h = absurd (omega arith)

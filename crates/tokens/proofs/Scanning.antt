@@ -1,44 +1,52 @@
 -- The scan of a text: what is known at a place where a token is to start, and how it goes on.
 --   Scanned        the tokens before the place are written, and what the rest comes to, the text comes to
 --   scan_start, scan_blank, scan_token   at the start; past a blank; past a token
---   stop_fits, stop_inside, scan-stop, scan-end     where no token starts; at the text's end
+--   stop_inside, scan-stop, scan-end     where no token starts; at the text's end
 use mathlib.Core.Path.{◌≡◌, refl, ◌∙◌}
-use mathlib.Core.Bool.{Bool, true, false}
+use mathlib.Core.Bool.{true, false}
+use mathlib.Core.Logic.{◌⊎◌, inl, inr}
 use mathlib.Core.List.{List, [], ◌∷◌, ◌++◌, append_assoc, append-nil}
 use Prim.Native.Nat.{ℕ, suc, ◌+◌, ◌≤◌, ◌<◌}
 use native.Mathlib.Omega.{arith}
 use native.Mathlib.Numerals.{add-one}
-use lib.ListN.{length, drop, get_or, set, length-append, length-drop, drop_of_length-le}
+use lib.ListN.{length, take, drop, get_or, set, length-append, length-drop, length-take, drop_of_length-le}
+use lib.ListN.{get_or-eq_default}
 use lib.Seq.{drop-cons, drop-drop}
-use Rattle.basics.specs.Refusing.{refusal}
 use Rattle.token_steps.specs.declared.Step.{Step}
 use Rattle.token_steps.specs.Classes.{is_blank_lem}
-use Rattle.token_steps.specs.Steps.{none}
-use Rattle.tokens.specs.Texts.{Token, token_at}
+use Rattle.token_steps.specs.Taking.{Taken, NoToken}
+use Rattle.token_steps.specs.Taking.Barred.{together, overlong, loose, lone, bad_half}
+use Rattle.token_steps.specs.Taking.NoToken.{barred, tokenless}
+use Rattle.basics.specs.Refusing.{refusal}
+use Rattle.tokens.specs.Texts.{Token, token_at, Reads, Stuck}
+use Rattle.tokens.specs.Texts.Reads.{done, blank, token}
+use Rattle.tokens.specs.Texts.Stuck.{blank as blank-then, token as token-then, here}
+use Rattle.token_steps.specs.Steps.{none, step_of}
 use Rattle.tokens.specs.Tokenizing.{zeros, filled, codes_of, places_of, made}
-use Rattle.tokens.specs.Walking.{step_by, Steps, Stops, ScanBy}
-use Rattle.tokens.specs.Walking.Steps.{done, blank, token}
-use Rattle.tokens.specs.Walking.Stops.{blank as blank-then, token as token-then, here}
-use Rattle.tokens.specs.Walking.ScanBy.{whole}
+use Rattle.tokens.specs.Inner.{Scan}
+use Rattle.tokens.specs.Inner.Scan.{whole}
+use Rattle.token_steps.proofs.TokenStarts.{token_size}
+use Rattle.token_steps.proofs.Right.{Right}
+use Rattle.token_steps.proofs.Taking.{right}
+use Rattle.basics.proofs.Bools.{below?}
 use Rattle.tokens.proofs.Filling.{filled_none, filled_more}
-use Rattle.tokens.proofs.WordSteps.{Fit, fit_by}
 
-pub record Scanned (signs : Bool) (text : List ℕ) (p count : ℕ) (codes places : List ℕ) : Type 0 where
+pub record Scanned (text : List ℕ) (p count : ℕ) (codes places : List ℕ) : Type 0 where
   pub before : List Token
   pub inside : p ≤ length text
   pub room : count ≤ p
   pub count-is : count ≡ length before
   pub codes_are : codes ≡ filled (codes_of before)
   pub places_are : places ≡ filled (places_of before)
-  pub reads : (ts : List Token) → Steps (step_by signs) p (drop p text) ts → Steps (step_by signs) 0 text (before ++ ts)
-  pub stuck : (q : ℕ) → Stops (step_by signs) p (drop p text) q → Stops (step_by signs) 0 text q
+  pub reads : (ts : List Token) → Reads p (drop p text) ts → Reads 0 text (before ++ ts)
+  pub stuck : (q : ℕ) → Stuck p (drop p text) q → Stuck 0 text q
 
 pub scan_start :
-    (signs : Bool) (text : List ℕ) {codes places : List ℕ} →
+    (text : List ℕ) {codes places : List ℕ} →
     codes ≡ zeros →
     places ≡ zeros →
-    Scanned signs text 0 0 codes places
-scan_start signs text e f =
+    Scanned text 0 0 codes places
+scan_start text e f =
     record {
       before = [];
       inside = omega arith;
@@ -50,44 +58,54 @@ scan_start signs text e f =
       stuck = λ q s. s;
     }
 
-steps_token :
-    {f : List ℕ → Step} {bs xs : List ℕ} {x p : ℕ} {ts : List Token} {r : Step} →
+stop_small : {bs : List ℕ} {k : ℕ} → NoToken bs k → k ≤ 3
+stop_small (barred (together a b c)) = omega arith
+stop_small (barred (overlong a b)) = omega arith
+stop_small (barred (loose a b)) = omega arith
+stop_small (barred (lone a b c)) = omega arith
+stop_small (barred (bad_half a b c)) = omega arith
+stop_small (tokenless t f) = omega arith
+
+-- the byte refused is one of the bytes, or the first where there is none
+none_inside : (bs : List ℕ) {k : ℕ} → NoToken bs k → k ≤ length bs
+none_inside bs (barred (together a b c)) = omega arith
+none_inside bs (barred (overlong a b)) = omega arith
+none_inside bs (barred (loose a b)) = omega arith
+none_inside bs (barred (lone a b c)) = omega arith
+none_inside bs (barred (bad_half a b c)) = go (below? (length bs) 3)
+  where
+    go : (length bs < 3) ⊎ (3 ≤ length bs) → 3 ≤ length bs
+    go (inl l) = let z : get_or bs 3 0 ≡ 0 = get_or-eq_default bs 0 (omega arith) in absurd (omega (arith, z, b))
+    go (inr l) = l
+none_inside bs (tokenless t f) = omega arith
+
+reads_token :
+    {bs xs w a : List ℕ} {x p c : ℕ} {ts : List Token} →
     bs ≡ x ∷ xs →
     is_blank_lem x ≡ false →
-    r ≡ f bs →
-    (r.code ≡ none → ⊥) →
-    Steps f (p + r.size) (drop r.size bs) ts →
-    Steps f p bs (token_at r.code p ∷ ts)
-steps_token {r = r} e b s c t = rw e (token r (rw e at s) b c (rw e at t))
+    Taken bs w c a →
+    Reads (p + length w) a ts →
+    Reads p bs (token_at c p ∷ ts)
+reads_token e b t r = rw e (token b (rw e at t) r)
 
-stops_token :
-    {f : List ℕ → Step} {bs xs : List ℕ} {x p q : ℕ} {r : Step} →
+stuck_token :
+    {bs xs w a : List ℕ} {x p c q : ℕ} →
     bs ≡ x ∷ xs →
     is_blank_lem x ≡ false →
-    r ≡ f bs →
-    (r.code ≡ none → ⊥) →
-    Stops f (p + r.size) (drop r.size bs) q →
-    Stops f p bs q
-stops_token {r = r} e b s c t = rw e (token-then r (rw e at s) b c (rw e at t))
+    Taken bs w c a →
+    Stuck (p + length w) a q →
+    Stuck p bs q
+stuck_token e b t r = rw e (token-then b (rw e at t) r)
 
-stops_here :
-    {f : List ℕ → Step} {bs xs : List ℕ} {x p : ℕ} {r : Step} →
-    bs ≡ x ∷ xs →
-    is_blank_lem x ≡ false →
-    r ≡ f bs →
-    r.code ≡ none →
-    Stops f p bs (p + r.size)
-stops_here {r = r} e b s c = rw e (here r (rw e at s) b c)
-
-module _ (signs : Bool) (text : List ℕ) (p : ℕ) (h : p < length text) where
+module _ (text : List ℕ) (p : ℕ) (h : p < length text) where
   abbrev first : ℕ
   first = get_or text p 0
 
   rest : drop p text ≡ first ∷ drop (suc p) text
   rest = drop-cons text p 0 h
 
-  module _ {count : ℕ} {codes places : List ℕ} (z : Scanned signs text p count codes places) where
-    pub scan_blank : is_blank_lem first ≡ true → Scanned signs text (p + 1) count codes places
+  module _ {count : ℕ} {codes places : List ℕ} (z : Scanned text p count codes places) where
+    pub scan_blank : is_blank_lem first ≡ true → Scanned text (p + 1) count codes places
     scan_blank b =
         rw add-one
         (record {
@@ -101,27 +119,34 @@ module _ (signs : Bool) (text : List ℕ) (p : ℕ) (h : p < length text) where
           stuck = λ q s. z.stuck q (rw rest (blank-then b s));
         })
 
-    module _ {r : Step} (e : r ≡ step_by signs (drop p text)) where
-      fit : Fit (drop p text) r
-      fit = rw (e, rest) (fit_by signs first (drop (suc p) text))
+    module _ {r : Step} (e : r ≡ step_of (drop p text)) where
+      step_right : Right (drop p text) r
+      step_right = rw (e, rest) (right first (drop (suc p) text))
 
       pub stop_fits : r.code ≡ none → r.size ≤ 3
-      stop_fits c = fit.near c
+      stop_fits c = stop_small (step_right.stops c)
 
       pub stop_inside : r.code ≡ none → p + r.size ≤ length text
-      stop_inside c = let k = fit.inside c in omega (arith, length-drop p text)
+      stop_inside c =
+          let k = none_inside (drop p text) (step_right.stops c) in omega (arith, length-drop p text)
 
-      pub scan-stop : is_blank_lem first ≡ false → r.code ≡ none → Stops (step_by signs) 0 text (p + r.size)
-      scan-stop b c = z.stuck _ (stops_here rest b e c)
+      pub scan-stop : is_blank_lem first ≡ false → r.code ≡ none → Stuck 0 text (p + r.size)
+      scan-stop b c = z.stuck _ (rw rest (here b (rw rest at (step_right.stops c))))
 
       module _ (c : r.code ≡ none → ⊥) where
+        taken : Taken (drop p text) (take r.size (drop p text)) r.code (drop r.size (drop p text))
+        taken = step_right.takes c
+
         pub token_fits : (0 < r.size) × (p + r.size ≤ length text)
-        token_fits = (fit.some c, let k = fit.all c in omega (arith, length-drop p text))
+        token_fits =
+            let k = step_right.fits c in
+            let j = token_size taken.token in
+            (omega arith, omega (arith, length-take r.size (drop p text), length-drop p text))
 
         pub scan_token :
             is_blank_lem first ≡ false →
             length text ≤ 4096 →
-            Scanned signs text (p + r.size) (count + 1) (set codes count r.code) (set places count p)
+            Scanned text (p + r.size) (count + 1) (set codes count r.code) (set places count p)
         scan_token b l =
             record {
               before = z.before ++ (token_at r.code p ∷ []);
@@ -136,27 +161,27 @@ module _ (signs : Bool) (text : List ℕ) (p : ℕ) (h : p < length text) where
                   z.places_are;
               reads =
                   λ ts s. rw append_assoc
-                  (z.reads (token_at r.code p ∷ ts) (steps_token rest b e c (onward s)));
-              stuck = λ q s. z.stuck q (stops_token rest b e c (onward_stuck s));
+                  (z.reads (token_at r.code p ∷ ts) (reads_token rest b taken (onward s)));
+              stuck = λ q s. z.stuck q (stuck_token rest b taken (onward_stuck s));
             }
           where
             onward :
                 {ts : List Token} →
-                Steps (step_by signs) (p + r.size) (drop (p + r.size) text) ts →
-                Steps (step_by signs) (p + r.size) (drop r.size (drop p text)) ts
-            onward s = rw (drop-drop r.size p text) s
+                Reads (p + r.size) (drop (p + r.size) text) ts →
+                Reads (p + length (take r.size (drop p text))) (drop r.size (drop p text)) ts
+            onward s = rw (step_right.fits c, drop-drop r.size p text) s
 
             onward_stuck :
                 {q : ℕ} →
-                Stops (step_by signs) (p + r.size) (drop (p + r.size) text) q →
-                Stops (step_by signs) (p + r.size) (drop r.size (drop p text)) q
-            onward_stuck s = rw (drop-drop r.size p text) s
+                Stuck (p + r.size) (drop (p + r.size) text) q →
+                Stuck (p + length (take r.size (drop p text))) (drop r.size (drop p text)) q
+            onward_stuck s = rw (step_right.fits c, drop-drop r.size p text) s
 
 pub scan-end :
-    (signs : Bool) (text : List ℕ) {p count : ℕ} {codes places : List ℕ} →
+    (text : List ℕ) {p count : ℕ} {codes places : List ℕ} →
     length text ≤ p →
-    Scanned signs text p count codes places →
-    ScanBy (step_by signs) text (record {
+    Scanned text p count codes places →
+    Scan text (record {
       refused = false;
       refusal = refusal 0 0;
       count = count;
@@ -164,6 +189,6 @@ pub scan-end :
       places = places;
     })
 unfolding made
-scan-end signs text {p} h z =
+scan-end text {p} h z =
     rw (z.count-is, z.codes_are, z.places_are)
     (whole z.before (rw append-nil at (z.reads [] (rw (drop_of_length-le text {i = p} h) done))))

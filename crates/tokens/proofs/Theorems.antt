@@ -2,7 +2,7 @@
 --   longest_token   where a token is taken, no longer token starts
 --   step_sound      the step that the code computes takes the token that is taken, or stops where none is
 --   step_complete_taken, step_complete_none   and it is the only one that does
---   reads_by_step, stuck_by_step, stuck_at_step   a text is read by such steps, up to where one stops
+--   reads_by_step   a text is read by such steps
 --   one_text        a text has tokens, or a place where its bytes form none, and not both; each is the only one
 --   one_reading     every text has one reading: its tokens, or one refusal of 1 to 4 at one place
 use mathlib.Core.Path.{◌≡◌, refl, ap, ◌∙◌}
@@ -19,7 +19,6 @@ use Rattle.token_steps.specs.Spelling.{IsToken}
 use Rattle.token_steps.specs.Taking.{Taken, NoToken}
 use Rattle.tokens.specs.Texts.{Token, token_at, Reads, Stuck}
 use Rattle.tokens.specs.Texts.Reads.{token}
-use Rattle.tokens.specs.Texts.Stuck.{token as token-then, here}
 use Rattle.token_steps.specs.Steps.{none, step, step_of}
 use Rattle.tokens.specs.Tokenizing.{Tokenized}
 use Rattle.token_steps.proofs.Right.{Right}
@@ -75,16 +74,6 @@ reads_by_step {b} {bs} {p} c n {ts} h e k r =
     let s = rw e at (right b bs) in
     let onward : Reads (p + length (take n (b ∷ bs))) (drop n (b ∷ bs)) ts = rw (s.fits k) r in
     token h (s.takes k) onward
-
-module _ {b : ℕ} {bs : List ℕ} {p : ℕ} (c n : ℕ) (h : is_blank_lem b ≡ false) (e : step_of (b ∷ bs) ≡ step c n) where
-  pub stuck_by_step : {q : ℕ} → (c ≡ none → ⊥) → Stuck (p + n) (drop n (b ∷ bs)) q → Stuck p (b ∷ bs) q
-  stuck_by_step {q} k r =
-      let s = rw e at (right b bs) in
-      let onward : Stuck (p + length (take n (b ∷ bs))) (drop n (b ∷ bs)) q = rw (s.fits k) r in
-      token-then h (s.takes k) onward
-
-  pub stuck_at_step : c ≡ none → Stuck p (b ∷ bs) (p + n)
-  stuck_at_step k = let s = rw e at (right b bs) in here h (s.stops k)
 
 pub record OneText (text : List ℕ) : Type 0 where
   pub some : Outcome 0 text

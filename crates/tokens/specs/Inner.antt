@@ -1,16 +1,29 @@
 -- What the inner functions ask of their callers, and what they give.
---   stopped_at          the refusal where bytes form no token
---   over_at             the first token behind which there are too many, of open brackets or of tokens counted
+--   stopped_at, Scan    the refusal where bytes form no token; the text's tokens, limits aside
+--   changed, over_at    brackets open or tokens counted behind a token; the first token behind which there are too many
 --   Counting           codes that can be counted
-use Rattle.std.specs.Prelude.{ℕ, suc, ◌≤◌, List, [], ◌∷◌, ltb, length, drop}
+use Rattle.std.specs.Prelude.{ℕ, suc, ◌≤◌, Bool, true, false, List, [], ◌∷◌, ltb, length, drop}
 use Rattle.basics.specs.Words.{if◌then◌else◌}
 use Rattle.basics.specs.declared.Refusal.{Refusal}
 use Rattle.basics.specs.Refusing.{refusal_over_lem}
+use Rattle.tokens.specs.declared.Tokens.{Tokens}
+use Rattle.tokens.specs.Texts.{Token, Reads, Stuck, opened, counted}
 use Rattle.tokens.specs.Extents.{to_blank_lem}
+use Rattle.tokens.specs.Tokenizing.{made, refused_by}
 
 -- 2 at a place, with the bytes up to the next blank or the end
 abbrev pub stopped_at : List ℕ → ℕ → Refusal
 stopped_at text p = refusal_over_lem 2 p (to_blank_lem (drop p text))
+
+-- the text's tokens, limits aside
+pub data Scan (text : List ℕ) : Tokens → Type 0 where
+  stopped : (q : ℕ) → Stuck 0 text q → Scan text (refused_by (stopped_at text q))
+  whole : (ts : List Token) → Reads 0 text ts → Scan text (made ts)
+
+-- what a token changes: the open brackets, or the counted tokens
+abbrev pub changed : Bool → ℕ → ℕ → ℕ
+changed true = opened
+changed false = counted
 
 pub record Counting (codes : List ℕ) (count limit : ℕ) : Type 0 where
   pub inside : count ≤ 4096

@@ -3,4 +3,3 @@ pub mod Texts
 pub mod Extents
 pub mod Tokenizing
 pub mod Inner
-pub mod Walking

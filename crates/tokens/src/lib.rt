@@ -1,21 +1,18 @@
-// A text into its tokens, or refused with 1, 2, 3 or 4. One function reads plain texts and descriptions (document 02,
-// [3]), in which five signs are tokens too.
+// A text into its tokens, or refused with 1, 2, 3 or 4.
 mod extents;
 mod limits;
-pub mod words;
 
 ghost use Rattle.std.specs.Prelude.{◌≡◌, ◌≤◌, length};
 ghost use Rattle.basics.specs.Refusing.{refusal};
-ghost use Rattle.tokens.specs.Inner.{stopped_at};
-ghost use Rattle.tokens.specs.Walking.{step_by, counted_by, ScanBy, ReadBy};
+ghost use Rattle.tokens.specs.Inner.{Scan, stopped_at};
 ghost use Rattle.tokens.specs.Tokenizing.{Tokenized, refused_by, zeros};
 
 use crate::extents::to_blank;
 use crate::limits::first_over;
-use crate::words::take_word;
 use basics::Refusal;
 use basics::refusing::{refusal_of, refusal_over};
 use token_steps::classes::is_blank;
+use token_steps::steps::take_token;
 
 // The tokens of a text: of the lists the first `count` entries, with zeros behind them. None where the text is refused.
 #[derive(Drop)]
@@ -27,20 +24,20 @@ pub struct Tokens {
     pub places: [u16; 4096],
 }
 
-pub fn no_codes() -> [u8; 4096]
+fn no_codes() -> [u8; 4096]
     ensures { result ≡ zeros }
 {
     [0u8; 4096]
 }
 
-pub fn no_places() -> [u16; 4096]
+fn no_places() -> [u16; 4096]
     ensures { result ≡ zeros }
 {
     [0u16; 4096]
 }
 
 // No tokens, but a refusal.
-pub fn hand_on(refusal: Refusal) -> Tokens
+fn hand_on(refusal: Refusal) -> Tokens
     ensures { result ≡ refused_by refusal }
 {
     let codes = no_codes();
@@ -55,14 +52,14 @@ pub fn hand_on(refusal: Refusal) -> Tokens
 }
 
 // 1, 3 and 4 show no bytes.
-pub fn refuse_text(number: u8, place: usize) -> Tokens
+fn refuse_text(number: u8, place: usize) -> Tokens
     ensures { result ≡ refused_by (refusal number place) }
 {
     hand_on(refusal_of(number, place))
 }
 
 // 2 shows the bytes up to the next blank or the end.
-pub fn refuse_bytes(text: &[u8], place: usize) -> Tokens
+fn refuse_bytes(text: &[u8], place: usize) -> Tokens
     requires { place ≤ length text.now }
     ensures { result ≡ refused_by (stopped_at text.now place) }
 {
@@ -70,9 +67,9 @@ pub fn refuse_bytes(text: &[u8], place: usize) -> Tokens
 }
 
 // The tokens of a text of at most 4,096 bytes, or refused with 2.
-fn scan(text: &[u8], signs: bool) -> Tokens
+fn scan(text: &[u8]) -> Tokens
     requires { length text.now ≤ 4096 }
-    ensures { ScanBy (step_by signs) text.now result }
+    ensures { Scan text.now result }
 {
     let mut codes = no_codes();
     let mut places = no_places();
@@ -83,7 +80,7 @@ fn scan(text: &[u8], signs: bool) -> Tokens
             at += 1;
             continue;
         }
-        let s = take_word(text, at, signs);
+        let s = take_token(text, at);
         let code = s.code;
         let size = s.size;
         if code == 255 {
@@ -103,15 +100,14 @@ fn scan(text: &[u8], signs: bool) -> Tokens
     }
 }
 
-// The tokens of a text, with signs or without them, or refused with 1, 2, 3 or 4, in this order, each over the whole
-// text before the next.
-pub fn read_with(text: &[u8], signs: bool) -> Tokens
-    ensures { ReadBy (step_by signs) (counted_by signs) text.now result }
+// The tokens of a text, or refused with 1, 2, 3 or 4, in this order, each over the whole text before the next.
+pub fn read_tokens(text: &[u8]) -> Tokens
+    ensures { Tokenized text.now result }
 {
     if 4096 < text.len() {
         return refuse_text(1, 4096);
     }
-    let tokens = scan(text, signs);
+    let tokens = scan(text);
     let refused = tokens.refused;
     if refused {
         return tokens;
@@ -119,20 +115,13 @@ pub fn read_with(text: &[u8], signs: bool) -> Tokens
     let count = tokens.count;
     let codes = tokens.codes;
     let places = tokens.places;
-    let deep = first_over(&codes, count, true, signs, 32);
+    let deep = first_over(&codes, count, true, 32);
     if deep < count {
         return refuse_text(3, places[deep] as usize);
     }
-    let many = first_over(&codes, count, false, signs, 256);
+    let many = first_over(&codes, count, false, 256);
     if many < count {
         return refuse_text(4, places[many] as usize);
     }
     tokens
-}
-
-// The tokens of a plain text.
-pub fn read_tokens(text: &[u8]) -> Tokens
-    ensures { Tokenized text.now result }
-{
-    read_with(text, false)
 }

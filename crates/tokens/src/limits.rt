@@ -1,12 +1,11 @@
 // The limits of a list of tokens: brackets open, and tokens counted.
 ghost use Rattle.std.specs.Prelude.{◌≡◌, ◌≤◌, take};
-ghost use Rattle.tokens.specs.Inner.{Counting, over_at};
-ghost use Rattle.tokens.specs.Walking.{changed};
+ghost use Rattle.tokens.specs.Inner.{Counting, changed, over_at};
 
-// How many brackets are open behind a token, or how many tokens are counted up to it. Signs are not counted.
-fn after(brackets: bool, signs: bool, code: u8, n: usize) -> usize
+// How many brackets are open behind a token, or how many tokens are counted up to it.
+fn after(brackets: bool, code: u8, n: usize) -> usize
     requires { n ≤ 4096 }
-    ensures { result ≡ changed brackets signs code n }
+    ensures { result ≡ changed brackets code n }
 {
     if brackets {
         if code == 62 {
@@ -20,12 +19,6 @@ fn after(brackets: bool, signs: bool, code: u8, n: usize) -> usize
         }
         return n;
     }
-    if 147 < code {
-        if signs {
-            return n;
-        }
-        return n + 1;
-    }
     if code < 61 {
         return n + 1;
     }
@@ -36,20 +29,14 @@ fn after(brackets: bool, signs: bool, code: u8, n: usize) -> usize
 }
 
 // The first token behind which the number is over the limit; `count` where there is none.
-pub fn first_over(
-    codes: &[u8; 4096],
-    count: usize,
-    brackets: bool,
-    signs: bool,
-    limit: usize,
-) -> usize
+pub fn first_over(codes: &[u8; 4096], count: usize, brackets: bool, limit: usize) -> usize
     requires { Counting codes.now count limit }
-    ensures { result ≡ over_at (changed brackets signs) limit 0 (take count codes.now) }
+    ensures { result ≡ over_at (changed brackets) limit 0 (take count codes.now) }
 {
     let mut n: usize = 0;
     let mut i: usize = 0;
     while i < count {
-        n = after(brackets, signs, codes[i], n);
+        n = after(brackets, codes[i], n);
         if limit < n {
             return i;
         }

@@ -1,5 +1,4 @@
 -- A word that is found byte by byte is the word of the line.
---   run_length, run_dense, run_split     the bytes of a word: how many, what they are, and what follows
 --   run_words      the words from a word on: it, and those behind it
 --   no_run         no word starts here, and so the line has none from here on
 --   Looking, looking_first, looking_next, looking_end     the first words are passed
@@ -19,7 +18,7 @@ use Rattle.trace_texts.specs.Finding.{is_solid_lem, from, Skips, Runs, Finds}
 use Rattle.trace_texts.proofs.Splitting.{Solid, Dense, dense, Off, first_ahead, ahead_off, dense_words}
 use Rattle.trace_texts.proofs.Steps.{step}
 
-pub solid_is : {b : ℕ} → is_solid_lem b ≡ true → Solid b
+solid_is : {b : ℕ} → is_solid_lem b ≡ true → Solid b
 unfolding is_solid_lem
 solid_is {b} h = go (eqb b 10) (is_blank_lem b) refl refl h
   where
@@ -79,14 +78,14 @@ at_line_end text {q} {r} l b h e = go (eqb (get_or text q 0) 10) refl
 
 -- a word that runs from q to r
 module _ (text : List ℕ) {q r : ℕ} (g : Runs text q r) where
-  abbrev pub bytes_here : List ℕ
+  abbrev bytes_here : List ℕ
   bytes_here = take (r - q) (drop q text)
 
-  pub run_length : length bytes_here ≡ r - q
+  run_length : length bytes_here ≡ r - q
   run_length =
       length-take-le (r - q) (drop q text) (omega (arith, length-drop q text, g.low, g.within))
 
-  pub run_dense : q < r → Dense bytes_here
+  run_dense : q < r → Dense bytes_here
   run_dense h =
       dense_of bytes_here (omega (arith, run_length))
       (all_by bytes_here
@@ -96,25 +95,23 @@ module _ (text : List ℕ) {q r : ℕ} (g : Runs text q r) where
       get_or-take (r - q) (drop q text) i 0 m ∙ get_or-drop q text i 0 in
       rw e (solid_is (g.solid (q + i) (omega arith) (omega arith)))))
 
-  pub run_split : drop q text ≡ bytes_here ++ drop r text
-  run_split =
-      let rest : drop (r - q) (drop q text) ≡ drop r text =
-      drop-drop (r - q) q text ∙ ap (λ (j : ℕ). drop j text) (place g.low) in
-      sym (take-append-drop (r - q) (drop q text)) ∙ ap (λ (l : List ℕ). bytes_here ++ l) rest
-    where
-      place : {q r : ℕ} → q ≤ r → q + (r - q) ≡ r
-      place h = omega arith
-
   pub run_words : q < r
       → from text q
       ≡ lines (line (word q bytes_here ∷ (from text r).first.words) (from text r).first.end) (from text r).rest
   unfolding from
   run_words h =
       let behind : q + length bytes_here ≡ r = omega (arith, run_length, g.low) in
-      ap (lines_from q) run_split
+      let rest : drop (r - q) (drop q text) ≡ drop r text =
+      drop-drop (r - q) q text ∙ ap (λ (j : ℕ). drop j text) (place g.low) in
+      let split : drop q text ≡ bytes_here ++ drop r text =
+      sym (take-append-drop (r - q) (drop q text)) ∙ ap (λ (l : List ℕ). bytes_here ++ l) rest in
+      ap (lines_from q) split
       ∙ (rw behind at
       (dense_words (run_dense h) q (drop r text)
       (rw (behind) (off_here text r g.behind))))
+    where
+      place : {q r : ℕ} → q ≤ r → q + (r - q) ≡ r
+      place h = omega arith
 
   -- no word starts here
   pub no_run : r ≡ q → (q < length text → is_blank_lem (get_or text q 0) ≡ false) → (from text q).first.words ≡ []

@@ -1,6 +1,5 @@
 -- A text that is made of words: its lines say these words.
 --   Solid, Dense              bytes of a word; a word, which has one byte at least
---   Off, Ahead, joins_off, joins_on     where the first word starts, and what a byte before it joins
 --   trail                     words, each behind a blank
 --   Laid, laid                the words behind a word, up to LF, and the lines behind that
 --   Spelt, spelt              a text of whole lines; the lines that say something are these
@@ -40,7 +39,7 @@ pub data Ahead (p : ℕ) : List Word → Type 0 where
   none : Ahead p []
   ahead : {w : Word} {ws : List Word} → p ≤ w.at → Ahead p (w ∷ ws)
 
-pub ahead_more : {p : ℕ} {ws : List Word} → Ahead (p + 1) ws → Ahead p ws
+ahead_more : {p : ℕ} {ws : List Word} → Ahead (p + 1) ws → Ahead p ws
 ahead_more none = none
 ahead_more (ahead {w = w} h) = ahead {w = w} (omega arith)
 
@@ -48,7 +47,7 @@ pub ahead_off : {p : ℕ} {ws : List Word} → Ahead (p + 1) ws → Off p ws
 ahead_off none = none
 ahead_off {p} (ahead {w = w} h) = off {w = w} (λ e. omega (arith, e, h))
 
-pub joins_ahead : (p b : ℕ) (ws : List Word) → Ahead p (joins p b ws)
+joins_ahead : (p b : ℕ) (ws : List Word) → Ahead p (joins p b ws)
 unfolding joins
 joins_ahead p b [] = ahead {w = word p (b ∷ [])} (omega arith)
 joins_ahead p b (w ∷ ws) = go (eqb w.at (p + 1))
@@ -80,12 +79,12 @@ solid_before : (p : ℕ) {b : ℕ} (x : Lines) → Solid b
 unfolding before
 solid_before p x s = rw (s.no_end, s.no_blank) refl
 
-pub joins_off : (p b : ℕ) {ws : List Word} → Off (p + 1) ws → joins p b ws ≡ word p (b ∷ []) ∷ ws
+joins_off : (p b : ℕ) {ws : List Word} → Off (p + 1) ws → joins p b ws ≡ word p (b ∷ []) ∷ ws
 unfolding joins
 joins_off p b none = refl
 joins_off p b (off {w = w} n) = rw (ne_eqb w.at (p + 1) n) refl
 
-pub joins_on : (p b : ℕ) (w : List ℕ) (ws : List Word)
+joins_on : (p b : ℕ) (w : List ℕ) (ws : List Word)
     → joins p b (word (p + 1) w ∷ ws) ≡ word p (b ∷ w) ∷ ws
 unfolding joins
 joins_on p b w ws = rw (eq-eqb (p + 1) (p + 1) refl) refl

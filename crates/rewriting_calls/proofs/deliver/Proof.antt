@@ -61,13 +61,13 @@ deliver-spec =
     let c10 = c8.before.before in let c12 = c10.before.before in
     let start = c12.before.before.before.before.before.before in (
       record {
-        ready = start.pre.ready;
+        ready = start.pre.0;
         steps_room = omega (arith, c12.lengths-of.ensures.alternatives_are, c10.if1.left);
         tests_room = omega (arith, c12.lengths-of.ensures.steps_are, c8.if2.left);
         edges_room = omega (arith, c12.lengths-of.ensures.tests_are, c6.if3.false);
         operands_room = omega (arith, c12.lengths-of.ensures.tests_are, c4.if4.false);
       },
-      start.pre,
+      start.pre.1,
     ))  -- fill_requires
     (λ c. search rules)  -- same-length
     (λ c. search rules)  -- same_length_2

@@ -7,10 +7,10 @@ use Rattle.kept_words.proofs.words.keep_words.Statement.{statement}
 use Rattle.kept_words.proofs.words.keep_words.Tie as tie
 
 abbrev invariant-loop : tie.invariant-loop
-invariant-loop ρ out end names kept₀ kind₀ good₀ i₀ kept kind good i = length kept ≡ length kept₀
+invariant-loop ρ out names kept₀ count kind₀ good₀ i₀ kept kind good i = length kept ≡ length kept₀
 
 abbrev decreases-loop : tie.decreases-loop
-decreases-loop ρ out end names kept₀ kind₀ good₀ i₀ kept kind good i = end - i
+decreases-loop ρ out names kept₀ count kind₀ good₀ i₀ kept kind good i = count - i
 
 pub keep-words-spec : {M : Type 1} → statement M
 keep-words-spec =
@@ -18,6 +18,7 @@ keep-words-spec =
     (tie.spec
     invariant-loop
     decreases-loop
+    (λ c κs. search rules)  -- arg-count-requires
     (λ c κs. search rules)  -- next-requires
     (λ c. search rules)  -- loop_holds
     (λ c κs. search rules)  -- take-requires

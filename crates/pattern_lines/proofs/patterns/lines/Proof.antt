@@ -1,6 +1,6 @@
--- `patterns::lines` stays within the text and ends: the measure is what is left of it.
-use Prim.Native.Nat.{◌-◌}
+-- `lines` stays within the text and ends: the measure is what is left of it.
 use borrow.Author.Rules.{rules}
+use Prim.Native.Nat.{◌-◌}
 use lib.ListN.{length}
 use Rattle.pattern_lines.proofs.patterns.lines.Statement.{statement}
 use Rattle.pattern_lines.proofs.patterns.lines.Tie as tie
@@ -18,8 +18,9 @@ lines-spec =
     invariant-loop
     decreases-loop
     (λ c. search rules)  -- loop_holds
-    (λ c κs. search rules)  -- gather-requires
-    (λ c κs. search rules)  -- say-texts-requires
+    (λ c κs. search rules)  -- line-at-requires
+    (λ c κs. search rules)  -- line-requires
+    (λ c κs. search rules)  -- behind-line-requires
     (λ c. search rules)  -- loop_less
     (λ c. search rules)  -- loop_again
     (λ c. search rules))  -- returns

@@ -24,22 +24,22 @@ stands_requires c κs =
     let l = turn.before.loop in
     record {
       inside = turn.before.before.before.requires;
-      byte = row_begins _ l.i l.invariant.1 c.row_of_lem.ensures turn.loop-test.true;
+      byte = row_begins _ l.i l.invariant.1 c.row_of.ensures turn.loop-test.true;
     }
 
 returns : tie.Need-returns invariant-loop decreases-loop
 returns c =
     let row = c.before.before.before in
     let turn = row.before in
-    find-hit _ turn.before.loop.i turn.before.loop.invariant.1 row.row_of_lem.ensures turn.loop-test.true
-    (sym c.before.if1.true ∙ c.before.before.stands.ensures) c.size_of.ensures
+    find-hit _ turn.before.loop.i turn.before.loop.invariant.1 row.row_of.ensures turn.loop-test.true
+    (sym c.before.if1.true ∙ c.before.before.stands.ensures) c.type_size.ensures
 
 loop_again : tie.Need-loop-preserved invariant-loop decreases-loop
 loop_again c =
     let row = c.before.before in
     let turn = row.before in (
       search rules,
-      find-miss _ turn.before.loop.i turn.before.loop.invariant.1 row.row_of_lem.ensures turn.loop-test.true
+      find-miss _ turn.before.loop.i turn.before.loop.invariant.1 row.row_of.ensures turn.loop-test.true
           (sym c.if1.false ∙ c.before.stands.ensures),
     )
 

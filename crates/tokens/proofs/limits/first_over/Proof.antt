@@ -5,20 +5,19 @@ use native.Mathlib.Omega.{arith}
 use mathlib.Core.Path.{◌≡◌}
 use Prim.Native.Nat.{◌≤◌, ◌+◌, ◌-◌}
 use lib.ListN.{take, drop}
-use Rattle.tokens.specs.Inner.{over_at}
-use Rattle.tokens.specs.Walking.{changed}
+use Rattle.tokens.specs.Inner.{changed, over_at}
 use Rattle.tokens.proofs.Counts.{over_hit, over_more, over_end}
 use Rattle.tokens.proofs.limits.first_over.Statement.{statement}
 use Rattle.tokens.proofs.limits.first_over.Tie as tie
 
 abbrev invariant-loop : tie.invariant-loop
-invariant-loop codes count brackets signs limit n₀ i₀ n i =
+invariant-loop codes count brackets limit n₀ i₀ n i =
     (i ≤ count) × (n ≤ limit) ×
-    (i + over_at (changed brackets signs) limit n (drop i (take count codes)) ≡
-    over_at (changed brackets signs) limit 0 (take count codes))
+    (i + over_at (changed brackets) limit n (drop i (take count codes)) ≡
+    over_at (changed brackets) limit 0 (take count codes))
 
 abbrev decreases-loop : tie.decreases-loop
-decreases-loop codes count brackets signs limit n₀ i₀ n i = count - i
+decreases-loop codes count brackets limit n₀ i₀ n i = count - i
 
 loop_holds : tie.Need-loop-init invariant-loop decreases-loop
 loop_holds c = (omega arith, omega arith, omega arith)

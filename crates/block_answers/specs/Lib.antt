@@ -1,0 +1,2 @@
+-- What filling the lists of all rows asks and promises.
+pub mod Filling

@@ -1,0 +1,70 @@
+// Rows pushed onto a queue, with their times.
+use crate::answers::matching;
+use crate::clocks::{kept_of, next_row, time_of};
+use alf::{RowNo, Rules, Stamp};
+use queue_calls::pushing::push;
+use run_printing::printing::{character, number, write};
+use run_printing::states::letter;
+use timed_queue::queues::{Queue, empty};
+
+// By the queue, one row after the other.
+pub fn by_queue(rules: Rules, names: usize, tree: &[u8], early: bool, states: &[u8]) {
+    if names == 0 {
+        return;
+    }
+    let mut queue = empty();
+    let mut row: usize = 0;
+    let mut at: usize = 0;
+    while names <= states.len() - at {
+        let next = at + names;
+        let time = Stamp(time_of(early, row));
+        let p = push(rules, names, tree, queue, time, &states[at..next]);
+        let found = p.told;
+        matching(found);
+        queue = p.queue;
+        row = next_row(row);
+        at = next;
+    }
+}
+
+// A queue that keeps so many rows, the first state as given, all others 0.
+fn queue_of(early: bool, kept: u32, first: u8) -> Queue {
+    let mut states = [0u8; 512];
+    states[0] = first;
+    let rows = queue::queues::Queue {
+        kept: RowNo(kept),
+        states,
+    };
+    let times = kept_of(early);
+    Queue { rows, times }
+}
+
+// How many rows a queue keeps, and its first state.
+fn show_queue(states: &[u8; 512], kept: u32) {
+    write(b", kept ");
+    number(kept as usize);
+    write(b" first ");
+    letter(states[0]);
+    character(b'\n');
+}
+
+// A push onto such a queue; then how many rows it keeps, and its first state.
+pub fn by_push(
+    rules: Rules,
+    names: usize,
+    tree: &[u8],
+    early: bool,
+    kept: u32,
+    first: u8,
+    row: &[u8],
+) {
+    let time = Stamp(time_of(early, kept as usize));
+    let p = push(rules, names, tree, queue_of(early, kept, first), time, row);
+    let found = p.told;
+    matching(found);
+    let left = p.queue;
+    let rows = left.rows;
+    let count = rows.kept;
+    let states = rows.states;
+    show_queue(&states, count.0);
+}

@@ -1,2 +1,0 @@
--- The law of words that are gathered.
-pub mod Gathering
