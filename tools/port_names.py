@@ -107,8 +107,16 @@ def gather(trees):
     print(f'{len(rows)} names')
 
 
-def turned(text, rows):
-    return TOKEN.sub(lambda m: m[0] if m['string'] else rows.get(m[0], m[0]), text)
+def turned(text, rows, rust):
+    def turn(m):
+        if m['string'] or m[0] not in rows:
+            return m[0]
+        # a function of src/ may have the name of a lemma that gives way: in a path and behind a dot it stays
+        if re.fullmatch(r'[a-z0-9_]+', m[0]) and (rust or text[m.start() - 1:m.start()] == '.'):
+            return m[0]
+        return rows[m[0]]
+
+    return TOKEN.sub(turn, text)
 
 
 def main(argv):
@@ -119,11 +127,7 @@ def main(argv):
     n = 0
     for p in texts(root, ('.antt', '.rt', '.edit')):
         old = read(p)
-        if p.endswith('.edit'):
-            # a line that quotes code is code: its strings stay
-            new = turned(old, rows)
-        else:
-            new = turned(old, rows)
+        new = turned(old, rows, p.endswith(('.rt', '.edit')))
         if new != old:
             with open(p, 'w', encoding='utf-8') as f:
                 f.write(new)

@@ -8,7 +8,7 @@ ghost use Rattle.answer_table.specs.Tables.{Rows, Column, Cell, Cells, SoFar, en
 
 use alf::Rules;
 use evaluator::values::state;
-use states::edges::{certainty_of, edge_on_lem, lesser};
+use states::edges::{certainty_of, edge_on, lesser};
 
 // The states of the expression that ends at `end`, at the rows first to first + size.
 pub fn column(
@@ -42,7 +42,7 @@ fn edge_over(k: u8, list: &[u8; 17], a: usize, b: usize) -> u8
     if b != next {
         return 0;
     }
-    edge_on_lem(k, list[a], list[b])
+    edge_on(k, list[a], list[b])
 }
 
 // A condition asked at one row more, where `low` is its answer so far.

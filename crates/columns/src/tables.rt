@@ -3,7 +3,7 @@ ghost use Rattle.std.specs.Prelude.{◌≡◌, ◌+◌, ◌≤◌, length};
 ghost use Rattle.columns.specs.Passes.{Over};
 ghost use Rattle.columns.specs.Columns.{table_at, TablesAsked, Tables};
 
-use states::edges::edge_on_lem;
+use states::edges::edge_on;
 
 // Edge k: entry 8 * before + after, from `base` on.
 fn put_table(k: u8, tables: &mut [u8], base: usize)
@@ -14,7 +14,7 @@ fn put_table(k: u8, tables: &mut [u8], base: usize)
     while q < 64 {
         let x = (q / 8) as u8;
         let y = (q % 8) as u8;
-        tables[base + q] = edge_on_lem(k, x, y);
+        tables[base + q] = edge_on(k, x, y);
         q += 1;
     }
 }

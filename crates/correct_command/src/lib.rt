@@ -3,14 +3,14 @@
 use alf::RowNo;
 use basics::{Outcome, Refusal};
 use complaints::{refused, refused_for};
-use letter_corrections::correcting::{correct_letters, row_number_lem};
+use letter_corrections::correcting::{correct_letters, row_number};
 use trace_saving::write_to;
 
 // The row that an argument names; one that is no row of any trace, where it names none.
 fn asked_row() -> RowNo {
     let mut word = io::buffer();
     let n = os::arg(3, &mut word);
-    let r = row_number_lem(&word[..n]);
+    let r = row_number(&word[..n]);
     if r < 65536 {
         return RowNo(r as u32);
     }

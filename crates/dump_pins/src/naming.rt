@@ -6,7 +6,7 @@ ghost use Rattle.dump_pins.specs.Naming.{NamingDue, Naming};
 
 use dump_names::joined::put_joined;
 use dump_names::slots::is_repeated;
-use names::is_name_lem;
+use names::is_name;
 
 // Writes a name behind the names of n scopes into slot k, and tells whether it is a name that no pin has.
 pub fn put_name(

@@ -6,7 +6,7 @@ use complaints::refused_text;
 use kept_texts::keeping::keep_text;
 use loading::files::Filled;
 use loading::patterns::fill_patterns;
-use names::is_name_lem;
+use names::is_name;
 use text_parts::lines::{behind_line, is_blank, kept as kept_bytes, line_at};
 use text_parts::parts::front;
 

@@ -104,7 +104,7 @@ fn go_on(n: usize, b: u8) -> usize
 }
 
 // The number that decimal digits are; 65,536 where there are none, where a byte is no digit, and where it is larger.
-pub fn row_number_lem(text: &[u8]) -> usize
+pub fn row_number(text: &[u8]) -> usize
     ensures { result ≡ row_number text.now }
 {
     if text.len() == 0 {

@@ -10,7 +10,7 @@ use alf::{Answer, Rules};
 use alternatives::walking::pass;
 use evaluator::ranks::name_of;
 use evaluator::values::state;
-use states::edges::{edge_on_lem, greater, lesser};
+use states::edges::{edge_on, greater, lesser};
 
 // What a row is told.
 #[derive(Drop)]
@@ -20,7 +20,7 @@ pub struct Matched {
 }
 
 // Edge k of the operand that ends at `end`, on the event from row a to row a + 1.
-pub fn test_at_lem(
+pub fn test_at(
     rules: Rules,
     tree: &[u8],
     names: usize,
@@ -35,7 +35,7 @@ pub fn test_at_lem(
 {
     let before = state(rules, tree, end, states, names, a);
     let after = state(rules, tree, end, states, names, a + 1);
-    edge_on_lem(k, before, after)
+    edge_on(k, before, after)
 }
 
 // The n tests from t on, on that event: the least of their answers.
@@ -59,7 +59,7 @@ pub fn step_at(
     while i < n {
         let k = edges[t + i];
         let end = operands[t + i] as usize;
-        least = lesser(least, test_at_lem(rules, tree, names, states, k, end, a));
+        least = lesser(least, test_at(rules, tree, names, states, k, end, a));
         i += 1;
     }
     least

@@ -28,7 +28,7 @@ pub fn goes_on_name(b: u8) -> bool
 }
 
 // Whether the bytes are a name.
-pub fn is_name_lem(s: &[u8]) -> bool
+pub fn is_name(s: &[u8]) -> bool
     ensures { result ≡ is_name s.now }
 {
     let n = s.len();

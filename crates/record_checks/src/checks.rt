@@ -7,7 +7,7 @@ ghost use Rattle.record_checks.specs.Steps.{NameStands, NewName, Above, GoesOn, 
 use crate::Cursor;
 use basics::Outcome;
 use basics::refusing::refuse;
-use names::is_name_lem;
+use names::is_name;
 use trace_format::Mark;
 use trace_format::parts::{byte_at, codes_to, mark_at, time_at, word_at};
 

@@ -35,8 +35,8 @@ use Rattle.jobs.proofs.sums.no_sums.Reads as no-sums-says
 use Rattle.jobs.proofs.sums.no_sums.Kinds as no-sums-kinds
 use Rattle.letter_corrections.proofs.correcting.correct_letters.Reads as correct-letters-says
 use Rattle.letter_corrections.proofs.correcting.correct_letters.Kinds as correct-letters-kinds
-use Rattle.letter_corrections.proofs.correcting.row_number_lem.Reads as row-number-says
-use Rattle.letter_corrections.proofs.correcting.row_number_lem.Kinds as row-number-kinds
+use Rattle.letter_corrections.proofs.correcting.row_number.Reads as row-number-says
+use Rattle.letter_corrections.proofs.correcting.row_number.Kinds as row-number-kinds
 use Rattle.alternative_listings.proofs.texts.alternatives_text.Reads as alternatives-text-says
 use Rattle.alternative_listings.proofs.texts.alternatives_text.Kinds as alternatives-text-kinds
 use Rattle.alternative_listings.proofs.write_alternatives.Reads as write-alternatives-says

@@ -67,7 +67,7 @@ pub fn ask(h: u8, s: u8) -> u8
 }
 
 // Edge k on the states before and after: 0 to 80 two halves, 81 `?!`, 82 `?-`.
-pub fn edge_on_lem(k: u8, x: u8, y: u8) -> u8
+pub fn edge_on(k: u8, x: u8, y: u8) -> u8
     requires { (x < 8) × (y < 8) }
     ensures { result ≡ edge_on (edge_at k) x y }
 {

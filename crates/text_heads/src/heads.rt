@@ -10,7 +10,7 @@ ghost use Rattle.text_heads.specs.Heads.{NamesIn, WordIs, HeadIn};
 
 use basics::Outcome;
 use basics::refusing::refuse;
-use names::is_name_lem;
+use names::is_name;
 use trace_texts::words::find_word;
 
 // The word `time`.

@@ -35,7 +35,7 @@ pub fn name_size(text: &[u8], at: usize) -> usize
 }
 
 // The half at byte `k` from `at` on: `'b` and its character, with no name byte right after it. 9 where there is none.
-fn half_at_lem(text: &[u8], at: usize, k: usize) -> u8
+fn half_at(text: &[u8], at: usize, k: usize) -> u8
     requires { Near text.now at (k + 3) }
     ensures { HalfAt (drop at text.now) k result }
 {
@@ -56,7 +56,7 @@ fn based(text: &[u8], at: usize) -> Step
     requires { at ≤ length text.now }
     ensures { result ≡ based_step (drop at text.now) }
 {
-    let f = half_at_lem(text, at, 0);
+    let f = half_at(text, at, 0);
     if f == 9 {
         return Step {
             code: NONE,
@@ -64,7 +64,7 @@ fn based(text: &[u8], at: usize) -> Step
         };
     }
     if peek(text, at, 3) == b'\'' {
-        let t = half_at_lem(text, at, 3);
+        let t = half_at(text, at, 3);
         if t == 9 {
             return Step {
                 code: NONE,

@@ -13,7 +13,7 @@ returns c =
     let start = after-name-len.before.before.before in
     fails
     (slot_unnamed _ _ start.requires
-    after-name-len.name-len.ensures after-is-name.is_name_lem.ensures (not-true _ c.if1.true))
+    after-name-len.name-len.ensures after-is-name.is_name.ensures (not-true _ c.if1.true))
 
 returns-2 : tie.Need-returns-2
 returns-2 c =
@@ -24,7 +24,7 @@ returns-2 c =
     fails
     (slot_unfilled _ _ start.requires
     after-name-len.name-len.ensures
-    after-is-name.is_name_lem.ensures _ after-all-zero.all-zero.ensures (not-true _ c.if2.true))
+    after-is-name.is_name.ensures _ after-all-zero.all-zero.ensures (not-true _ c.if2.true))
 
 returns_3 : tie.Need-returns-3
 returns_3 c =
@@ -36,7 +36,7 @@ returns_3 c =
     let start = after-name-len.before.before.before in
     slot_good _ _ start.requires
     after-name-len.name-len.ensures
-    after-is-name.is_name_lem.ensures _ after-all-zero.all-zero.ensures
+    after-is-name.is_name.ensures _ after-all-zero.all-zero.ensures
     (not-false _ after-if1.if1.false) (not-false _ after-if2.if2.false) _
     c.is-new.ensures
 

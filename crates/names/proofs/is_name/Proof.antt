@@ -8,8 +8,8 @@ use lib.ListN.{length, drop}
 use Rattle.basics.specs.Words.{all}
 use Rattle.alf.specs.Names.{goes_on_name, is_name}
 use Rattle.names.proofs.Names.{name_empty, name_long, name_start, name_rest, all_end, all_more, all-stop}
-use Rattle.names.proofs.is_name_lem.Statement.{statement}
-use Rattle.names.proofs.is_name_lem.Tie as tie
+use Rattle.names.proofs.is_name.Statement.{statement}
+use Rattle.names.proofs.is_name.Tie as tie
 
 abbrev invariant-loop : tie.invariant-loop
 invariant-loop s n i₀ i = (i ≤ n) × (n ≡ length s) × (is_name s ≡ all goes_on_name (drop i s))

@@ -17,4 +17,4 @@ edge-over-spec =
     (λ c κs. let s = c.before.before.before in (s.requires.codes _ (omega arith), s.requires.codes _ (omega arith)))
     (λ c.
     let i = c.before.before.before in
-    edge_one _ (entry i.before.args.list.now) _ _ i.if1.false c.edge_on_lem.ensures))
+    edge_one _ (entry i.before.args.list.now) _ _ i.if1.false c.edge_on.ensures))

@@ -33,6 +33,6 @@ put-table-spec =
     (λ c. omega arith)  -- add_q
     (λ c. omega arith)  -- loop_less
     (λ c. ruling_next 0 _ c.before.before.loop.invariant c.before.loop-test.true
-    (c.edge_on_lem.ensures ∙ rw zero-add refl))  -- loop_again
+    (c.edge_on.ensures ∙ rw zero-add refl))  -- loop_again
     (λ c. writing_length c.before.loop.invariant)  -- same-length
     (λ c. over_end c.before.loop.invariant c.loop-test.false))  -- returns

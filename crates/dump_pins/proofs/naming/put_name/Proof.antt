@@ -26,7 +26,7 @@ put-name-spec =
     let c4 = c1.before.before.before in
     let c7 = c4.before.before.before in
     let start = c7.before.before.before.before.before.before in
-    naming_none start.requires.few c7.put-joined.ensures c4.if1.false c1.is_name_lem.ensures
+    naming_none start.requires.few c7.put-joined.ensures c4.if1.false c1.is_name.ensures
     (not-true _ c.if2.true))  -- returns-2
     (λ c κs. search rules)  -- is-repeated-requires
     (λ c. search rules)  -- same_length_3
@@ -35,5 +35,5 @@ put-name-spec =
     let c6 = c3.before.before.before in
     let c9 = c6.before.before.before in
     let start = c9.before.before.before.before.before.before in
-    naming_told start.requires.few c9.put-joined.ensures c6.if1.false c3.is_name_lem.ensures
+    naming_told start.requires.few c9.put-joined.ensures c6.if1.false c3.is_name.ensures
     (not-false _ c2.if2.false) c.is-repeated.ensures))  -- returns_3

@@ -3,8 +3,8 @@ use native.Mathlib.Omega.{arith}
 use Prim.Native.Nat.{◌-◌}
 use lib.ListN.{length}
 use Rattle.letter_corrections.proofs.Decimals.{Numbering, going_first, going_next, going_end, none_number}
-use Rattle.letter_corrections.proofs.correcting.row_number_lem.Statement.{statement}
-use Rattle.letter_corrections.proofs.correcting.row_number_lem.Tie as tie
+use Rattle.letter_corrections.proofs.correcting.row_number.Statement.{statement}
+use Rattle.letter_corrections.proofs.correcting.row_number.Tie as tie
 
 abbrev invariant-loop : tie.invariant-loop
 invariant-loop text n₀ i₀ n i = Numbering text n i

@@ -38,7 +38,7 @@ loop_again c =
     let start = c5.before.before.before.before.before in
     rw c.lesser.ensures
     (asking_next start.requires _ c5.loop.invariant (omega arith) _
-    c.before.test_at_lem.ensures)
+    c.before.test_at.ensures)
 
 returns : tie.Need-returns invariant-loop decreases-loop
 returns c = asking_last c.before.loop.invariant c.loop-test.false

@@ -63,7 +63,7 @@ returns_5 c =
     after-if2.if2.false
     after-byte-at.byte_at.ensures
     after-if3.if3.false
-    after-if4.if4.false after-is-name.is_name_lem.ensures c.refuse5.ensures
+    after-if4.if4.false after-is-name.is_name.ensures c.refuse5.ensures
     (not-true _ after-if5.if5.true)
 
 is_new_requires : tie.Need-is-new-requires
@@ -96,7 +96,7 @@ returns_6 c =
     after-byte-at.byte_at.ensures
     after-if3.if3.false
     after-if4.if4.false
-    after-is-name.is_name_lem.ensures after-is-new.is-new.ensures c.refuse6.ensures
+    after-is-name.is_name.ensures after-is-new.is-new.ensures c.refuse6.ensures
     (not-true _ after-if6.if6.true)
 
 returns_7 : tie.Need-returns-7
@@ -115,7 +115,7 @@ returns_7 c =
     after-if2.if2.false
     after-byte-at.byte_at.ensures
     after-if3.if3.false
-    after-if4.if4.false after-is-name.is_name_lem.ensures
+    after-if4.if4.false after-is-name.is_name.ensures
     after-is-new.is-new.ensures (not-false _ after-if5.if5.false)
     (not-false _ c.if6.false)
 

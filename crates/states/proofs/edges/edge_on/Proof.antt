@@ -4,8 +4,8 @@ use mathlib.Core.Path.{refl}
 use Rattle.alf.specs.Windows.{edge_on}
 use Rattle.alf.proofs.EdgeNumbers.{edge_pair, edge_changes, edge_stays}
 use borrow.Author.Rules.{rules}
-use Rattle.states.proofs.edges.edge_on_lem.Statement.{statement}
-use Rattle.states.proofs.edges.edge_on_lem.Tie as tie
+use Rattle.states.proofs.edges.edge_on.Statement.{statement}
+use Rattle.states.proofs.edges.edge_on.Tie as tie
 
 ask-requires : tie.Need-ask-requires
 ask-requires c κs = search rules

@@ -20,7 +20,7 @@ pre c = c.before.before.before.before.before.before
 returns : tie.Need-returns invariant-loop decreases-loop
 returns c =
     let start = c.before.before.before.before in
-    not_named start.requires c.before.is_name_lem.ensures (not-true _ c.if1.true)
+    not_named start.requires c.before.is_name.ensures (not-true _ c.if1.true)
 
 returns-2 : tie.Need-returns-2 invariant-loop decreases-loop
 returns-2 c =
@@ -41,7 +41,7 @@ returns_3 : tie.Need-returns-3 invariant-loop decreases-loop
 returns_3 c =
     let turn = c.before in
     let named = turn.before.before in
-    new-all (pre turn).requires (turn.loop.invariant (pre turn).requires) c.loop-test.false named.before.is_name_lem.ensures
+    new-all (pre turn).requires (turn.loop.invariant (pre turn).requires) c.loop-test.false named.before.is_name.ensures
     (not-false _ named.if1.false)
 
 pub is-new-name-spec : {M : Type 1} → statement M

@@ -2,8 +2,8 @@
 use borrow.Author.Rules.{rules}
 use mathlib.Core.Path.{sym, ◌∙◌}
 use Rattle.token_steps.proofs.Halves.{no_quote, no_b, name_byte_lem, half}
-use Rattle.token_steps.proofs.steps.half_at_lem.Statement.{statement}
-use Rattle.token_steps.proofs.steps.half_at_lem.Tie as tie
+use Rattle.token_steps.proofs.steps.half_at.Statement.{statement}
+use Rattle.token_steps.proofs.steps.half_at.Tie as tie
 
 returns : tie.Need-returns
 returns c = no_quote _ _ c.before.peek.ensures c.if1.true
