@@ -17,6 +17,14 @@ WORD = re.compile(r"[^\s(){}\[\].;,@\"«»:]+")
 TOKEN = re.compile(r"(?P<string>b?\"(?:\\.|[^\"\\\n])*\")|(?P<word>[^\s(){}\[\].;,@\"«»:`]+)")
 
 
+# What port.py spelled in one file otherwise than in those that cite it.
+MENDS = {
+    'alf/specs/Expressions.antt': {'at_least_lem': 'is_at_least', 'at_most': 'is_at_most'},
+    'contradictions/specs/Calls.antt': {'field_own': 'own_at'},
+    'alternative_listings/specs/Calls.antt': {'field_own': 'own_at'},
+}
+
+
 def texts(root, ends=('.antt', '.rt')):
     for d, ds, fs in os.walk(os.path.join(root, 'crates')):
         ds[:] = sorted(x for x in ds if x != 'out')
@@ -112,7 +120,7 @@ def turned(text, rows, rust):
         if m['string'] or m[0] not in rows:
             return m[0]
         # a function of src/ may have the name of a lemma that gives way: in a path and behind a dot it stays
-        if re.fullmatch(r'[a-z0-9_]+', m[0]) and (rust or text[m.start() - 1:m.start()] == '.'):
+        if re.fullmatch(r'[a-z0-9_]+', m[0]) and m[0] not in ('field_own', 'at_most') and (rust or text[m.start() - 1:m.start()] == '.'):
             return m[0]
         return rows[m[0]]
 
@@ -127,7 +135,8 @@ def main(argv):
     n = 0
     for p in texts(root, ('.antt', '.rt', '.edit')):
         old = read(p)
-        new = turned(old, rows, p.endswith(('.rt', '.edit')))
+        mends = MENDS.get(os.path.relpath(p, os.path.join(root, 'crates')), {})
+        new = turned(old, {**rows, **mends}, p.endswith(('.rt', '.edit')))
         if new != old:
             with open(p, 'w', encoding='utf-8') as f:
                 f.write(new)

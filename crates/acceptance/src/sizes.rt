@@ -15,7 +15,7 @@ use alternatives::picking::How;
 use steady_pins::finding::find;
 
 // How many alternatives, the steps of the longest, the tests of the one with most.
-#[derive(Drop)]
+#[derive(Clone, Copy)]
 pub struct Size {
     pub alternatives: usize,
     pub steps: usize,
@@ -23,14 +23,14 @@ pub struct Size {
 }
 
 // Over limit 8, or within it.
-#[derive(Drop)]
+#[derive(Clone, Copy)]
 pub enum Measured {
     Over,
     Within(Size),
 }
 
 // The steps and the tests of an alternative; 65 stands for more than 64.
-#[derive(Drop)]
+#[derive(Clone, Copy)]
 pub struct Shape {
     pub steps: usize,
     pub tests: usize,
@@ -89,7 +89,7 @@ fn pin(x: Shape, n: usize) -> Shape
 }
 
 // Of a part of two, joined by `|`: the end of the operand that an alternative is from, and which one of it.
-#[derive(Drop)]
+#[derive(Clone, Copy)]
 pub struct Part {
     pub end: usize,
     pub t: usize,

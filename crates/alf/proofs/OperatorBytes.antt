@@ -11,7 +11,7 @@ use mathlib.Core.Bool.{true}
 use lib.Dec.{ltb, eqb}
 use borrow.Author.Tests.{lt-ltb, le-ltb, ltb-true, eqb-true}
 use Rattle.alf.specs.Expressions.{name, literal, binary, choice}
-use Rattle.alf.specs.Expressions.{Binary, and, or, xor, xnor, equals, differs, above, below, at_least_lem, at_most_lem}
+use Rattle.alf.specs.Expressions.{Binary, and, or, xor, xnor, equals, differs, above, below, is_at_least, is_at_most}
 use Rattle.alf.specs.Expressions.{Half, any, the, Edge, pair, changes, stays, edge, join}
 use Rattle.alf.specs.Expressions.{Join, followed-by, either_order, with-or-then, any_order, with, or_else}
 use Rattle.alf.specs.Expressions.{on-right, on-left, vector, HalfKnown, EdgeKnown}
@@ -103,8 +103,8 @@ binary_operation names equals = refl
 binary_operation names differs = refl
 binary_operation names above = refl
 binary_operation names below = refl
-binary_operation names at_least_lem = refl
-binary_operation names at_most_lem = refl
+binary_operation names is_at_least = refl
+binary_operation names is_at_most = refl
 
 pub join_operation : (names : ℕ) (j : Join) → operation_at names (join_byte j) ≡ of_vectors (join j)
 unfolding operation_at pair_at join_byte join_at

@@ -9,7 +9,7 @@
 --   Encodes                              these bytes are this expression, over a number of names
 use Rattle.std.specs.Prelude.{ℕ, ◌+◌, ◌*◌, min, ◌≡◌, List, [], ◌∷◌, ◌++◌}
 use Rattle.alf.specs.Expressions.{Boolean, name, literal, negated, binary, choice}
-use Rattle.alf.specs.Expressions.{Binary, and, or, xor, xnor, equals, differs, above, below, at_least_lem, at_most_lem}
+use Rattle.alf.specs.Expressions.{Binary, and, or, xor, xnor, equals, differs, above, below, is_at_least, is_at_most}
 use Rattle.alf.specs.Expressions.{Half, any, the, Edge, pair, changes, stays, Vector, edge, join, while}
 use Rattle.alf.specs.Expressions.{Join, followed-by, either_order, with-or-then, any_order, with, or_else}
 use Rattle.alf.specs.Expressions.{on-right, on-left, Expression, boolean, vector, ExpressionOver}
@@ -24,8 +24,8 @@ binary_byte equals = 44
 binary_byte differs = 45
 binary_byte above = 46
 binary_byte below = 47
-binary_byte at_least_lem = 48
-binary_byte at_most_lem = 49
+binary_byte is_at_least = 48
+binary_byte is_at_most = 49
 
 unfoldable pub join_byte : Join → ℕ
 join_byte followed-by = 50

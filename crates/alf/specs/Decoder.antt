@@ -8,7 +8,7 @@
 use Rattle.std.specs.Prelude.{ℕ, zero, suc, ◌-◌, ◌/◌, ◌%◌, Bool, true, false, ◌&&◌, ◌≡◌, List, [], ◌∷◌, eqb, ltb, get_or, length}
 use Rattle.basics.specs.Words.{if◌then◌else◌}
 use Rattle.alf.specs.Expressions.{Boolean, name, literal, negated, binary, choice}
-use Rattle.alf.specs.Expressions.{Binary, and, or, xor, xnor, equals, differs, above, below, at_least_lem, at_most_lem}
+use Rattle.alf.specs.Expressions.{Binary, and, or, xor, xnor, equals, differs, above, below, is_at_least, is_at_most}
 use Rattle.alf.specs.Expressions.{Half, any, the, Edge, pair, changes, stays, Vector, edge, join, while}
 use Rattle.alf.specs.Expressions.{Join, followed-by, either_order, with-or-then, any_order, with, or_else}
 use Rattle.alf.specs.Expressions.{Side, on-right, on-left, Expression, boolean, vector}
@@ -30,7 +30,7 @@ pub data Operation : Type 0 where
 
 unfoldable pub binary_at : ℕ → Binary
 binary_at k =
-    get_or (and ∷ or ∷ xor ∷ xnor ∷ equals ∷ differs ∷ above ∷ below ∷ at_least_lem ∷ at_most_lem ∷ []) k and
+    get_or (and ∷ or ∷ xor ∷ xnor ∷ equals ∷ differs ∷ above ∷ below ∷ is_at_least ∷ is_at_most ∷ []) k and
 
 unfoldable pub join_at : ℕ → Join
 join_at k = get_or (followed-by ∷ either_order ∷ with-or-then ∷ any_order ∷ with ∷ or_else ∷ []) k or_else

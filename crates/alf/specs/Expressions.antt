@@ -8,7 +8,7 @@ use Rattle.std.specs.Prelude.{ℕ, ◌<◌}
 
 -- operators of two booleans: & | ^ ~^ == != > < >= <=
 pub data Binary : Type 0 where
-  and or xor xnor equals differs above below at_least_lem at_most : Binary
+  and or xor xnor equals differs above below is_at_least is_at_most : Binary
 
 pub data Boolean : Type 0 where
   name : ℕ → Boolean

@@ -10,7 +10,7 @@ use Rattle.basics.specs.Words.{if◌then◌else◌}
 use Rattle.alf.specs.declared.Rules.{Rules}
 use Rattle.alf.specs.States.{X, reduce, not_of_lem, and_of, or_of, xor_of, xnor_of, relations, at_least, at_most}
 use Rattle.alf.specs.Expressions.{Boolean, name, literal, negated, binary, choice}
-use Rattle.alf.specs.Expressions.{Binary, and, or, xor, xnor, equals, differs, above, below, at_least_lem, at_most_lem}
+use Rattle.alf.specs.Expressions.{Binary, and, or, xor, xnor, equals, differs, above, below, is_at_least, is_at_most}
 
 -- an operator on two states
 unfoldable pub operate : Binary → ℕ → ℕ → ℕ
@@ -22,8 +22,8 @@ operate equals x y = (relations x y).equal
 operate differs x y = (relations x y).unequal
 operate above x y = (relations x y).greater
 operate below x y = (relations x y).less
-operate at_least_lem x y = at_least x y
-operate at_most_lem x y = at_most x y
+operate is_at_least x y = at_least x y
+operate is_at_most x y = at_most x y
 
 -- document 01's rules, and those of document 02, [9]
 abbrev pub old_rules_lem : Rules

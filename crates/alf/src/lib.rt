@@ -1,7 +1,9 @@
 // What every crate of the project speaks of: answers, sorts, rows and times, and the rules of evaluation.
+#![tactic(auto)]
+
 
 // What a row answers.
-#[derive(Drop)]
+#[derive(Clone, Copy)]
 pub enum Answer {
     No,
     Yes,
@@ -10,21 +12,21 @@ pub enum Answer {
 }
 
 // What an expression is.
-#[derive(Drop)]
+#[derive(Clone, Copy)]
 pub enum Sort {
     Boolean,
     Vector,
 }
 
 // A row number and a time stamp are two units.
-#[derive(Drop)]
+#[derive(Clone, Copy)]
 pub struct RowNo(pub u32);
 
-#[derive(Drop)]
+#[derive(Clone, Copy)]
 pub struct Stamp(pub u64);
 
 // Where a match began (document 02, [12]): a time, or none is given.
-#[derive(Drop)]
+#[derive(Clone, Copy)]
 pub enum Began {
     At(Stamp),
     Nowhere,
@@ -32,7 +34,7 @@ pub enum Began {
 
 // The rules that every call which evaluates takes, held fixed through a trace and its corrections.
 #[repr(C)]
-#[derive(Drop)]
+#[derive(Clone, Copy)]
 pub struct Rules {
     // The value of `c ? a : b` where c is unknown: the branches' value if it is the same, or X always.
     pub equal_branches: bool,

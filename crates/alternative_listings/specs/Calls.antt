@@ -1,7 +1,7 @@
 -- What `write_alternatives` comes to: 18 and 12 for the names, 10 for a tree that acceptance's `Accepted` refuses, 9
 -- where the text is longer than the lent buffer; else the text stands at the buffer's front. Besides, how many tests
 -- are shown as `...`. The expression is as the rules read it (document 02, [2]): with its steady pins, or without.
---   field_own, tally          the alternatives of a tree's expression; how many of their tests have no text
+--   own_at, tally          the alternatives of a tree's expression; how many of their tests have no text
 --   listing_at             the alternatives of a tree's expression, and their text
 --   order                 the refusals in their order
 --   WritesAlternatives    what the call comes to
@@ -25,11 +25,11 @@ use Rattle.alternative_lines.specs.Listing.{listing}
 use Rattle.alternative_texts.specs.Texts.{untold}
 
 -- the alternatives of the expression that a tree is, as the rules read it, and their text
-abbrev pub field_own : Rules → List ℕ → List ℕ → List Alternative
-field_own ρ names tree = alternatives (meant ρ (vector_at tree (names_in names) (length tree)))
+abbrev pub own_at : Rules → List ℕ → List ℕ → List Alternative
+own_at ρ names tree = alternatives (meant ρ (vector_at tree (names_in names) (length tree)))
 
 unfoldable pub listing_at : Rules → List ℕ → List ℕ → List ℕ
-listing_at ρ names tree = listing names (field_own ρ names tree)
+listing_at ρ names tree = listing names (own_at ρ names tree)
 
 -- 18, 12, 10, 9
 unfoldable pub order : Rules → List ℕ → List ℕ → ℕ → Order
@@ -48,7 +48,7 @@ tally n (Refused r) = 0
 pub record WritesAlternatives (ρ : Rules) (names tree out out' : List ℕ) (r : Lines) : Type 0 where
   pub outcome : Comes (order ρ names tree (length out)) (λ k. k ≡ length (listing_at ρ names tree)) r.written
   pub memory : out' ≡ after (front (listing_at ρ names tree) out) out r.written
-  pub untold_are : r.untold ≡ tally (untold names (field_own ρ names tree)) r.written
+  pub untold_are : r.untold ≡ tally (untold names (own_at ρ names tree)) r.written
 
 -- The end of the call, where the text is w and n tests are shown as `...`: 9, or done.
 pub record DeliversLines (w : List ℕ) (n : ℕ) (out out' : List ℕ) (r : Lines) : Type 0 where

@@ -1,4 +1,6 @@
 // The listing of a pattern's alternatives, from a tree to its text; `texts` goes from a text.
+#![tactic(auto)]
+
 pub mod texts;
 
 ghost use Rattle.std.specs.Prelude.{◌≡◌, length};
@@ -25,7 +27,7 @@ use names::check_names;
 use rewriting::lists::alternatives_of;
 
 // What comes of a listing, and how many tests are shown in it as `...`.
-#[derive(Drop)]
+#[derive(Clone, Copy)]
 pub struct Lines {
     pub written: Outcome,
     pub untold: usize,

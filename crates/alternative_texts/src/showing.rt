@@ -19,7 +19,7 @@ use trees::parts::start_of;
 use writer::write_expression;
 
 // How many bytes a test's text has, and 1 where that is `...`.
-#[derive(Drop)]
+#[derive(Clone, Copy)]
 pub struct Shown {
     pub size: usize,
     pub untold: usize,

@@ -4,7 +4,7 @@ ghost use Rattle.alf.specs.Decoder.{join_at};
 ghost use Rattle.alternatives.specs.Picks.{Picking, PickingOn, Picked};
 
 // How an alternative is put together from one of the left operand and one of the right.
-#[derive(Drop)]
+#[derive(Clone, Copy)]
 pub enum How {
     Left,
     Right,
@@ -14,7 +14,7 @@ pub enum How {
 }
 
 // Which two, and how.
-#[derive(Drop)]
+#[derive(Clone, Copy)]
 pub struct Pick {
     pub how: How,
     pub left: usize,

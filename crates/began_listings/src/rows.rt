@@ -17,7 +17,7 @@ use matcher::answers::match_row;
 use matcher::tables::number_of;
 
 // How many bytes the lines of some rows have, and how many of these rows answer yes, no and unknown.
-#[derive(Drop)]
+#[derive(Clone, Copy)]
 pub struct Sums {
     pub size: usize,
     pub yes: u64,

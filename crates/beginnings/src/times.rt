@@ -10,7 +10,7 @@ use matcher::answers::Matched;
 use matcher::tables::number_of;
 
 // What a row is told, with the time where its match began.
-#[derive(Drop)]
+#[derive(Clone, Copy)]
 pub struct Dated {
     pub answer: Answer,
     pub tries: u32,

@@ -2,6 +2,8 @@
 // whole or not at all. Which pins a text names, and the overwritten trace, are made by calls of the library; that the
 // table of these patterns is the same on it is a theorem (blanking/proofs/BlankedTables). The words of the command are
 // in `kept_words`. Here is what is told of the pins.
+#![tactic(auto)]
+
 mod pins;
 
 use crate::pins::tell_pins;

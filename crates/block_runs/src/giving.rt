@@ -8,7 +8,7 @@ use right_sides::cells::evaluate;
 use triggers::ask;
 
 // The mode behind a part, and the row of inputs that right sides read.
-#[derive(Drop)]
+#[derive(Clone, Copy)]
 pub struct Going {
     pub mode: u8,
     pub read: usize,

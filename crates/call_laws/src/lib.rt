@@ -1,1 +1,3 @@
 // What the calls promise together: nothing but proofs.
+#![tactic(auto)]
+

@@ -1,2 +1,4 @@
 // The tallies of several trees on one trace.
+#![tactic(auto)]
+
 pub mod counting;

@@ -1,4 +1,6 @@
 // The changes of a row as a call: the set of changed variables and how many they are, or refused with 18, 15, 19.
+#![tactic(auto)]
+
 ghost use Rattle.basics.specs.Deciding.{Decides};
 ghost use Rattle.changes.specs.Call.{Lists, Inside, RowSet, RowChanged};
 
@@ -9,7 +11,7 @@ use states::changes::{Changes, changes_of};
 use states::codes::first_bad_code;
 
 // The changes of a row, or a refusal.
-#[derive(Drop)]
+#[derive(Clone, Copy)]
 pub enum RowChanges {
     Changed(Changes),
     Refused(Refusal),

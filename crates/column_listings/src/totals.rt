@@ -10,7 +10,7 @@ use basics::puts::put;
 use figures::numbers::{put_decimal_then, width_of};
 
 // How many answers are yes, no and unknown.
-#[derive(Drop)]
+#[derive(Clone, Copy)]
 pub struct Tally {
     pub yes: u64,
     pub no: u64,

@@ -1,6 +1,8 @@
 // What the program complains of, in plain words: refusals with their number and place, and words that it does not
 // know. It is proved to be safe and to end; no contract can say what is written. A refusal in one of many lines is in
 // `in_lines`.
+#![tactic(auto)]
+
 pub mod in_lines;
 
 use basics::Refusal;

@@ -1,3 +1,5 @@
 // Which alternatives of a tree are contradictory.
+#![tactic(auto)]
+
 pub mod possible;
 pub mod reports;

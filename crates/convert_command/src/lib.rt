@@ -1,6 +1,8 @@
 // The command `convert`: a trace written to a file as a trace or as a value change dump. The dump is made by a call of
 // the library; that it is read as the trace again is a theorem (dump_laws/proofs/Theorems). Here is how the file is to
 // be written: as its name's ending says, or the words `--to`.
+#![tactic(auto)]
+
 mod saving;
 
 use crate::saving::write_dump;

@@ -1,5 +1,7 @@
 // The command `correct`: the trace with one row's states replaced, written whole or not at all. The row is stored and
 // the file is made by calls of the library.
+#![tactic(auto)]
+
 use alf::RowNo;
 use basics::{Outcome, Refusal};
 use complaints::{refused, refused_for};

@@ -1,5 +1,7 @@
 // The library for C: the public calls under plain names, `include/dachsmond.h` declares them. A call hands on to the
 // crate that has it and tells what came of it in numbers (`telling`). Lent memory is a pointer and a length.
+#![tactic(auto)]
+
 pub mod changing;
 pub mod files;
 pub mod listed;

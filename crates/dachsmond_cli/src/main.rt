@@ -1,5 +1,7 @@
 // Dachsmond, the program: counts patterns of pin events in a trace. Here are the commands, their arguments, files and
 // complaints; `words` has the words. What is printed of an answer is made by one call of the library.
+#![tactic(auto)]
+
 mod began;
 mod blanked;
 mod lists;
@@ -46,7 +48,7 @@ const STEADY: usize = 1;
 
 // How a command is asked: the rules of reading and evaluation, the argument that names the trace, or the text for
 // `make`, and the first one behind it.
-#[derive(Drop)]
+#[derive(Clone, Copy)]
 struct Asked {
     rules: Rules,
     trace: usize,

@@ -1,4 +1,6 @@
 // A read description run on a trace (document 02, [3]), and a correction of a row with the outputs redone from it on.
+#![tactic(auto)]
+
 ghost use Rattle.description_calls.specs.Calls.{Runnable, Ran, Correctable, Corrected};
 
 use alf::Rules;

@@ -1,4 +1,6 @@
 // The frame of a description: whether its tokens have one, and the expressions in it.
+#![tactic(auto)]
+
 mod machine;
 mod part_steps;
 
@@ -10,7 +12,7 @@ use crate::part_steps::{end_at, start_of, what_opens};
 use tokens::{no_codes, no_places};
 
 // Whether there is a frame; else the place of 20.
-#[derive(Drop)]
+#[derive(Clone, Copy)]
 pub struct Framing {
     pub framed: bool,
     pub place: usize,
@@ -18,7 +20,7 @@ pub struct Framing {
 
 // The parts of a frame, of the lists the first `count` entries: 0 a trigger behind `@`, 1 a trigger behind `:`, 2 a
 // right side; the first token of each, and the token that ends it.
-#[derive(Drop)]
+#[derive(Clone, Copy)]
 pub struct Parts {
     pub count: usize,
     pub whats: [u8; 4096],

@@ -3,7 +3,7 @@ ghost use Rattle.std.specs.Prelude.{◌≡◌, [], ◌≤◌, ◌<◌, get_or};
 ghost use Rattle.description_frames.specs.Coded.{moves, Placed, Stepped, Outside, Moved, Ready, Deeper};
 
 // Where the machine is: a number, and how many brackets are open in the expression.
-#[derive(Drop)]
+#[derive(Clone, Copy)]
 pub struct At {
     pub state: u8,
     pub depth: usize,

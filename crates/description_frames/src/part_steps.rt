@@ -3,7 +3,7 @@ ghost use Rattle.std.specs.Prelude.{◌<◌};
 ghost use Rattle.description_frames.specs.Framing.{Ends, Keeps, Opens, Carried};
 
 // Whether a part ends, 1 or 0, and what it is.
-#[derive(Drop)]
+#[derive(Clone, Copy)]
 pub struct Ending {
     pub more: usize,
     pub what: u8,

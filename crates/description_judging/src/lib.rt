@@ -1,5 +1,7 @@
 // Whether a text is a description over a list of input names (document 02, [3]), or by which row it is refused, and at
 // which place: 18 12 1 2 3 4 20 5 6 7 21 8, each over the whole description before the next.
+#![tactic(auto)]
+
 ghost use Rattle.std.specs.Prelude.{◌++◌};
 ghost use Rattle.alf.specs.Refusals.{Passed};
 ghost use Rattle.names.specs.Check.{names_order};

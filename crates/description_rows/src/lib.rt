@@ -1,4 +1,6 @@
 // 5 6 7 21 8 of a description (document 02, [3]), each over all its expressions before the next.
+#![tactic(auto)]
+
 ghost use Rattle.description_rows.specs.Ruling.{Ruled, later_order, rows_order, LaterAsked, RowsAsked};
 
 use alf::Rules;
@@ -8,7 +10,7 @@ use part_sorts::first_fault;
 use part_trees::first_stuck;
 
 // Whether some row is given: its number, and the place.
-#[derive(Drop)]
+#[derive(Clone, Copy)]
 pub struct Ruling {
     pub found: bool,
     pub number: u8,

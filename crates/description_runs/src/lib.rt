@@ -1,4 +1,6 @@
 // The outputs of a read description at all rows of a trace (document 02, [3]), and after a correction.
+#![tactic(auto)]
+
 ghost use Rattle.std.specs.Prelude.{◌≡◌, ◌*◌, replicate};
 ghost use Rattle.description_runs.specs.Running.{RowAsked, RowGiven, Storing, Stored};
 ghost use Rattle.description_runs.specs.Running.{StoredFrom, Running, RanFrom};

@@ -1,4 +1,6 @@
 // A description into its tokens, or refused with 1, 2, 3 or 4 (document 02, [3]): the token reader, with `@ { } = ;`.
+#![tactic(auto)]
+
 pub mod steps;
 
 ghost use Rattle.description_tokens.specs.Worded.{Worded};

@@ -1,1 +1,3 @@
 // A text is a description or is refused. Nothing but proofs.
+#![tactic(auto)]
+

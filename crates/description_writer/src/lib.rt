@@ -1,4 +1,6 @@
 // The tokens of a description, written out in one layout.
+#![tactic(auto)]
+
 pub mod words;
 
 ghost use Rattle.description_writer.specs.Inner.{Tokened, Laid, Filled, Delivered};

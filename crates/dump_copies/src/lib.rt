@@ -1,4 +1,6 @@
 // Value change dumps: the second pass over the second part of a dump, which writes times and states.
+#![tactic(auto)]
+
 
 pub mod puts;
 mod rows;

@@ -1,4 +1,6 @@
 // Value change dumps: the first part of a dump, word by word.
+#![tactic(auto)]
+
 pub mod definitions;
 pub mod variables;
 
@@ -8,7 +10,7 @@ use basics::Refusal;
 // of these, from the outermost on, are the first of the path; whether the scope chosen has been met; how many pins
 // there are, and how many variables were passed over. Of the variable that is declared: whether its kind is real,
 // whether it is a pin, where its code starts and ends, where its name stands.
-#[derive(Drop)]
+#[derive(Clone, Copy)]
 pub struct Seen {
     pub mode: u8,
     pub depth: usize,
@@ -24,7 +26,7 @@ pub struct Seen {
 }
 
 // What a word comes to.
-#[derive(Drop)]
+#[derive(Clone, Copy)]
 pub enum Step {
     Goes(Seen),
     Refused(Refusal),

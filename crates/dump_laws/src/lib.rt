@@ -1,1 +1,3 @@
 // What writing and reading a value change dump mean together: nothing but proofs.
+#![tactic(auto)]
+

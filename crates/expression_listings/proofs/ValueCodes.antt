@@ -10,7 +10,7 @@ use Rattle.alf.specs.declared.Rules.{Rules}
 use Rattle.alf.specs.States.{reduce, rank, ranked, not_of_lem, and_of, or_of, xor_of, xnor_of, relations, at_least, at_most}
 use Rattle.alf.specs.States.{table, among, matches, in_cells, in_lines}
 use Rattle.alf.specs.Expressions.{Boolean, name, literal, negated, binary, choice, Over}
-use Rattle.alf.specs.Expressions.{Binary, and, or, xor, xnor, equals, differs, above, below, at_least_lem, at_most_lem}
+use Rattle.alf.specs.Expressions.{Binary, and, or, xor, xnor, equals, differs, above, below, is_at_least, is_at_most}
 use Rattle.alf.specs.Values.{operate, unresolved, chosen, value, recorded_or}
 use Rattle.basics.proofs.Choices.{every, every_at}
 use Rattle.basics.proofs.Tables.{codes}
@@ -35,8 +35,8 @@ operators equals = refl
 operators differs = refl
 operators above = refl
 operators below = refl
-operators at_least_lem = refl
-operators at_most_lem = refl
+operators is_at_least = refl
+operators is_at_most = refl
 
 not_code : (s : ℕ) → s < 8 → not_of_lem s < 8
 unfolding every codes not_of_lem reduce

@@ -1,4 +1,6 @@
 // A description into tokens that have a frame, or refused with 1, 2, 3, 4 or 20 (document 02, [3]).
+#![tactic(auto)]
+
 ghost use Rattle.std.specs.Prelude.{◌≡◌, ◌≤◌, length};
 ghost use Rattle.tokens.specs.Tokenizing.{refused_by};
 ghost use Rattle.frame_reader.specs.FramedTexts.{refused_at, FramedText};

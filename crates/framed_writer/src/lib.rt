@@ -1,4 +1,6 @@
 // A description with a frame, written out in one layout, whatever its names and sorts are.
+#![tactic(auto)]
+
 ghost use Rattle.description_writer.specs.Writing.{Writes};
 ghost use Rattle.frame_reader.specs.FramedTexts.{framed_order};
 

@@ -4,7 +4,7 @@ ghost use Rattle.std.specs.Prelude.{◌+◌, ◌*◌, ◌<◌, ◌≡◌, length
 ghost use Rattle.gathered_lists.specs.Marks.{mark_at_lem, MarkAsked, Marking, Marked, SpanAsked, SpanIs};
 
 // Where the lists of a tree start and end.
-#[derive(Drop)]
+#[derive(Clone, Copy)]
 pub struct Span {
     pub steps: usize,
     pub steps_end: usize,

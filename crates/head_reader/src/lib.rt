@@ -1,11 +1,13 @@
 // Value change dumps: the first part of a dump, whole.
+#![tactic(auto)]
+
 pub mod heads;
 
 use basics::Refusal;
 
 // What the first part of a dump says: how many pins and variables passed over, whether a scope is chosen, whether it
 // was met, where the second part starts.
-#[derive(Drop)]
+#[derive(Clone, Copy)]
 pub struct Head {
     pub pins: usize,
     pub passed: usize,
@@ -15,7 +17,7 @@ pub struct Head {
 }
 
 // What reading the first part comes to.
-#[derive(Drop)]
+#[derive(Clone, Copy)]
 pub enum Heading {
     Read(Head),
     Refused(Refusal),

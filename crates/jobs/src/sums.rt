@@ -7,7 +7,7 @@ use matching_calls::matching::Counting;
 use table_lines::lines::Sums;
 
 // The sums with one pattern more; or a sum would be 2^64 or more.
-#[derive(Drop)]
+#[derive(Clone, Copy)]
 pub enum Adding {
     Added(Sums),
     Full,

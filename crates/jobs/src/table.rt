@@ -9,7 +9,7 @@ use matching_calls::matching::Counting;
 use table_lines::lines::{write_line, write_refused};
 
 // What is counted of a pattern, and what came of writing its line.
-#[derive(Drop)]
+#[derive(Clone, Copy)]
 pub struct Line {
     pub counted: Counting,
     pub written: Outcome,

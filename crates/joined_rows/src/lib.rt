@@ -1,5 +1,7 @@
 // Two lists of rows as one: in each row the entries of the one, and behind them those of the other. So a trace gets
 // more names.
+#![tactic(auto)]
+
 ghost use Rattle.std.specs.Prelude.{◌++◌};
 ghost use Rattle.basics.specs.Deciding.{Decides};
 ghost use Rattle.basics.specs.Memory.{Room, Put};

@@ -14,7 +14,7 @@ use basics::refusing::refusal_of;
 use states::codes::first_bad_of_many;
 
 // Whether a call is refused.
-#[derive(Drop)]
+#[derive(Clone, Copy)]
 pub enum Verdict {
     Good,
     Refused(Refusal),

@@ -16,7 +16,7 @@ const PIN: usize = 2;
 const MORE: usize = 3;
 
 // What the next word is, and whether nothing was complained of so far.
-#[derive(Drop)]
+#[derive(Clone, Copy)]
 struct Way {
     kind: usize,
     good: bool,

@@ -1,4 +1,6 @@
 // Refusal 6 of a description (document 02, [3]): the first name that its expression may not name.
+#![tactic(auto)]
+
 ghost use Rattle.descriptions.specs.Described.{OfFrame, unlisted};
 ghost use Rattle.laid_parts.specs.Laid.{Told};
 ghost use Rattle.known_names.specs.Known.{PartRoom, Asked, AskedOf, Finding};

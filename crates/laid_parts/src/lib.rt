@@ -1,6 +1,8 @@
 // The answer of a check that asks for one row of the table.
 // Whether the row is given, and at which place.
-#[derive(Drop)]
+#![tactic(auto)]
+
+#[derive(Clone, Copy)]
 pub struct Fault {
     pub found: bool,
     pub place: usize,

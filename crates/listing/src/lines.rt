@@ -9,7 +9,7 @@ use basics::puts::{push, put};
 use figures::numbers::{put_decimal_then, width_of};
 
 // What a listing tells of each row: the answer of a pattern, or the value of an expression.
-#[derive(Drop)]
+#[derive(Clone, Copy)]
 pub enum Column {
     Answers,
     Values,

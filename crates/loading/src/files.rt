@@ -12,7 +12,7 @@ fn open(path: &[u8]) -> i32 {
 }
 
 // What was read, to the end of the input or as much as there is room; or a read failed, and errno says why.
-#[derive(Drop)]
+#[derive(Clone, Copy)]
 pub enum Filled {
     Bytes(usize),
     Failed,

@@ -7,7 +7,7 @@ use trace_reader::Reading;
 use trace_reader::read::read_trace;
 
 // How many names and rows the trace has that was loaded; no names where there is none, and then it was complained of.
-#[derive(Drop)]
+#[derive(Clone, Copy)]
 pub struct Loaded {
     pub names: usize,
     pub rows: usize,

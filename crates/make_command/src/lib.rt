@@ -1,6 +1,8 @@
 // The command `make`: the trace of a text that has the form of what `show` prints. The text is read by a call of the
 // library; here are the file, the longest text that is read, and complaints with the line. That a text which `show`
 // printed is read as the trace that it showed is a theorem (trace_text_laws/proofs/Inverse).
+#![tactic(auto)]
+
 mod spots;
 
 use crate::spots::spot_of;

@@ -4,7 +4,7 @@ ghost use Rattle.std.specs.Prelude.{◌≤◌, length};
 use text_parts::parts::find;
 
 // A line counted from 1, where it starts in the text, and a byte of the line counted from 0.
-#[derive(Drop)]
+#[derive(Clone, Copy)]
 pub struct Spot {
     pub line: usize,
     pub start: usize,

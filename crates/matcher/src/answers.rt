@@ -13,7 +13,7 @@ use evaluator::values::state;
 use states::edges::{edge_on, greater, lesser};
 
 // What a row is told.
-#[derive(Drop)]
+#[derive(Clone, Copy)]
 pub struct Matched {
     pub answer: Answer,
     pub tries: u32,

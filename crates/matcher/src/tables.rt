@@ -12,7 +12,7 @@ use crate::answers::match_row;
 use alf::{Answer, Rules};
 
 // How often each answer is given.
-#[derive(Drop)]
+#[derive(Clone, Copy)]
 pub struct Total {
     pub yes: u32,
     pub no: u32,

@@ -13,14 +13,14 @@ use matcher::tables::Total;
 use rewriting::lists::alternatives_of;
 
 // A row's answer, the number of alternatives tried and the time where the match began, or a refusal.
-#[derive(Drop)]
+#[derive(Clone, Copy)]
 pub enum Matching {
     Found(Dated),
     Refused(Refusal),
 }
 
 // How often each answer is given, or a refusal.
-#[derive(Drop)]
+#[derive(Clone, Copy)]
 pub enum Counting {
     Counted(Total),
     Refused(Refusal),

@@ -1,5 +1,7 @@
 // Runs of the calls over rows: table T by all three routes, corrections, and each refusal at its boundary. The cases
 // come from standard input, one a line; its first lines say how a case is written.
+#![tactic(auto)]
+
 mod cases;
 
 use libc::STDIN_FILENO;

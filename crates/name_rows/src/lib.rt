@@ -1,4 +1,6 @@
 // 6 and 21 of a description (document 02, [3]), in arrays of their own.
+#![tactic(auto)]
+
 ghost use Rattle.std.specs.Prelude.{◌≡◌};
 ghost use Rattle.descriptions.specs.Described.{OfFrame, unlisted, bad_output, BadOutput};
 ghost use Rattle.laid_parts.specs.Laid.{Told};

@@ -12,7 +12,7 @@ use lib.Dec.{eqb}
 use borrow.Author.Tests.{eq-eqb, ne_eqb}
 use Rattle.basics.proofs.Bools.{equal?}
 use Rattle.alf.specs.Expressions.{Boolean, name, literal, negated, binary, choice, Vector, edge, join, while}
-use Rattle.alf.specs.Expressions.{Binary, and, or, xor, xnor, equals, differs, above, below, at_least_lem, at_most_lem}
+use Rattle.alf.specs.Expressions.{Binary, and, or, xor, xnor, equals, differs, above, below, is_at_least, is_at_most}
 use Rattle.alf.specs.Expressions.{Join, followed-by, either_order, with-or-then, any_order, with, or_else}
 use Rattle.alf.specs.Expressions.{on-right, on-left, Expression, boolean, vector}
 use Rattle.alf.specs.Bytes.{binary_byte, join_byte, edge_number, boolean_bytes, vector_bytes, bytes_of}
@@ -57,8 +57,8 @@ binary_far equals = omega arith
 binary_far differs = omega arith
 binary_far above = omega arith
 binary_far below = omega arith
-binary_far at_least_lem = omega arith
-binary_far at_most_lem = omega arith
+binary_far is_at_least = omega arith
+binary_far is_at_most = omega arith
 
 join_far : (j : Join) → 32 ≤ join_byte j
 unfolding join_byte

@@ -1,4 +1,6 @@
 // The check of a list of names that every call makes that is handed one: slots of 32 bytes, refusals 18 and 12.
+#![tactic(auto)]
+
 ghost use Rattle.std.specs.Prelude.{◌≡◌, ◌+◌, ◌*◌, ◌/◌, ◌<◌, ◌≤◌, length};
 ghost use Rattle.alf.specs.Names.{starts_name, goes_on_name, is_name, until_zero, GoodSlot};
 ghost use Rattle.basics.specs.Deciding.{Decides};

@@ -1,5 +1,7 @@
 // Refusal 21 of a description (document 02, [3]): an output name that is also an input, or twice in one clause, or a
 // 33rd output.
+#![tactic(auto)]
+
 ghost use Rattle.descriptions.specs.Described.{OfFrame, bad_output, BadOutput};
 ghost use Rattle.laid_parts.specs.Laid.{Told};
 ghost use Rattle.output_checks.specs.Checks.{NameSeeing, NameSeen, PartSeeing, PartSeen, Finding};
@@ -9,7 +11,7 @@ use output_names::{add_output, left_of};
 use sorting::lookup::slot_of;
 
 // Whether a name is bad, and where it stands; how many names there are in the clause, and in all.
-#[derive(Drop)]
+#[derive(Clone, Copy)]
 pub struct Seen {
     pub bad: bool,
     pub place: usize,

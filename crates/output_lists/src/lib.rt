@@ -1,4 +1,6 @@
 // The outputs of a description in a list: the names at the left of `=`, each where it stands first.
+#![tactic(auto)]
+
 ghost use Rattle.output_lists.specs.Lists.{Collecting, Collected};
 
 use output_names::add_part;

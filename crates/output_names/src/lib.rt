@@ -1,4 +1,6 @@
 // The outputs of a description: the names at the left of `=` in slots, each where it stands first.
+#![tactic(auto)]
+
 ghost use Rattle.std.specs.Prelude.{◌≡◌, ◌-◌, get_or};
 ghost use Rattle.alf.specs.Names.{slot_of};
 ghost use Rattle.sorting.specs.Lookup.{word};

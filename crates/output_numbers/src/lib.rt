@@ -1,1 +1,3 @@
 // The numbers of a description's outputs. Nothing but proofs.
+#![tactic(auto)]
+

@@ -2,6 +2,8 @@
 // expression goes on. `parser_levels` has a function for each level of the operators, `parser_steps` their single
 // steps.
 // A parser goes by codes alone. What it writes are numbers of tokens; codes and places are looked up at the end.
+#![tactic(auto)]
+
 ghost use Rattle.std.specs.Prelude.{◌≡◌, take, get_or};
 ghost use Rattle.grammar.specs.Answers.{handed, Handed, place_at, accepted, refused_at, Answer};
 ghost use Rattle.parser.specs.Inner.{Given, Finished, Full};

@@ -1,4 +1,6 @@
 // Refusal 8 of a description (document 02, [3]): whether some vector trigger, alone, is over the limits.
+#![tactic(auto)]
+
 ghost use Rattle.std.specs.Prelude.{◌≡◌};
 ghost use Rattle.alf.specs.Alternatives.{alternatives, over_limit};
 ghost use Rattle.alf.specs.Steady.{meant};

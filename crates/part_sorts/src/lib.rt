@@ -1,4 +1,6 @@
 // Refusal 7 of a description (document 02, [3]): its expressions, sorted one after the other.
+#![tactic(auto)]
+
 ghost use Rattle.descriptions.specs.Described.{OfTrees};
 ghost use Rattle.laid_parts.specs.Laid.{Told};
 ghost use Rattle.part_sorts.specs.Sorting.{PartSortable, PartSorted, PartTold, Sortable, fault_row};

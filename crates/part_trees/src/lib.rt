@@ -1,4 +1,6 @@
 // Refusal 5 of a description (document 02, [3]): its expressions, parsed one after the other.
+#![tactic(auto)]
+
 ghost use Rattle.std.specs.Prelude.{get_or};
 ghost use Rattle.grammar.specs.Answers.{Answer};
 ghost use Rattle.descriptions.specs.Described.{OfFrame, ungrammatical};

@@ -5,7 +5,7 @@ use text_parts::lines::line_of;
 
 // By which rules; which argument names the scope of a dump, or 0; which argument is the command, which is the trace,
 // and which is the first word behind that; and where the words end.
-#[derive(Drop)]
+#[derive(Clone, Copy)]
 pub struct Asked {
     pub rules: Rules,
     pub scope: usize,

@@ -1,2 +1,4 @@
 // The queue: rows come one after the other.
+#![tactic(auto)]
+
 pub mod queues;

@@ -11,14 +11,14 @@ use matcher::answers::match_row;
 
 // The rows kept, at most 16 of at most 32 names, oldest first; `kept` is how many they are, which is the row number of
 // the next row in what is kept.
-#[derive(Drop)]
+#[derive(Clone, Copy)]
 pub struct Queue {
     pub kept: RowNo,
     pub states: [u8; 512],
 }
 
 // What a push comes to.
-#[derive(Drop)]
+#[derive(Clone, Copy)]
 pub struct Pushed {
     pub answer: Answer,
     pub tries: u32,

@@ -25,7 +25,7 @@ use states::codes::first_bad_code;
 use timed_queue::queues::{Pushed, Queue};
 
 // What a push comes to, and the queue then; refused, it is the queue that was handed in.
-#[derive(Drop)]
+#[derive(Clone, Copy)]
 pub struct Pushing {
     pub told: Matching,
     pub queue: Queue,

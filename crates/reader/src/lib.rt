@@ -1,4 +1,6 @@
 // Reading an expression: from a text to a tree, or refused.
+#![tactic(auto)]
+
 ghost use Rattle.std.specs.Prelude.{◌≡◌, ◌≤◌, length};
 ghost use Rattle.alf.specs.Refusals.{Passed};
 ghost use Rattle.names.specs.Check.{names_order};
@@ -23,7 +25,7 @@ use token_steps::steps::take_token;
 use tokens::{Tokens, read_tokens};
 
 // What is read: the first `len` entries of `tree`, with zeros behind them. None where the text is refused.
-#[derive(Drop)]
+#[derive(Clone, Copy)]
 pub struct Read {
     pub refused: bool,
     pub refusal: Refusal,

@@ -1,9 +1,11 @@
 // Trace files: the record where a cursor stands is checked, and the cursor goes on.
+#![tactic(auto)]
+
 pub mod checks;
 pub mod rows;
 
 // How far a file is read: the place of the next record, the names and rows before it, the last row's time.
-#[derive(Drop)]
+#[derive(Clone, Copy)]
 pub struct Cursor {
     pub place: usize,
     pub names: usize,

@@ -1,2 +1,4 @@
 // Trace files: what the records of a good file hold is copied out.
+#![tactic(auto)]
+
 pub mod copies;

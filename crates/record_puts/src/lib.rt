@@ -1,2 +1,4 @@
 // Trace files: a record is written.
+#![tactic(auto)]
+
 pub mod puts;

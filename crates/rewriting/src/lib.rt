@@ -1,2 +1,4 @@
 // The alternatives of a tree, written into four lists.
+#![tactic(auto)]
+
 pub mod lists;

@@ -12,7 +12,7 @@ use steady_pins::finding::find;
 use step_tests::steps::put_step;
 
 // How many entries the lists have: alternatives, steps of all of them, tests of all those.
-#[derive(Drop)]
+#[derive(Clone, Copy)]
 pub struct Lengths {
     pub alternatives: usize,
     pub steps: usize,
@@ -20,7 +20,7 @@ pub struct Lengths {
 }
 
 // The lists of a tree, and how many of their entries are in use; zeros stand behind those.
-#[derive(Drop)]
+#[derive(Clone, Copy)]
 pub struct Alternatives {
     pub count: usize,
     pub step_count: usize,

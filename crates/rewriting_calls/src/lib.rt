@@ -1,4 +1,6 @@
 // The call `rewrite`: the alternatives of a tree, written into lent lists, or a refusal.
+#![tactic(auto)]
+
 ghost use Rattle.std.specs.Prelude.{◌≡◌, length};
 ghost use Rattle.alf.specs.Refusals.{NameCount};
 ghost use Rattle.basics.specs.Deciding.{Decides};

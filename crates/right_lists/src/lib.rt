@@ -1,4 +1,6 @@
 // The bytes of a right side (document 02, [3]), behind those of the right sides before it.
+#![tactic(auto)]
+
 ghost use Rattle.std.specs.Prelude.{◌≡◌};
 ghost use Rattle.basics.specs.Memory.{Put};
 ghost use Rattle.sorting.specs.Lookup.{number_at};

@@ -11,7 +11,7 @@ use lib.ListN.{get_or}
 use borrow.Author.Tests.{lt-ltb, le-ltb}
 use Rattle.basics.proofs.Bools.{below?}
 use Rattle.alf.specs.Expressions.{Boolean, name, literal, negated, binary, choice, Over}
-use Rattle.alf.specs.Expressions.{Binary, and, or, xor, xnor, equals, differs, above, below, at_least_lem, at_most_lem}
+use Rattle.alf.specs.Expressions.{Binary, and, or, xor, xnor, equals, differs, above, below, is_at_least, is_at_most}
 use Rattle.alf.specs.Bytes.{binary_byte}
 use Rattle.alf.specs.Decoder.{binary_at}
 use Rattle.right_sides.specs.RightSides.{name_byte, RightAt, at_name, at_literal, at_negated, at_binary, at_choice}
@@ -31,8 +31,8 @@ operator_byte equals = record { is = refl; first = omega arith; last = omega ari
 operator_byte differs = record { is = refl; first = omega arith; last = omega arith }
 operator_byte above = record { is = refl; first = omega arith; last = omega arith }
 operator_byte below = record { is = refl; first = omega arith; last = omega arith }
-operator_byte at_least_lem = record { is = refl; first = omega arith; last = omega arith }
-operator_byte at_most_lem = record { is = refl; first = omega arith; last = omega arith }
+operator_byte is_at_least = record { is = refl; first = omega arith; last = omega arith }
+operator_byte is_at_most = record { is = refl; first = omega arith; last = omega arith }
 
 pub right_pos : {bytes : List ℕ} {inputs s t : ℕ} {e : Boolean} → RightAt bytes inputs s t e → s < t
 right_pos (at_name h p) = omega arith

@@ -7,7 +7,7 @@ use evaluator::operators::{choose, operated};
 use states::states::{not_of, reduced};
 
 // An expression's state and value, and where its bytes start.
-#[derive(Drop)]
+#[derive(Clone, Copy)]
 pub struct Cell {
     pub state: u8,
     pub value: u8,

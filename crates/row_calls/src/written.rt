@@ -6,7 +6,7 @@ use basics::{Outcome, Refusal};
 use judging::checks::{Verdict, check_row, check_rows};
 
 // A row's answer, or a refusal.
-#[derive(Drop)]
+#[derive(Clone, Copy)]
 pub enum Told {
     Answered(Answer),
     Refused(Refusal),

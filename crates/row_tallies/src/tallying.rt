@@ -12,7 +12,7 @@ use matcher::answers::match_row;
 use matcher::tables::number_of;
 
 // How often each answer is given, and the sum of the numbers tried.
-#[derive(Drop)]
+#[derive(Clone, Copy)]
 pub struct Tally {
     pub yes: u32,
     pub no: u32,

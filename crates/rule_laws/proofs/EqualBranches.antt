@@ -13,7 +13,7 @@ use Rattle.alf.specs.declared.Rules.{Rules}
 use Rattle.alf.specs.States.{X, reduce, rank, ranked, not_of_lem, and_of, or_of, xor_of, xnor_of, table, among, matches}
 use Rattle.alf.specs.States.{in_cells, in_lines, relations}
 use Rattle.alf.specs.Expressions.{Boolean, name, literal, negated, binary, choice}
-use Rattle.alf.specs.Expressions.{Binary, and, or, xor, xnor, equals, differs, above, below, at_least_lem, at_most_lem}
+use Rattle.alf.specs.Expressions.{Binary, and, or, xor, xnor, equals, differs, above, below, is_at_least, is_at_most}
 use Rattle.alf.specs.Values.{old_rules_lem, new_rules, operate, unresolved, chosen, value, recorded_or, state}
 use Rattle.basics.proofs.Bools.{never, and_left, and_right, or_yes}
 use Rattle.rule_laws.specs.Ternaries.{plain, is_relation, apart}
@@ -220,8 +220,8 @@ module _ (row : ℕ → ℕ) where
       go differs k = alike k (operate differs)
       go above k = alike k (operate above)
       go below k = alike k (operate below)
-      go at_least_lem k = alike k (operate at_least_lem)
-      go at_most_lem k = alike k (operate at_most_lem)
+      go is_at_least k = alike k (operate is_at_least)
+      go is_at_most k = alike k (operate is_at_most)
 
   pub value_resolved : (e : Boolean) → apart e ≡ true → Resolved (value old_rules_lem row e) (value new_rules row e)
   unfolding value state apart

@@ -5,7 +5,7 @@
 use Rattle.std.specs.Prelude.{ℕ, Bool, true, false, ◌&&◌, ◌||◌}
 use Rattle.basics.specs.Words.{if◌then◌else◌}
 use Rattle.alf.specs.Expressions.{Boolean, name, literal, negated, binary, choice}
-use Rattle.alf.specs.Expressions.{Binary, and, or, xor, xnor, equals, differs, above, below, at_least_lem, at_most_lem}
+use Rattle.alf.specs.Expressions.{Binary, and, or, xor, xnor, equals, differs, above, below, is_at_least, is_at_most}
 use Rattle.alf.specs.Expressions.{Half, any, the, Edge, pair, changes, stays, Vector, edge, join, while}
 use Rattle.alf.specs.Windows.{is_digit}
 
@@ -27,8 +27,8 @@ is_relation equals = true
 is_relation differs = true
 is_relation above = true
 is_relation below = true
-is_relation at_least_lem = true
-is_relation at_most_lem = true
+is_relation is_at_least = true
+is_relation is_at_most = true
 
 unfoldable pub apart : Boolean → Bool
 apart (name i) = true

@@ -1,5 +1,7 @@
 // The times of the rows of a case: those of table T, and tens behind them. A line whose kind stands behind a `-` gives
 // row 1 the time of row 0, and one behind a `+` has a time too many.
+#![tactic(auto)]
+
 ghost use Rattle.std.specs.Prelude.{◌≤◌};
 
 use run_words::lists::least;

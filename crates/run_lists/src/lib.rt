@@ -1,5 +1,7 @@
 // The calls that write lists, as a line of `matching_runs` asks for them, and what they come to. The lists that are
 // lent are copies of a line's. All are proved to be safe and to end.
+#![tactic(auto)]
+
 ghost use Rattle.std.specs.Prelude.{◌≤◌};
 
 use alf::{RowNo, Rules};

@@ -1,4 +1,6 @@
 // Rows pushed onto a queue, with their times.
+#![tactic(auto)]
+
 use alf::{RowNo, Rules, Stamp};
 use queue_calls::pushing::push;
 use run_calls::answers::matching;

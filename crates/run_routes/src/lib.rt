@@ -1,6 +1,8 @@
 // The calls that write no list, as a line of `matching_runs` asks for them: at a row, at all rows one by one, by the
 // queue, the totals, a push. Words 1 to 5 of a line are the names, the rows, the states, the row and the new row; the
 // times of the rows are those of `run_calls`. All are proved to be safe and to end.
+#![tactic(auto)]
+
 use alf::{RowNo, Rules};
 use matching_calls::matching::totals;
 use run_calls::answers::counting;

@@ -1,5 +1,7 @@
 // What the calls that write lists come to, printed: what they return, and the lists afterwards.
 // All are proved to be safe and to end.
+#![tactic(auto)]
+
 use alf::Rules;
 use basics::Outcome;
 use run_printing::printing::{character, number, outcome, write};

@@ -1,5 +1,7 @@
 // The call that gives all values of an expression, as a line of `matching_runs` asks for it, and what it comes to. The
 // list that is lent is a copy of a line's. All is proved to be safe and to end.
+#![tactic(auto)]
+
 use alf::Rules;
 use basics::Outcome;
 use row_calls::written::values;

@@ -6,14 +6,14 @@ use crate::ends::{behind_end, is_scalar};
 use dump_words::finding::next_word;
 use dump_words::keywords::definition_word;
 
-#[derive(Drop)]
+#[derive(Clone, Copy)]
 pub struct Counts {
     pub scalars: usize,
     pub others: usize,
 }
 
 // How many scopes further in the next definition stands, what is counted so far, and whether the scope has ended.
-#[derive(Drop)]
+#[derive(Clone, Copy)]
 pub struct Counted {
     pub depth: usize,
     pub scalars: usize,

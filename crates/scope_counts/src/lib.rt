@@ -1,3 +1,5 @@
 // How many variables a dump declares directly in a scope.
+#![tactic(auto)]
+
 pub mod counts;
 pub mod ends;

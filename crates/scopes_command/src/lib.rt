@@ -2,6 +2,8 @@
 // `--scope` takes it, how many scalars are declared directly in it, and how many other variables. That the file is a
 // dump is asked of the library first, and the counts are those of `scope_counts`. The rest is proved to be safe and to
 // end.
+#![tactic(auto)]
+
 mod listing;
 mod words;
 

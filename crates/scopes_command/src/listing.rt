@@ -12,7 +12,7 @@ use scope_counts::ends::behind_end;
 const DEEPEST: usize = 64;
 
 // The names of the open scopes as places in the file, and how many are open.
-#[derive(Drop)]
+#[derive(Clone, Copy)]
 struct Open {
     starts: [usize; 64],
     ends: [usize; 64],

@@ -1,6 +1,8 @@
 // The command `show`: the trace as a table that tells of each row which pins changed. The text is made by a call of the
 // library, for 1,000 rows at a time; here it is printed. That what the calls write, one after the other, is the listing
 // of the whole trace is a theorem (activity/proofs/Parts).
+#![tactic(auto)]
+
 ghost use Rattle.std.specs.Prelude.{◌≡◌, ◌+◌, ◌<◌, min};
 
 use activity::texts::activity_part;

@@ -8,7 +8,7 @@ use crate::lookup::slot_of;
 
 // Where the pass is: whether it goes on, or the place where it stopped; the sorts of `depth` expressions, true for a
 // vector; `len` bytes.
-#[derive(Drop)]
+#[derive(Clone, Copy)]
 pub struct Sorting {
     pub ok: bool,
     pub place: usize,

@@ -1,4 +1,6 @@
 // The letters of the states, in either case, and their codes.
+#![tactic(auto)]
+
 ghost use Rattle.std.specs.Prelude.{◌≡◌};
 ghost use Rattle.state_letters.specs.Letters.{state_of};
 

@@ -3,7 +3,7 @@ ghost use Rattle.std.specs.Prelude.{◌≡◌, min};
 ghost use Rattle.states.specs.Comparing.{compared, Compared, differing};
 ghost use Rattle.alf.specs.Traces.{mask};
 
-#[derive(Drop)]
+#[derive(Clone, Copy)]
 pub struct Changes {
     pub mask: u32,
     pub many: u32,

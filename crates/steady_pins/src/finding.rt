@@ -14,14 +14,14 @@ use trees::parts::start_of;
 
 // What is beside a part of a chain of `->`: for each name the place of an operand that is this name, in the row of
 // steps next to the part, or 0; and whether all of those steps change.
-#[derive(Drop)]
+#[derive(Clone, Copy)]
 pub struct Beside {
     pub places: [u8; 32],
     pub changing: bool,
 }
 
 // The run of steps that the walk is in: what is beside the next step, and how many rows are those of its steps.
-#[derive(Drop)]
+#[derive(Clone, Copy)]
 pub struct Run {
     pub beside: Beside,
     pub many: usize,

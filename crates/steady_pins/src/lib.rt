@@ -3,6 +3,8 @@
 //   settling   rows of the table: a step's own, and those of a run's steps, once more is known of what comes after
 //   finding    the walk from left to right, and the pins of each step
 //   counting   how many pins a part has
+#![tactic(auto)]
+
 pub mod counting;
 pub mod finding;
 pub mod settling;

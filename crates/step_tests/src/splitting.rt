@@ -5,7 +5,7 @@ ghost use Rattle.step_tests.specs.Steps.{Behind, Split, in_turn};
 use alternatives::picking::How;
 
 // A step of the left one and a step of the right one; a number that is no step's stands for none.
-#[derive(Drop)]
+#[derive(Clone, Copy)]
 pub struct Two {
     pub left: usize,
     pub right: usize,

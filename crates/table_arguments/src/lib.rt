@@ -1,2 +1,4 @@
 // The words of the command `table`.
+#![tactic(auto)]
+
 pub mod arguments;

@@ -1,5 +1,7 @@
 // The command `table`: the heading, the lines of the patterns that the command's words and files name, and the totals.
 // Without a command the table of a small built-in trace, as a first look.
+#![tactic(auto)]
+
 use alf::Rules;
 use console::output::say;
 use jobs::sums::no_sums;

@@ -113,7 +113,7 @@ pub fn write_refused(pattern: &[u8], refusal: Refusal, out: &mut [u8]) -> Outcom
 }
 
 // What the patterns of a table come to together.
-#[derive(Drop)]
+#[derive(Clone, Copy)]
 pub struct Sums {
     pub yes: u64,
     pub unknown: u64,

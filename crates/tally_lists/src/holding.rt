@@ -12,7 +12,7 @@ use judging::checks::Verdict;
 use row_tallies::tallying::Tally;
 
 // What came of the call, and the counts: yes, no, unknown and tries of each tree.
-#[derive(Drop)]
+#[derive(Clone, Copy)]
 pub struct Cell {
     pub outcome: Outcome,
     pub counts: [u32; 256],

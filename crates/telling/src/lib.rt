@@ -1,5 +1,7 @@
 // What C is told of a call, in numbers, since an enum cannot cross to C: the types that `include/dachsmond.h` declares,
 // and each kind of result as one of them. Number 0 is done; another is document 01's number of the refusal.
+#![tactic(auto)]
+
 pub mod matching;
 pub mod outcomes;
 pub mod rows;
@@ -7,7 +9,7 @@ pub mod texts;
 
 // What came of a call: refused with a number at a place, or done, with a count of what it made.
 #[repr(C)]
-#[derive(Drop)]
+#[derive(Clone, Copy)]
 pub struct Told {
     pub number: u8,
     pub place: usize,
@@ -17,7 +19,7 @@ pub struct Told {
 // What came of reading an expression: refused, with how many bytes from the place on are refused; or the first `len`
 // entries of `tree`, with zeros behind them.
 #[repr(C)]
-#[derive(Drop)]
+#[derive(Clone, Copy)]
 pub struct Expression {
     pub number: u8,
     pub place: usize,
@@ -28,7 +30,7 @@ pub struct Expression {
 
 // What came of reading a trace: refused, or how many names and rows.
 #[repr(C)]
-#[derive(Drop)]
+#[derive(Clone, Copy)]
 pub struct Trace {
     pub number: u8,
     pub place: usize,
@@ -38,7 +40,7 @@ pub struct Trace {
 
 // The changes of a row: refused, or the set of changed variables and how many they are.
 #[repr(C)]
-#[derive(Drop)]
+#[derive(Clone, Copy)]
 pub struct Changed {
     pub number: u8,
     pub place: usize,
@@ -48,7 +50,7 @@ pub struct Changed {
 
 // The answer at a row: refused, or document 01's number of it, 0 no, 1 yes, 2 unknown, 3 no event.
 #[repr(C)]
-#[derive(Drop)]
+#[derive(Clone, Copy)]
 pub struct Answered {
     pub number: u8,
     pub place: usize,
@@ -58,7 +60,7 @@ pub struct Answered {
 // The same, the number of alternatives tried, and the time where the match began: `given` is 1 where there is one, and
 // else both are 0.
 #[repr(C)]
-#[derive(Drop)]
+#[derive(Clone, Copy)]
 pub struct Matched {
     pub number: u8,
     pub place: usize,
@@ -70,7 +72,7 @@ pub struct Matched {
 
 // The totals: refused, or how many rows answer yes, no and unknown.
 #[repr(C)]
-#[derive(Drop)]
+#[derive(Clone, Copy)]
 pub struct Counted {
     pub number: u8,
     pub place: usize,
@@ -81,7 +83,7 @@ pub struct Counted {
 
 // A queue: how many rows it keeps, their states and their times, oldest first, with zeros behind them.
 #[repr(C)]
-#[derive(Drop)]
+#[derive(Clone, Copy)]
 pub struct Queue {
     pub kept: u32,
     pub states: [u8; 512],
@@ -91,7 +93,7 @@ pub struct Queue {
 // What came of a push: refused, or the answer of the row pushed, the number tried and the time where its match began;
 // and the queue then, which is the one handed in where the push is refused.
 #[repr(C)]
-#[derive(Drop)]
+#[derive(Clone, Copy)]
 pub struct Pushed {
     pub number: u8,
     pub place: usize,

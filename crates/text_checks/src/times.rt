@@ -6,7 +6,7 @@ ghost use Rattle.text_checks.specs.Inner.{ReadsTime};
 const LAST: u64 = 18446744073709551615;
 
 // Whether a word is a time, and which.
-#[derive(Drop)]
+#[derive(Clone, Copy)]
 pub struct TimeRead {
     pub good: bool,
     pub time: u64,

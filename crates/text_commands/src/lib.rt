@@ -1,5 +1,7 @@
 // The commands `list`, `values` and `rewrite`, which ask one text. Each text that is printed is made by a call of
 // `row_listings`, `began_texts` or `alternative_listings`.
+#![tactic(auto)]
+
 use alf::Rules;
 use alternative_listings::texts::alternatives_text;
 use basics::{Outcome, Refusal};

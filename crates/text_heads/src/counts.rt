@@ -26,7 +26,7 @@ fn mark(word: &[u8], i: usize, last: usize) -> usize
 }
 
 // A head: how many names it has, whether what follows is passed over, and where its line ends.
-#[derive(Drop)]
+#[derive(Clone, Copy)]
 pub struct Head {
     pub names: usize,
     pub wide: bool,

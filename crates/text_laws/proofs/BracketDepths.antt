@@ -10,7 +10,7 @@ use lib.Dec.{leb, ltb, lit≤}
 use borrow.Author.Tests.{lt-ltb, le-ltb, le-leb, lt-leb}
 use Rattle.basics.specs.Words.{if◌then◌else◌}
 use Rattle.alf.specs.Expressions.{Boolean, name, literal, negated, binary, choice, Vector, edge, join, while}
-use Rattle.alf.specs.Expressions.{Binary, and, or, xor, xnor, equals, differs, above, below, at_least_lem, at_most_lem}
+use Rattle.alf.specs.Expressions.{Binary, and, or, xor, xnor, equals, differs, above, below, is_at_least, is_at_most}
 use Rattle.alf.specs.Expressions.{Join, followed-by, either_order, with-or-then, any_order, with, or_else}
 use Rattle.alf.specs.Expressions.{on-right, on-left, Expression, boolean, vector}
 use Rattle.alf.specs.Bytes.{binary_byte}
@@ -50,8 +50,8 @@ binary_level_lem equals = refl
 binary_level_lem differs = refl
 binary_level_lem above = refl
 binary_level_lem below = refl
-binary_level_lem at_least_lem = refl
-binary_level_lem at_most_lem = refl
+binary_level_lem is_at_least = refl
+binary_level_lem is_at_most = refl
 
 join_level_lem : (j : Join) → text.level_of (kind (join_code j)) ≡ join_level j
 unfolding kind kind_in table join_code join_level
@@ -72,8 +72,8 @@ binary_between equals = (lit≤ tt, lit≤ tt)
 binary_between differs = (lit≤ tt, lit≤ tt)
 binary_between above = (lit≤ tt, lit≤ tt)
 binary_between below = (lit≤ tt, lit≤ tt)
-binary_between at_least_lem = (lit≤ tt, lit≤ tt)
-binary_between at_most_lem = (lit≤ tt, lit≤ tt)
+binary_between is_at_least = (lit≤ tt, lit≤ tt)
+binary_between is_at_most = (lit≤ tt, lit≤ tt)
 
 join_between : (j : Join) → (2 ≤ join_level j) × (join_level j ≤ 6)
 unfolding join_level

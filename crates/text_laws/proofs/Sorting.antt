@@ -11,7 +11,7 @@ use lib.Dec.{eqb, ltb}
 use borrow.Author.Tests.{ne_eqb, lt-ltb}
 use Rattle.basics.specs.Words.{if◌then◌else◌}
 use Rattle.alf.specs.Expressions.{Boolean, name, literal, negated, binary, choice, Vector, edge, join, while}
-use Rattle.alf.specs.Expressions.{Binary, and, or, xor, xnor, equals, differs, above, below, at_least_lem, at_most_lem}
+use Rattle.alf.specs.Expressions.{Binary, and, or, xor, xnor, equals, differs, above, below, is_at_least, is_at_most}
 use Rattle.alf.specs.Expressions.{Join, followed-by, either_order, with-or-then, any_order, with, or_else}
 use Rattle.alf.specs.Expressions.{Edge, EdgeKnown, Over, VectorOver, ExpressionOver}
 use Rattle.alf.specs.Expressions.{on-right, on-left, Expression, boolean, vector}
@@ -112,8 +112,8 @@ of_binary equals a b = refl
 of_binary differs a b = refl
 of_binary above a b = refl
 of_binary below a b = refl
-of_binary at_least_lem a b = refl
-of_binary at_most_lem a b = refl
+of_binary is_at_least a b = refl
+of_binary is_at_most a b = refl
 
 of_join : (j : Join) (p q : Vector) → of_two (made (join_code j)) (vector p) (vector q) ≡ is (vector (join j p q))
 unfolding of_two join_code join_at

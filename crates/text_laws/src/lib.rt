@@ -1,1 +1,3 @@
 // What reading and writing expressions mean together: nothing but proofs.
+#![tactic(auto)]
+

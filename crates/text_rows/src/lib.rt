@@ -1,2 +1,4 @@
 // The rows of a trace as a text, checked line by line.
+#![tactic(auto)]
+
 pub mod rows;

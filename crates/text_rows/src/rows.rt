@@ -13,7 +13,7 @@ use trace_texts::lines::{behind_line, next_line};
 use trace_texts::words::find_word;
 
 // A row's time: where it stands, whether it is one, and which.
-#[derive(Drop)]
+#[derive(Clone, Copy)]
 pub struct TimeAt {
     pub at: usize,
     pub good: bool,

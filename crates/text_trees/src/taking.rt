@@ -9,7 +9,7 @@ use reader::read_expression;
 
 // What came of a text. Read: number 0, and as place which of the trees it has. Refused: its refusal. Behind it, how
 // many trees there are, and where their bytes end.
-#[derive(Drop)]
+#[derive(Clone, Copy)]
 pub struct Taken {
     pub refusal: Refusal,
     pub trees: usize,

@@ -1,6 +1,8 @@
 // Texts read as expressions and written back, each with what is written, or with the number and place of its refusal;
 // then lists of names and trees. All come from standard input, each with the reason for what is expected. The expected
 // output was worked out from document 01. The usual names stand on the first line of the input.
+#![tactic(auto)]
+
 mod lines;
 mod names;
 mod shown;

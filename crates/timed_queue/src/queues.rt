@@ -12,14 +12,14 @@ use beginnings::times::{Dated, date};
 use matcher::answers::Matched;
 
 // The rows kept, and the time of each, oldest first, zeros behind.
-#[derive(Drop)]
+#[derive(Clone, Copy)]
 pub struct Queue {
     pub rows: queue::queues::Queue,
     pub times: [u64; 16],
 }
 
 // What a push comes to.
-#[derive(Drop)]
+#[derive(Clone, Copy)]
 pub struct Pushed {
     pub told: Dated,
     pub queue: Queue,

@@ -23,19 +23,19 @@ contrary p q = let z : ◌≡◌ {A = ℕ} 0 1 = cc in omega arith
 pub and_both : (a b : Bool) → a ≡ true → b ≡ true → a && b ≡ true
 and_both a b p q = rw (p, q)
 
-at_least_lem : (t : Bool) {x y n : ℕ} → n ≤ x → n ≤ y → n ≤ (if t then x else y)
-at_least_lem true h k = h
-at_least_lem false h k = k
+is_at_least : (t : Bool) {x y n : ℕ} → n ≤ x → n ≤ y → n ≤ (if t then x else y)
+is_at_least true h k = h
+is_at_least false h k = k
 
 -- past `? 0 1` the halves are 3 and more
 later :
     (a b c d e f : Bool) →
     3 ≤ (if a then 3 else if b then 4 else if c then 5 else if d then 6 else if e then 7 else if f then 8 else 9)
 later a b c d e f =
-    at_least_lem a (omega arith)
-    (at_least_lem b (omega arith)
-    (at_least_lem c (omega arith)
-    (at_least_lem d (omega arith) (at_least_lem e (omega arith) (at_least_lem f (omega arith) (omega arith))))))
+    is_at_least a (omega arith)
+    (is_at_least b (omega arith)
+    (is_at_least c (omega arith)
+    (is_at_least d (omega arith) (is_at_least e (omega arith) (is_at_least f (omega arith) (omega arith))))))
 
 pub half_cases : (b : ℕ) → (b ≡ 63) ⊎ ((b ≡ 48) ⊎ ((b ≡ 49) ⊎ (3 ≤ half_of b)))
 unfolding half_of

@@ -18,26 +18,26 @@ use Rattle.token_steps.specs.Steps.{half_at}
 use Rattle.token_steps.specs.Inner.{HalfAt}
 use Rattle.token_steps.proofs.ByteByByte.{and-false}
 
-pub at_most_lem : (t : Bool) {x y n : ℕ} → x ≤ n → y ≤ n → (if t then x else y) ≤ n
-at_most_lem true h k = h
-at_most_lem false h k = k
+pub is_at_most : (t : Bool) {x y n : ℕ} → x ≤ n → y ≤ n → (if t then x else y) ≤ n
+is_at_most true h k = h
+is_at_most false h k = k
 
 pub half_small : (b : ℕ) → half_of b ≤ 9
 unfolding half_of
 half_small b =
-    at_most_lem (eqb b 63) (omega arith)
-    (at_most_lem (eqb b 48) (omega arith)
-    (at_most_lem (eqb b 49) (omega arith)
-    (at_most_lem (among b _) (omega arith)
-    (at_most_lem (among b _) (omega arith)
-    (at_most_lem (among b _) (omega arith)
-    (at_most_lem (among b _) (omega arith)
-    (at_most_lem (among b _) (omega arith)
-    (at_most_lem (among b _) (omega arith) (omega arith)))))))))
+    is_at_most (eqb b 63) (omega arith)
+    (is_at_most (eqb b 48) (omega arith)
+    (is_at_most (eqb b 49) (omega arith)
+    (is_at_most (among b _) (omega arith)
+    (is_at_most (among b _) (omega arith)
+    (is_at_most (among b _) (omega arith)
+    (is_at_most (among b _) (omega arith)
+    (is_at_most (among b _) (omega arith)
+    (is_at_most (among b _) (omega arith) (omega arith)))))))))
 
 pub half_at_small : (bs : List ℕ) (k : ℕ) → half_at bs k ≤ 9
 unfolding half_at
-half_at_small bs k = at_most_lem (is_half bs k) (half_small (byte_at bs (k + 2))) (omega arith)
+half_at_small bs k = is_at_most (is_half bs k) (half_small (byte_at bs (k + 2))) (omega arith)
 
 half_is : {bs : List ℕ} {k r : ℕ} → r ≡ half_at bs k → HalfAt bs k r
 half_is {bs} {k} e = record { is = e; small = omega (arith, half_at_small bs k) }

@@ -1,10 +1,12 @@
 // One token of a text: the class of a byte, and the longest token that starts at one.
+#![tactic(auto)]
+
 pub mod classes;
 mod spellings;
 pub mod steps;
 
 // The class of a byte.
-#[derive(Drop)]
+#[derive(Clone, Copy)]
 pub enum Class {
     Letter,
     Quote,
@@ -15,7 +17,7 @@ pub enum Class {
 }
 
 // One token: its code and how many bytes it has. Where there is none: 255, and how far on the byte refused is.
-#[derive(Drop)]
+#[derive(Clone, Copy)]
 pub struct Step {
     pub code: u8,
     pub size: usize,

@@ -1,4 +1,6 @@
 // A text into its tokens, or refused with 1, 2, 3 or 4.
+#![tactic(auto)]
+
 mod extents;
 mod limits;
 
@@ -15,7 +17,7 @@ use token_steps::classes::is_blank;
 use token_steps::steps::take_token;
 
 // The tokens of a text: of the lists the first `count` entries, with zeros behind them. None where the text is refused.
-#[derive(Drop)]
+#[derive(Clone, Copy)]
 pub struct Tokens {
     pub refused: bool,
     pub refusal: Refusal,

@@ -1,4 +1,6 @@
 // Reads texts from standard input, one a line, and writes each with its tokens, as code@place, or with its refusal.
+#![tactic(auto)]
+
 ghost use Rattle.std.specs.Prelude.{◌≤◌};
 
 use libc::STDIN_FILENO;

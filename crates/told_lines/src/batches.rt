@@ -12,7 +12,7 @@ use jobs::table::{Line, write_counted};
 use matching_calls::matching::Counting;
 
 // What is told of up to 64 texts.
-#[derive(Drop)]
+#[derive(Clone, Copy)]
 pub struct Batch {
     pub trace: Outcome,
     pub numbers: [u8; 64],

@@ -3,7 +3,7 @@ ghost use Rattle.std.specs.Prelude.{◌≡◌};
 ghost use Rattle.told_lines.specs.Batches.{TextRoom, NoTexts, added};
 
 // How many there are, and where each starts and ends.
-#[derive(Drop)]
+#[derive(Clone, Copy)]
 pub struct Texts {
     pub count: usize,
     pub starts: [usize; 64],

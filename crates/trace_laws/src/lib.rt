@@ -1,1 +1,3 @@
 // The theorems of the trace files: nothing but proofs.
+#![tactic(auto)]
+

@@ -1,5 +1,7 @@
 // The trace that an argument names, read into lists of the caller's: a trace file or a value change dump, told by its
 // content. It is proved to be safe and to end; no contract can say what is read from a disk.
+#![tactic(auto)]
+
 mod dumps;
 mod kinds;
 

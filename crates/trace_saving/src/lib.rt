@@ -1,5 +1,7 @@
 // A trace saved as a file, whole or not at all. The file is made by a call of the library. It is proved to be safe and
 // to end; no contract can say what is written to a disk.
+#![tactic(auto)]
+
 use basics::Outcome;
 use complaints::refused;
 use console::output::failed;

@@ -1,1 +1,3 @@
 // A trace as a text: theorems alone.
+#![tactic(auto)]
+

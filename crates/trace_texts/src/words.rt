@@ -57,7 +57,7 @@ pub fn skip_word(text: &[u8], p: usize) -> usize
 }
 
 // A word: where it starts, and where it ends.
-#[derive(Drop)]
+#[derive(Clone, Copy)]
 pub struct Span {
     pub start: usize,
     pub end: usize,

@@ -1,5 +1,7 @@
 // Runs of the trace reader and writer: document 01's example, files cut at every byte, each refusal at its boundary.
 // The files come from standard input, one a line, in hexadecimal digits.
+#![tactic(auto)]
+
 mod again;
 mod long;
 

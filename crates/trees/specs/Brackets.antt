@@ -4,7 +4,7 @@
 --   bracketed, boolean_depth, vector_depth, depth_of        how deep brackets nest
 use Rattle.std.specs.Prelude.{ℕ, ◌+◌, ◌-◌, max, ltb}
 use Rattle.basics.specs.Words.{if◌then◌else◌}
-use Rattle.alf.specs.Expressions.{Binary, and, or, xor, xnor, equals, differs, above, below, at_least_lem, at_most_lem}
+use Rattle.alf.specs.Expressions.{Binary, and, or, xor, xnor, equals, differs, above, below, is_at_least, is_at_most}
 use Rattle.alf.specs.Expressions.{Boolean, name, literal, negated, binary, choice, Vector, edge, join, while}
 use Rattle.alf.specs.Expressions.{Join, followed-by, either_order, with-or-then, any_order, with, or_else}
 use Rattle.alf.specs.Expressions.{on-right, on-left, Expression, boolean, vector}
@@ -20,8 +20,8 @@ binary_level equals = 2
 binary_level differs = 2
 binary_level above = 2
 binary_level below = 2
-binary_level at_least_lem = 2
-binary_level at_most_lem = 2
+binary_level is_at_least = 2
+binary_level is_at_most = 2
 
 unfoldable pub join_level : Join → ℕ
 join_level followed-by = 4

@@ -4,7 +4,7 @@ ghost use Rattle.trees.specs.Sorts.{given_one, given_two, leaf_kind, one_kind, p
 ghost use Rattle.trees.specs.Sorts.{start_of, Ending, tree_kind};
 
 // What a tree is.
-#[derive(Drop)]
+#[derive(Clone, Copy)]
 pub enum Kind {
     Boolean,
     Vector,
@@ -12,7 +12,7 @@ pub enum Kind {
 }
 
 // What the bytes before a place end with, 0 nothing, 1 a boolean expression, 2 a vector expression; where it starts.
-#[derive(Drop)]
+#[derive(Clone, Copy)]
 pub struct Part {
     pub kind: u8,
     pub start: usize,

@@ -1,4 +1,6 @@
 // The bytes of a trigger (document 02, [3]), behind those of the triggers before it.
+#![tactic(auto)]
+
 ghost use Rattle.std.specs.Prelude.{◌≡◌, ◌≤◌, length, take};
 ghost use Rattle.basics.specs.Memory.{Put};
 ghost use Rattle.trigger_lists.specs.TriggerBytes.{FrontPut, TriggerPut, TriggerStands};
@@ -7,7 +9,7 @@ use basics::puts::put;
 use part_sorts::sort_part;
 
 // The place behind a trigger's bytes, and whether it is a vector.
-#[derive(Drop)]
+#[derive(Clone, Copy)]
 pub struct Placed {
     pub end: usize,
     pub vector: bool,

@@ -1,5 +1,7 @@
 // What a trigger (document 02, [3]) answers at a row: 0 no, 1 unknown, 2 yes. A vector trigger is answered on the
 // windows that end there, without rewriting it: a run asks it row by row and needs no memory for the other rows.
+#![tactic(auto)]
+
 ghost use Rattle.triggers.specs.Triggers.{Askable, Asked};
 
 use alf::Rules;

@@ -1,2 +1,4 @@
 // The call that corrects a row.
+#![tactic(auto)]
+
 pub mod correcting;

@@ -3,6 +3,8 @@
 //   lengths    the longest window on which an expression can answer other than no
 //   filling    the recursion over the tree
 //   rows       the answer on a window and at a row
+#![tactic(auto)]
+
 mod filling;
 pub mod lengths;
 pub mod rows;

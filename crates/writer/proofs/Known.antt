@@ -11,7 +11,7 @@ use lib.ListN.{length, length-append}
 use Rattle.basics.specs.Words.{if◌then◌else◌}
 use Rattle.alf.specs.Names.{is_name, name_at}
 use Rattle.alf.specs.Expressions.{Boolean, name, literal, negated, binary, choice, Vector, edge, join, while}
-use Rattle.alf.specs.Expressions.{Binary, and, or, xor, xnor, equals, differs, above, below, at_least_lem, at_most_lem}
+use Rattle.alf.specs.Expressions.{Binary, and, or, xor, xnor, equals, differs, above, below, is_at_least, is_at_most}
 use Rattle.alf.specs.Expressions.{Join, followed-by, either_order, with-or-then, any_order, with, or_else}
 use Rattle.alf.specs.Expressions.{Half, any, the, Edge, pair, changes, stays}
 use Rattle.alf.specs.Expressions.{on-right, on-left, Expression, boolean, vector}
@@ -78,8 +78,8 @@ binary_sign equals = low (lit≤ tt) (lit≤ tt)
 binary_sign differs = low (lit≤ tt) (lit≤ tt)
 binary_sign above = low (lit≤ tt) (lit≤ tt)
 binary_sign below = low (lit≤ tt) (lit≤ tt)
-binary_sign at_least_lem = low (lit≤ tt) (lit≤ tt)
-binary_sign at_most_lem = low (lit≤ tt) (lit≤ tt)
+binary_sign is_at_least = low (lit≤ tt) (lit≤ tt)
+binary_sign is_at_most = low (lit≤ tt) (lit≤ tt)
 
 join_sign : (j : Join) → Sign (join_code j)
 unfolding join_code

@@ -11,7 +11,7 @@ use lib.ListN.{length}
 use Rattle.alf.specs.declared.Sort.{Sort}
 use Rattle.basics.specs.declared.Outcome.{Outcome}
 use Rattle.alf.specs.Expressions.{Boolean, name, literal, negated, binary, choice, Vector, edge, join, while}
-use Rattle.alf.specs.Expressions.{Binary, and, or, xor, xnor, equals, differs, above, below, at_least_lem, at_most_lem}
+use Rattle.alf.specs.Expressions.{Binary, and, or, xor, xnor, equals, differs, above, below, is_at_least, is_at_most}
 use Rattle.alf.specs.Expressions.{Join, followed-by, either_order, with-or-then, any_order, with, or_else}
 use Rattle.alf.specs.Expressions.{Edge, EdgeKnown, Over, VectorOver, ExpressionOver}
 use Rattle.alf.specs.Expressions.{on-right, on-left, Expression, boolean, vector}
@@ -61,8 +61,8 @@ two_binary equals f g = two_is refl f g
 two_binary differs f g = two_is refl f g
 two_binary above f g = two_is refl f g
 two_binary below f g = two_is refl f g
-two_binary at_least_lem f g = two_is refl f g
-two_binary at_most_lem f g = two_is refl f g
+two_binary is_at_least f g = two_is refl f g
+two_binary is_at_most f g = two_is refl f g
 
 two_join : (j : Join) {a b : Tree} → Formed a → Formed b → Formed (two (made (join_code j)) a b)
 unfolding join_code kind kind_in table

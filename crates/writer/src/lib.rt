@@ -1,4 +1,6 @@
 // An expression's tree as text: one blank between all tokens, only needed brackets.
+#![tactic(auto)]
+
 mod layout;
 
 ghost use Rattle.std.specs.Prelude.{take};

@@ -29,7 +29,7 @@ operated-spec =
     (λ c. operated_by 45 _ _ c.before.match.keys6 c.differs.ensures)
     (λ c. operated_by 46 _ _ c.before.match.keys7 c.above.ensures)
     (λ c. operated_by 47 _ _ c.before.match.keys8 c.below.ensures)
-    (λ c. operated_by 48 _ _ c.before.match.keys9 c.at_least_lem.ensures)
+    (λ c. operated_by 48 _ _ c.before.match.keys9 c.is_at_least.ensures)
     (λ c.
     let r = c.before.match.rest in
     let r3 = r.0.0.0 in
@@ -37,4 +37,4 @@ operated-spec =
     let from43 = past (past (past c.before.before.requires.first r6.0.0.1) r6.0.1) r6.1 in
     let from46 = past (past (past from43 r3.0.0.1) r3.0.1) r3.1 in
     let from49 = past (past (past from46 r.0.0.1) r.0.1) r.1 in
-    operated_by 49 _ _ (only from49 c.before.before.requires.last) c.at_most_lem.ensures))
+    operated_by 49 _ _ (only from49 c.before.before.requires.last) c.is_at_most.ensures))

@@ -1,0 +1,12 @@
+-- `states::not_of` meets its contract: its table has the definition's answer at each entry.
+use mathlib.Core.Path.{refl}
+use Rattle.basics.specs.Words.{listed}
+use Rattle.alf.specs.States.{reduce, not_of_lem}
+use Rattle.basics.proofs.Choices.{every}
+use Rattle.basics.proofs.Tables.{codes, line_rule}
+use borrow.Author.Rules.{rules}
+use Rattle.states.proofs.states.not_of.Goals as goal
+
+pub returns : goal.returns
+unfolding listed every codes reduce not_of_lem
+returns c = line_rule not_of_lem 0 c.args.x refl (search rules)
