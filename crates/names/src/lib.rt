@@ -10,6 +10,7 @@ use basics::Outcome;
 use basics::refusing::refuse;
 
 // A name's first byte: a letter or `_`.
+#[tactic(auto, unfolding(alf::specs::Names::starts_name, alf::specs::Names::is_letter))]
 pub fn starts_name(b: u8) -> bool
     ensures { result ≡ starts_name b }
 {
@@ -20,6 +21,7 @@ pub fn starts_name(b: u8) -> bool
 }
 
 // A name's further bytes: letters, digits, `_`.
+#[tactic(auto, unfolding(alf::specs::Names::goes_on_name, alf::specs::Names::starts_name, alf::specs::Names::is_letter, alf::specs::Names::is_decimal))]
 pub fn goes_on_name(b: u8) -> bool
     ensures { result ≡ goes_on_name b }
 {

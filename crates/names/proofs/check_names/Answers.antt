@@ -29,8 +29,7 @@ returns-then-not-good_slot c =
     (decided_no _ c.good_slot.ensures c.if-not-good_slot.true))
 
 pub loop-i-preserved : goal.loop-i-preserved
-loop-i-preserved c =
-    (
+loop-i-preserved c = (
   search rules,
   c.loop-i.invariant.1,
   below_more _ _ c.loop-i.invariant.2

@@ -17,8 +17,7 @@ returns-then-not-starts_name c =
     name_start _ (sym c.starts_name.ensures ∙ not-true _ c.if-not-starts_name.true)
 
 pub loop-i-init : goal.loop-i-init
-loop-i-init c =
-    (
+loop-i-init c = (
   search rules,
   search rules,
   name_rest _ (omega arith) (omega arith) (sym c.starts_name.ensures ∙ not-false _ c.if-not-starts_name.false),
@@ -31,14 +30,13 @@ returns-then-not-goes_on_name c =
     (sym c.goes_on_name.ensures ∙ not-true _ c.if-not-goes_on_name.true))
 
 pub loop-i-preserved : goal.loop-i-preserved
-loop-i-preserved c =
-    (
-      search rules,
-      search rules,
-      c.loop-i.invariant.2 ∙ all_more goes_on_name _ _
-          c.loop-i-test.true
-          (sym c.goes_on_name.ensures ∙ not-false _ c.if-not-goes_on_name.false),
-    )
+loop-i-preserved c = (
+  search rules,
+  search rules,
+  c.loop-i.invariant.2 ∙ all_more goes_on_name _ _
+      c.loop-i-test.true
+      (sym c.goes_on_name.ensures ∙ not-false _ c.if-not-goes_on_name.false),
+)
 
 pub returns : goal.returns
 returns c = sym (c.loop-i.invariant.2 ∙ all_end goes_on_name _ _ c.loop-i-test.false)

@@ -14,12 +14,11 @@ returns-then-same_name c =
     (told _ (part_told _ _ _ _ c.same_name.ensures) c.if-same_name.true))
 
 pub loop-j-preserved : goal.loop-j-preserved
-loop-j-preserved c =
-    (
-      search rules,
-      below_more _ _ c.loop-j.invariant.1
-          (not_told _ (part_told _ _ _ _ c.same_name.ensures) c.if-same_name.false),
-    )
+loop-j-preserved c = (
+  search rules,
+  below_more _ _ c.loop-j.invariant.1
+      (not_told _ (part_told _ _ _ _ c.same_name.ensures) c.if-same_name.false),
+)
 
 pub returns : goal.returns
 returns c = holds (λ j l. c.loop-j.invariant.1 j (omega (arith, c.loop-j-test.false)))

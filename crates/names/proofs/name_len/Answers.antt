@@ -16,8 +16,7 @@ returns-then-slot-i-eq0 c =
     }
 
 pub loop-i-preserved : goal.loop-i-preserved
-loop-i-preserved c =
-    (
+loop-i-preserved c = (
   search rules,
   until_more _ _ c.loop-i.invariant.1 c.loop-i-test.true c.if-slot-i-eq0.false,
 )

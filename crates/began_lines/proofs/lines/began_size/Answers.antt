@@ -1,0 +1,9 @@
+-- `began_size` meets its contract.
+use Rattle.began_lines.proofs.ThirdColumn.{at_size, nowhere_size}
+use Rattle.began_lines.proofs.lines.began_size.Goals as goal
+
+pub returns-in-At : goal.returns-in-At
+returns-in-At c = at_size c.b-1.given.1 c.width_of.ensures
+
+pub returns-in-Nowhere : goal.returns-in-Nowhere
+returns-in-Nowhere c = nowhere_size c.enum_told-1.given.1

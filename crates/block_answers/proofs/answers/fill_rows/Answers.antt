@@ -1,0 +1,19 @@
+-- `answers::fill_rows` meets its contract.
+use native.Mathlib.Omega.{arith}
+use Rattle.block_answers.proofs.answers.fill_rows.Goals as goal
+
+pub fill_with-requires : goal.fill_with-requires
+fill_with-requires c =
+    (
+      c.requires.0,
+      (
+        c.requires.1,
+        record {
+          kinds_room = omega arith;
+          ends_room = omega arith;
+          slots_room = omega arith;
+          tables_room = omega arith;
+          cols_room = omega arith;
+        },
+      ),
+    )

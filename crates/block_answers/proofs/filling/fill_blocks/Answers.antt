@@ -1,0 +1,35 @@
+use native.Mathlib.Omega.{arith}
+use Rattle.block_answers.proofs.Fillings.{head_asked, filling_first, cut_asked}
+use Rattle.block_answers.proofs.Fillings.{filling_next, filling_end}
+use Rattle.block_answers.proofs.Fillings.{answers_long, tried_long}
+use Rattle.block_answers.proofs.filling.fill_blocks.Goals as goal
+
+pub match_all-requires : goal.match_all-requires
+match_all-requires c = head_asked c.requires.0 c.requires.1
+
+pub loop-from-init : goal.loop-from-init
+loop-from-init c = filling_first c.requires.0 c.requires.1 _ _ _ _
+
+pub fill_block-requires : goal.fill_block-requires
+fill_block-requires c =
+    cut_asked c.requires.0 c.requires.1 c.loop-from.invariant c.loop-from-test.true
+    c.next_block-m.ensures (answers_long c.requires.0 c.requires.1 c.match_all.ensures) (tried_long
+    c.requires.0 c.requires.1 c.match_all.ensures)
+
+pub overflow_add-from : goal.overflow_add-from
+overflow_add-from c =
+    omega (arith, c.next_block-m.ensures, c.loop-from-test.true, c.requires.0.asked.rows.few)
+
+pub loop-from-smaller : goal.loop-from-smaller
+loop-from-smaller c = omega (arith, c.next_block-m.ensures)
+
+pub loop-from-preserved : goal.loop-from-preserved
+loop-from-preserved c =
+    filling_next _ c.requires.0 c.requires.1 c.loop-from.invariant c.loop-from-test.true
+    c.next_block-m.ensures c.match_all.ensures c.fill_block.ensures.1
+    c.fill_block.ensures.0
+
+pub returns : goal.returns
+returns c =
+    filling_end _ c.requires.0 c.requires.1 c.loop-from.invariant c.loop-from-test.false
+    c.match_all.ensures

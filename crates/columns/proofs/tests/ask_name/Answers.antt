@@ -1,0 +1,89 @@
+use mathlib.Core.Path.{refl, ◌∙◌}
+use native.Mathlib.Nat.{zero-add}
+use native.Mathlib.Omega.{arith}
+use Rattle.basics.proofs.Stores.{writing_first, writing_length}
+use Rattle.basics.proofs.Listed.{ruling_next}
+use Rattle.columns.proofs.Passing.{over_end}
+use Rattle.columns.proofs.Looking.{along_first, along_there, along_code, along_next, along_looked}
+use Rattle.columns.proofs.tests.ask_name.Goals as goal
+
+pub bounds-states-at : goal.bounds-states-at
+bounds-states-at c = omega (arith, c.requires.there)
+
+pub overflow_cast-before : goal.overflow_cast-before
+overflow_cast-before c = omega (arith, c.type_inv.states c.args.at)
+
+pub loop-i-init : goal.loop-i-init
+loop-i-init c = (along_first c.requires, writing_first)
+
+pub overflow_add-p : goal.overflow_add-p
+overflow_add-p c =
+    let r = along_there c.requires c.loop-i.invariant.0 c.loop-i-test.true in
+    omega (arith, c.well_formed)
+
+pub bounds-states-p : goal.bounds-states-p
+bounds-states-p c = along_there c.requires c.loop-i.invariant.0 c.loop-i-test.true
+
+pub overflow_cast-after : goal.overflow_cast-after
+overflow_cast-after c =
+    omega (
+      arith,
+      along_code c.requires c.loop-i.invariant.0
+          c.loop-i-test.true,
+    )
+
+pub overflow_mul-cols : goal.overflow_mul-cols
+overflow_mul-cols c = omega (arith, c.loop-i.invariant.0.code)
+
+pub overflow_add-cols : goal.overflow_add-cols
+overflow_add-cols c =
+    omega (
+      arith,
+      c.loop-i.invariant.0.code,
+      along_code c.requires c.loop-i.invariant.0
+          c.loop-i-test.true,
+    )
+
+pub overflow_add-cols-in-loop-i : goal.overflow_add-cols-in-loop-i
+overflow_add-cols-in-loop-i c =
+    omega (
+      arith,
+      c.loop-i.invariant.0.code,
+      along_code c.requires c.loop-i.invariant.0
+          c.loop-i-test.true,
+      c.requires.table,
+      c.well_formed,
+    )
+
+pub bounds-tables-base : goal.bounds-tables-base
+bounds-tables-base c =
+    omega (
+      arith,
+      c.loop-i.invariant.0.code,
+      along_code c.requires c.loop-i.invariant.0
+          c.loop-i-test.true,
+      c.requires.table,
+    )
+
+pub overflow_add-cols-in-loop-i-2 : goal.overflow_add-cols-in-loop-i-2
+overflow_add-cols-in-loop-i-2 c = omega (arith, c.requires.room, c.well_formed)
+
+pub bounds-cols-o : goal.bounds-cols-o
+bounds-cols-o c = omega (arith, writing_length c.loop-i.invariant.1, c.requires.room)
+
+pub overflow_add-i : goal.overflow_add-i
+overflow_add-i c = omega (arith, c.requires.room, c.well_formed)
+
+pub loop-i-preserved : goal.loop-i-preserved
+loop-i-preserved c =
+    (
+      along_next c.requires c.loop-i.invariant.0 c.loop-i-test.true,
+      ruling_next 0 _ c.loop-i.invariant.1 c.loop-i-test.true
+          (along_looked c.requires c.loop-i.invariant.0 c.loop-i-test.true ∙ rw zero-add refl),
+    )
+
+pub shape_of-cols : goal.shape_of-cols
+shape_of-cols c = writing_length c.loop-i.invariant.1
+
+pub returns : goal.returns
+returns c = over_end c.loop-i.invariant.1 c.loop-i-test.false

@@ -1,0 +1,40 @@
+-- `operators::operated` meets its contract: each byte's function is the definition's.
+use Rattle.evaluator.proofs.Operating.{operated_by, past, only}
+use Rattle.evaluator.proofs.operators.operated.Goals as goal
+
+pub returns-in-40 : goal.returns-in-40
+returns-in-40 c = operated_by 40 _ _ c.in-40.keys1 c.and_of.ensures
+
+pub returns-in-41 : goal.returns-in-41
+returns-in-41 c = operated_by 41 _ _ c.in-41.keys2 c.or_of.ensures
+
+pub returns-in-42 : goal.returns-in-42
+returns-in-42 c = operated_by 42 _ _ c.in-42.keys3 c.xor_of.ensures
+
+pub returns-in-43 : goal.returns-in-43
+returns-in-43 c = operated_by 43 _ _ c.in-43.keys4 c.xnor_of.ensures
+
+pub returns-in-44 : goal.returns-in-44
+returns-in-44 c = operated_by 44 _ _ c.in-44.keys5 c.equals.ensures
+
+pub returns-in-45 : goal.returns-in-45
+returns-in-45 c = operated_by 45 _ _ c.in-45.keys6 c.differs.ensures
+
+pub returns-in-46 : goal.returns-in-46
+returns-in-46 c = operated_by 46 _ _ c.in-46.keys7 c.above.ensures
+
+pub returns-in-47 : goal.returns-in-47
+returns-in-47 c = operated_by 47 _ _ c.in-47.keys8 c.below.ensures
+
+pub returns-in-48 : goal.returns-in-48
+returns-in-48 c = operated_by 48 _ _ c.in-48.keys9 c.is_at_least.ensures
+
+pub returns-in_default : goal.returns-in_default
+returns-in_default c =
+    let r = c.in_default.rest in
+    let r3 = r.0.0.0 in
+    let r6 = r3.0.0.0 in
+    let from43 = past (past (past c.requires.first r6.0.0.1) r6.0.1) r6.1 in
+    let from46 = past (past (past from43 r3.0.0.1) r3.0.1) r3.1 in
+    let from49 = past (past (past from46 r.0.0.1) r.0.1) r.1 in
+    operated_by 49 _ _ (only from49 c.requires.last) c.is_at_most.ensures

@@ -1,0 +1,18 @@
+-- `pushing::push` meets its contract.
+use Rattle.queue_calls.proofs.Pushes.{push_good, push-refused, push_told}
+use Rattle.queue_calls.proofs.pushing.push.Goals as goal
+
+pub push_tree-requires : goal.push_tree-requires
+push_tree-requires c =
+    push_good c.row_fits-fits.ensures c.queue_good-good.ensures c.judge_push-v.ensures
+    c.type_inv.row
+
+pub returns-in-Refused : goal.returns-in-Refused
+returns-in-Refused c =
+    push-refused c.row_fits-fits.ensures c.queue_good-good.ensures c.judge_push-v.ensures
+    c.type_inv.row
+
+pub returns-in-Good : goal.returns-in-Good
+returns-in-Good c =
+    push_told c.row_fits-fits.ensures c.queue_good-good.ensures c.judge_push-v.ensures
+    c.type_inv.row c.push_tree.ensures c.pushing_of.ensures.0 c.pushing_of.ensures.1

@@ -1,0 +1,72 @@
+use native.Mathlib.Omega.{arith}
+use borrow.Author.Rules.{rules}
+use mathlib.Core.Path.{◌≡◌}
+use Rattle.basics.proofs.PartByPart.{put_none, put_length, put_front}
+use Rattle.record_copies.specs.HeldLists.{states_of}
+use Rattle.record_copies.proofs.Copying.{
+  row_marked,
+  row_there,
+  row_next,
+  codes_fit,
+  states_put,
+  states_length,
+use Rattle.record_copies.proofs.copies.copy_states.Goals as goal
+
+pub loop-r-init : goal.loop-r-init
+unfolding states_of
+loop-r-init c = (search rules, c.requires.there, put_none)
+
+pub width_at-w-requires : goal.width_at-w-requires
+width_at-w-requires c = row_marked _ _ _ c.requires.rows _ _ c.loop-r-test.true c.loop-r.invariant.1
+
+pub copy_codes-to-requires : goal.copy_codes-to-requires
+copy_codes-to-requires c =
+    codes_fit _ _ _ c.requires.rows _ c.loop-r.invariant.1 (rw c.if-w-eq4.true at c.width_at-w.ensures)
+    c.loop-r.invariant.2 c.loop-r-test.true c.requires.room
+
+pub overflow_add-q : goal.overflow_add-q
+overflow_add-q c = omega (arith, c.if-w-eq4.true, there c)
+
+pub overflow_add-q-then-w-eq4 : goal.overflow_add-q-then-w-eq4
+overflow_add-q-then-w-eq4 c = omega (arith, c.if-w-eq4.true, there c)
+
+pub loop-r-preserved-then-w-eq4 : goal.loop-r-preserved-then-w-eq4
+loop-r-preserved-then-w-eq4 c =
+    let width = rw c.if-w-eq4.true at c.width_at-w.ensures in (
+      search rules,
+      omega (arith, row_next _ _ _ c.requires.rows _ c.loop-r.invariant.1 width),
+      states_put _ _ _ c.requires.rows _ c.loop-r.invariant.1 width c.loop-r.invariant.2
+          c.copy_codes-to.ensures,
+    )
+
+pub copy_codes-to-requires-else-w-eq4 : goal.copy_codes-to-requires-else-w-eq4
+copy_codes-to-requires-else-w-eq4 c =
+    codes_fit _ _ _ c.requires.rows _ c.loop-r.invariant.1 c.width_at-w.ensures c.loop-r.invariant.2
+    c.loop-r-test.true c.requires.room
+
+pub overflow_add-q-else-w-eq4 : goal.overflow_add-q-else-w-eq4
+overflow_add-q-else-w-eq4 c = omega (arith, there c)
+
+pub overflow_add-q-else-w-eq4-2 : goal.overflow_add-q-else-w-eq4-2
+overflow_add-q-else-w-eq4-2 c = omega (arith, there c)
+
+pub overflow_add-q-else-w-eq4-3 : goal.overflow_add-q-else-w-eq4-3
+overflow_add-q-else-w-eq4-3 c = omega (arith, there c)
+
+pub loop-r-preserved : goal.loop-r-preserved
+loop-r-preserved c =
+    let width = c.width_at-w.ensures in (
+      search rules,
+      row_next _ _ _ c.requires.rows _ c.loop-r.invariant.1 width,
+      states_put _ _ _ c.requires.rows _ c.loop-r.invariant.1 width c.loop-r.invariant.2
+          c.copy_codes-to-else-w-eq4.ensures,
+    )
+
+pub shape_of-out : goal.shape_of-out
+shape_of-out c = put_length c.loop-r.invariant.2
+
+pub returns : goal.returns
+returns c =
+    let all : c.loop-r.r ≡ c.args.n = omega arith in
+    put_front (rw all at c.loop-r.invariant.2)
+    (omega (arith, states_length _ _ _ c.requires.rows c.args.n (omega arith), c.requires.room))

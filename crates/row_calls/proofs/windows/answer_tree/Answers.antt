@@ -1,0 +1,10 @@
+-- `windows::answer_tree` meets its contract.
+use mathlib.Core.Path.{ap, ◌∙◌}
+use Rattle.alf.specs.Windows.{numbered}
+use Rattle.row_calls.proofs.windows.answer_tree.Goals as goal
+
+pub answer-rank-requires : goal.answer-rank-requires
+answer-rank-requires c = (c.requires.ends, c.requires.there)
+
+pub returns : goal.returns
+returns c = c.name_of.ensures ∙ ap numbered c.answer-rank.ensures

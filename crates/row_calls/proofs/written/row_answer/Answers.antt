@@ -1,0 +1,17 @@
+-- `written::row_answer` meets its contract.
+use Rattle.row_calls.proofs.AsWritten.{row_there, pattern_there, answer_refused, answer_told}
+use Rattle.row_calls.proofs.written.row_answer.Goals as goal
+
+pub row_answer-requires : goal.row_answer-requires
+row_answer-requires c =
+    let k = c.check_row-v.ensures in
+    let g = c.type_inv.states in
+    (pattern_there k g, row_there k g)
+
+pub returns-in-Refused : goal.returns-in-Refused
+returns-in-Refused c = answer_refused c.check_row-v.ensures c.type_inv.states
+
+pub returns-in-Good : goal.returns-in-Good
+returns-in-Good c =
+    let k = c.check_row-v.ensures in
+    answer_told k c.type_inv.states c.row_answer.ensures

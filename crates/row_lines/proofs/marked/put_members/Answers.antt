@@ -1,0 +1,35 @@
+use native.Mathlib.Omega.{arith}
+use Rattle.row_lines.specs.Lines.{members}
+use Rattle.row_lines.proofs.InTurn.{written_first, written_room, written_next, written_end}
+use Rattle.row_lines.proofs.InTurn.{written_length}
+use Rattle.row_lines.proofs.NameSets.{slot_in}
+use Rattle.row_lines.proofs.marked.put_members.Goals as goal
+
+pub loop-i-init : goal.loop-i-init
+unfolding members
+loop-i-init c = written_first _ _ c.requires.room
+
+pub put_member-p-requires : goal.put_member-p-requires
+put_member-p-requires c =
+    record {
+      slot = slot_in c.requires.slots c.loop-i-test.true;
+      room = written_room c.loop-i.invariant c.loop-i-test.true;
+    }
+
+pub overflow_add-i : goal.overflow_add-i
+overflow_add-i c = omega (arith, (entered_by c).loop-test.taken)
+
+pub loop-i-smaller : goal.loop-i-smaller
+loop-i-smaller c = omega (arith, (entered_by c).loop-test.taken)
+
+pub loop-i-preserved : goal.loop-i-preserved
+loop-i-preserved c =
+    let entered = entered_by put in
+    written_next entered.before.loop.inv entered.loop-test.taken c.put_member-p.ensures
+
+pub shape_of-out : goal.shape_of-out
+shape_of-out c = written_length c.loop-i.invariant
+
+pub returns : goal.returns
+unfolding members
+returns c = written_end c.loop-i.invariant c.loop-i-test.false

@@ -1,0 +1,24 @@
+-- `list_given` meets its contract.
+use mathlib.Core.Bool.{false}
+use Rattle.text_laws.proofs.ReadTrees.{found_within, found_count, found_accepted}
+use Rattle.row_listings.proofs.TextListings.{sort_lists, sort_refused}
+use Rattle.row_listings.proofs.listings.list_given.Goals as goal
+
+pub returns-then-no : goal.returns-then-no
+returns-then-no c =
+    sort_refused _ c.args.sort c.args.times.now c.args.states.now c.args.out.now
+    c.read_expression-read.ensures c.if-no.true
+
+pub slice_bounds-tree-end : goal.slice_bounds-tree-end
+slice_bounds-tree-end c = found_within (found c c.if-no.false)
+
+pub slice_bounds-list_tree-end : goal.slice_bounds-list_tree-end
+slice_bounds-list_tree-end c = found_count (found c c.if-no.false)
+
+pub list_tree-requires : goal.list_tree-requires
+list_tree-requires c = found_accepted (found c c.if-no.false)
+
+pub returns : goal.returns
+returns c =
+    sort_lists _ c.args.sort c.args.times.now c.args.states.now (found c c.if-no.false)
+    c.list_tree.ensures

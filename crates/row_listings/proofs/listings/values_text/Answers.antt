@@ -1,0 +1,7 @@
+-- `values_text` meets its contract.
+use Rattle.row_listings.specs.Listings.{ListsAs}
+use Rattle.row_listings.proofs.listings.values_text.Goals as goal
+
+pub returns : goal.returns
+unfolding ListsAs
+returns c = c.list_given.ensures

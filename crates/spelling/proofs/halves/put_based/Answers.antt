@@ -1,0 +1,16 @@
+-- `put_based` meets its contract: a quote, the base and the half.
+use Rattle.basics.proofs.PartByPart.{going_start, going_on, going_end}
+use mathlib.Core.Path.{refl}
+use mathlib.Core.List.{[], ◌∷◌}
+use Rattle.spelling.specs.Spelled.{half_byte}
+use Rattle.spelling.proofs.halves.put_based.Goals as goal
+
+pub returns : goal.returns
+returns c =
+    let base = of_half half in
+    let quote = of_base base in
+    let entry = quote.before.before.before in
+    let g =
+    going_start ((39 ∷ []) ∷ (98 ∷ []) ∷ (half_byte entry.args.h ∷ []) ∷ []) refl entry.pre.room in
+    going_end
+    (going_on (going_on (going_on g quote.push.ensures) base.push2.ensures) c.put_half.ensures)

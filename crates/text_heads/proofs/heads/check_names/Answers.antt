@@ -1,0 +1,45 @@
+use native.Mathlib.Omega.{arith}
+use Rattle.basics.proofs.Deciding.{decided_no, decided_yes}
+use Rattle.text_heads.proofs.HeadChecks.{naming_first, names_done, word_here_lem, names_33rd, names_bad}
+use Rattle.text_heads.proofs.HeadChecks.{naming_next}
+use Rattle.text_heads.proofs.heads.check_names.Goals as goal
+
+pub find_word-first-requires : goal.find_word-first-requires
+find_word-first-requires c = c.requires.within
+
+pub loop-i-init : goal.loop-i-init
+loop-i-init c = naming_first c.find_word-first.ensures
+
+pub returns-then-i-ge32 : goal.returns-then-i-ge32
+returns-then-i-ge32 c =
+    names_33rd (start turn).requires c.loop-i.invariant c.loop-i-test.true _ c.if-i-ge32.true
+    c.refuse.ensures
+
+pub is_new_name-requires : goal.is_new_name-requires
+is_new_name-requires c =
+    word_here_lem (start c).pre c.loop-i.invariant
+    c.loop-i-test.true
+
+pub returns-then-not-is_new_name : goal.returns-then-not-is_new_name
+returns-then-not-is_new_name c =
+    names_bad (start turn).requires c.loop-i.invariant c.loop-i-test.true _ c.if-i-ge32.false
+    (decided_no _ c.is_new_name.ensures c.if-not-is_new_name.true) c.refuse-then-not-is_new_name.ensures
+
+pub find_word-next-requires : goal.find_word-next-requires
+find_word-next-requires c =
+    let found = c.loop-i.invariant.found in
+    omega (arith, found.run.low, found.run.within)
+
+pub overflow_add-i : goal.overflow_add-i
+overflow_add-i c = omega (arith, c.loop-i-test.true)
+
+pub loop-i-smaller : goal.loop-i-smaller
+loop-i-smaller c = omega (arith, c.loop-i-test.true)
+
+pub loop-i-preserved : goal.loop-i-preserved
+loop-i-preserved c =
+    naming_next (start turn).requires c.loop-i.invariant c.loop-i-test.true c.if-i-ge32.false
+    (decided_yes _ c.is_new_name.ensures c.if-not-is_new_name.false) c.find_word-next.ensures
+
+pub returns : goal.returns
+returns c = names_done (start c).pre c.loop-i.invariant c.loop-i-test.false

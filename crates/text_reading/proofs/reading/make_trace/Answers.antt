@@ -1,0 +1,9 @@
+-- `make_trace` meets its contract.
+use Rattle.text_reading.proofs.Rooms.{accepted, refused}
+use Rattle.text_reading.proofs.reading.make_trace.Goals as goal
+
+pub fill-requires : goal.fill-requires
+fill-requires c = accepted c.check_text.ensures c.type_inv.states
+
+pub returns-in-Refused : goal.returns-in-Refused
+returns-in-Refused c = refused _ _ _ _ c.check_text.ensures c.type_inv.states

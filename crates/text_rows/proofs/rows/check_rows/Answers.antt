@@ -1,0 +1,63 @@
+use native.Mathlib.Omega.{arith}
+use Rattle.text_rows.proofs.Rowing.{rowing_first, row_in, rowing_refused, rowing_few, rowing_next}
+use Rattle.text_rows.proofs.Rowing.{rows_none, rows_done}
+use Rattle.text_rows.proofs.rows.check_rows.Goals as goal
+
+pub next_line-at-requires : goal.next_line-at-requires
+next_line-at-requires c = c.requires.within
+
+pub loop-at-init : goal.loop-at-init
+loop-at-init c = rowing_first c.next_line-at.ensures
+
+pub check_row-requires : goal.check_row-requires
+check_row-requires c = row_in c.loop-at.invariant c.loop-at-test.true (start c).pre
+
+pub returns-in-Refused : goal.returns-in-Refused
+returns-in-Refused c =
+    rowing_refused c.loop-at.invariant c.loop-at-test.true c.check_row.ensures _
+    c.type_inv.text
+
+pub row_time-t-requires : goal.row_time-t-requires
+row_time-t-requires c =
+    let inside = entered c in
+    (row_in inside.before.loop.inv inside.loop-test.taken
+    (start inside.before).pre).timed
+
+pub behind_line-behind-requires : goal.behind_line-behind-requires
+behind_line-behind-requires c = (entered c).before.loop.inv.next.within
+
+pub next_line-at-requires-in-Done : goal.next_line-at-requires-in-Done
+next_line-at-requires-in-Done c = c.behind_line-behind.ensures.within
+
+pub overflow_add-r : goal.overflow_add-r
+overflow_add-r c =
+    let inside = entered told in
+    omega (
+      arith,
+      rowing_few inside.before.loop.inv inside.loop-test.taken c.check_row.ensures
+          c.type_inv.text,
+    )
+
+pub loop-at-smaller : goal.loop-at-smaller
+loop-at-smaller c =
+    let inside = entered c in
+    omega (
+      arith,
+      inside.loop-test.taken,
+      c.behind_line-behind.ensures.on inside.loop-test.taken,
+      c.next_line-at-in-Done.ensures.low,
+    )
+
+pub loop-at-preserved : goal.loop-at-preserved
+loop-at-preserved c =
+    let inside = entered told in
+    rowing_next inside.before.loop.inv inside.loop-test.taken c.check_row.ensures
+    c.type_inv.text c.row_time-t.ensures c.behind_line-behind.ensures c.next_line-at-in-Done.ensures
+
+pub returns-then-r-eq0 : goal.returns-then-r-eq0
+returns-then-r-eq0 c =
+    rows_none c.loop-at.invariant c.loop-at-test.false _ c.if-r-eq0.true
+    c.refuse.ensures
+
+pub returns : goal.returns
+returns c = rows_done c.loop-at.invariant c.loop-at-test.false c.if-r-eq0.false

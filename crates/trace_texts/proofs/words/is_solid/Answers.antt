@@ -1,0 +1,13 @@
+-- `is_solid` meets its contract.
+use mathlib.Core.Path.{refl}
+use borrow.Author.Tests.{ne_eqb}
+use Rattle.trace_texts.specs.Finding.{is_solid_lem}
+use Rattle.trace_texts.proofs.words.is_solid.Goals as goal
+
+pub returns-then-b-eq10 : goal.returns-then-b-eq10
+unfolding is_solid_lem
+returns-then-b-eq10 c = rw c.if-b-eq10.true refl
+
+pub returns : goal.returns
+unfolding is_solid_lem
+returns c = rw (c.is_blank.ensures, ne_eqb _ 10 c.if-b-eq10.false) refl

@@ -1,0 +1,9 @@
+-- `write_expression` meets its contract: the names are checked, then the tree.
+use Rattle.writer.proofs.Calls.{refused_names, names_passed}
+use Rattle.writer.proofs.write_expression.Goals as goal
+
+pub write_tree-requires : goal.write_tree-requires
+write_tree-requires c = names_passed _ c.check_names-checked.ensures c.type_inv.out
+
+pub returns-in-Refused : goal.returns-in-Refused
+returns-in-Refused c = refused_names _ c.check_names-checked.ensures c.type_inv.out
