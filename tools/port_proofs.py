@@ -65,6 +65,8 @@ class Fn:
         self.places = {p[0]: p for p in info['places']}
         self.typed = {p[0]: t for p, t in zip(info['places'], info['typed'])}
         self.loops = info['loops']; self.changed = info['changed']
+        self.params = info.get('params', {})
+        self.by_name = dict(zip([q[0] for q in info['places']], info['places_by_name']))
         self.settled = set(info.get('settled', []))
     def chain(self, place):
         out = []
@@ -101,6 +103,19 @@ class Fn:
             return '.'.join(['c'] + fields)
         p = hits[0]
         rest = fields[1:]
+        callee = self.places[p][3]
+        if rest[:1] == ['new'] and len(rest) > 1 and callee in self.params:
+            k = 1
+            while k < len(rest) and rest[k] == '1': k += 1
+            ps = self.params[callee]
+            if k < len(rest) and rest[k] == '0' and k - 1 < len(ps):
+                rest = ['new', ps[k - 1]] + rest[k + 1:]
+            elif k == len(rest) and len(rest) - 1 < len(ps) + 1:
+                rest = ['new', ps[min(len(rest) - 1, len(ps) - 1)]]
+        if rest[:1] == ['given'] and norm(f).startswith('enum_told'):
+            arms = [q for q in chain if self.places[q][2][1].startswith('in-')]
+            if arms:
+                return '.'.join(['c', self.places[arms[0]][2][1], 'is'])
         if rest[:1] == ['given']:
             typed = [t for t in self.typed[p]]
             if typed:
@@ -110,8 +125,26 @@ class Fn:
 
 PATH = re.compile(r'(?<![^\s(){}\[\];,←])(c\d*|κ?[a-z]\w*)((?:\.[^\s(){}\[\];,.]+)+)(?![^\s(){}\[\];,])|(?<![^\s(){}\[\];,])(c\d+)(?![^\s(){}\[\];,.])')
 
-def turn_body(fn, at, body, said):
-    alias = {'c': at}
+def distance(fn, at, to):
+    chain = fn.chain(at)
+    return chain.index(to) if to in chain else None
+
+def turn_body(fn, at, body, said, projections={}, takers={}, start='c'):
+    alias = {start: at}
+    # (entry c), a place that an own definition finds
+    for _ in range(4):
+      for name, to in projections.items():
+        body = re.sub(rf'\({re.escape(name)} (?:[^\s()]+|\([^()]*\))\)', f'@{name}', body)
+        body = re.sub(rf'(?<![^\s(){{}}\[\];,]){re.escape(name)} (?:c|@\S+|[^\s()]*before)(?=\s+in\b)', f'@{name}', body)
+        alias[f'@{name}'] = to
+    # behind_point c.before, a fact of one's own about a place
+    for name, to in takers.items():
+        def give(m):
+            n = distance(fn, at, to)
+            if n is None:
+                said.append(f'?place of {name}'); return m[0]
+            return f'{name} ' + start + '.before' * n + '\x00'
+        body = re.sub(rf'(?<![^\s(){{}}\[\];,]){re.escape(name)} (?:@[^\s()]+|[^\s()]+|\([^()]*\))', give, body)
     def take(m):
         name, path = m[1], m[2].split('.')[1:]
         place = at
@@ -132,7 +165,7 @@ def turn_body(fn, at, body, said):
         alias[m[1]] = place
         body = body[:m.start()] + body[m.end():]
     names = '|'.join(sorted(map(re.escape, alias), key=len, reverse=True))
-    P = re.compile(rf'(?<![^\s(){{}}\[\];,])({names})((?:\.[^\s(){{}}\[\];,.]+)+)(?![^\s(){{}}\[\];,])')
+    P = re.compile(rf'(?<![^\s(){{}}\[\];,])({names})((?:\.[^\s(){{}}\[\];,.\x00]+)+)(?![^\s(){{}}\[\];,])')
     def sub(m):
         r = fn.resolve(at, alias[m[1]], m[2].split('.')[1:], said)
         if r is None:
@@ -143,10 +176,16 @@ def turn_body(fn, at, body, said):
     # a test of !x tells of x itself
     body = re.sub(r'\((?:not[-_]true|not[-_]false) _\s+(c\.[^\s(){}\[\];,]+\.(?:true|false))\)', r'\1', body)
     body = re.sub(r'(?<![^\s(){}\[\];,])(?:not[-_]true|not[-_]false) _\s+(c\.[^\s(){}\[\];,]+\.(?:true|false))(?![^\s(){}\[\];,])', r'\1', body)
+    body = re.sub(r'\(sym (c\.in-[^\s(){}\[\];,.]+)\.is ∙ c\.[^\s(){}\[\];,]+\.ensures\)', r'\1.ensures', body)
     bare = re.compile(rf'(?<![^\s(){{}}\[\];,])({names})(?![^\s(){{}}\[\];,.])')
     for m in bare.finditer(body):
-        if m[1] != 'c': said.append(f'?bare {m[1]}')
-    return body
+        if m[1] != start: said.append(f'?bare {m[1]}')
+    def bare_place(m):
+        if m[1] == start: return m[0]
+        n = distance(fn, at, alias[m[1]])
+        return m[0] if n is None else start + '.before' * n
+    body = bare.sub(bare_place, body)
+    return body.replace('\x00', '')
 
 def turn(path, fn_path, info, crate):
     """Returns (invariants, answers, said) or None."""
@@ -155,7 +194,7 @@ def turn(path, fn_path, info, crate):
     fn = Fn(info); said = []
     bl = blocks(text)
     head, uses, defs, order, final = [], [], {}, [], None
-    other = []
+    other = []; whole_unf = ''; after_spec = False
     for b in bl:
         lines = [l for l in b]
         while lines and lines[-1] == '': lines.pop()
@@ -167,9 +206,20 @@ def turn(path, fn_path, info, crate):
         if lines[0].startswith('use '):
             uses.append('\n'.join(lines)); continue
         if 'tie.close' in '\n'.join(lines):
+            for i, l in enumerate(lines):
+                if l.startswith('unfolding'):
+                    u = [l]
+                    while lines[i + len(u)][:1].isspace(): u.append(lines[i + len(u)])
+                    whole_unf = '\n'.join(u) + '\n'
             final = '\n'.join(lines); continue
-        if re.match(r'pub \S+ : \{M : Type 1\} → statement M', lines[0]): continue
-        m = re.match(r'(?:abbrev |unfoldable )?(?:pub )?(\S+) : (.*)', lines[0])
+        if re.match(r'pub \S+ : \{M : Type 1\} → statement M', lines[0]):
+            lines = lines[1:]
+            if lines and lines[0].startswith('unfolding') and 'tie.close' not in '\n'.join(lines):
+                whole_unf = '\n'.join(lines) + '\n'; lines = []
+            if not lines: after_spec = True; continue
+        if after_spec and lines[0].startswith('unfolding'):
+            whole_unf = '\n'.join(lines) + '\n'; continue
+        m = re.match(r'(?:abbrev |unfoldable )?(?:pub )?(\S+) :(?: (.*))?$', lines[0])
         if m:
             order.append(m[1]); defs[m[1]] = [lead, lines]
         else:
@@ -192,7 +242,7 @@ def turn(path, fn_path, info, crate):
     tie_of = {}
     for name in order:
         t = ' '.join(defs[name][1])
-        mm = re.search(r': tie\.([^\s]+)', t)
+        mm = re.search(r': tie\.((?:Need|invariant|decreases)[^\s]*)', t)
         if mm: tie_of[name] = mm[1]
     if len(need_args) != len(fn.needs):
         said.append(f'?count old {len(need_args)} new {len(fn.needs)}')
@@ -212,6 +262,25 @@ def turn(path, fn_path, info, crate):
         sm = difflib.SequenceMatcher(None, [key(x) for x in old_names], [key(x) for x in new_names], autojunk=False)
         for a, b, k in sm.get_matching_blocks():
             for d in range(k): pairs.append((need_args[a+d], b+d))
+    # own definitions over places of the code
+    projections, takers = {}, {}
+    olds = {norm(q): q for q in fn.places}
+    def place_of(word):
+        w = norm(word)
+        return olds.get(w) or olds.get(re.sub(r'^(then|else|after|in|at)_', r'\1_', w))
+    for name in order:
+        ty = ' '.join(defs[name][1])
+        ty = ty.split(f'\n{name}')[0]
+        m1 = re.match(r'.*? : tie\.([^\s()]+)(?: invariant\S*| decreases\S*)* → tie\.([^\s()]+)', defs[name][1][0])
+        if m1 and not m1[1].startswith(('Need', 'invariant', 'decreases')):
+            q = place_of(m1[2])
+            if q: projections[name] = q
+            continue
+        m2 = re.search(r':\s+(?:\((\w+) : )?tie\.([^\s()]+)', ' '.join(defs[name][1][:2]))
+        if m2 and not m2[2].startswith(('Need', 'invariant', 'decreases')):
+            q = place_of(m2[2])
+            if q: takers[name] = q
+            else: said.append(f'?place {m2[2]} of {name}')
     # invariants
     inv = []
     names_inv = {}
@@ -267,7 +336,7 @@ def turn(path, fn_path, info, crate):
             mm = re.match(r'\(λ (.*?)\.\s(.*)\)$', arg, re.S) or re.match(r'\(λ (.*?)\.(.*)\)$', arg, re.S)
             if not mm:
                 said.append(f'?answer {new}: {arg[:60]}'); continue
-            body = mm[2]; unf = ''; lead = []
+            body = mm[2]; unf = whole_unf; lead = []
             params = mm[1].split()
             multi = None
         elif arg in defs:
@@ -292,7 +361,7 @@ def turn(path, fn_path, info, crate):
         if params and params[0] != 'c' and params[0] != '_':
             said.append(f'?binder {params} for {new}')
         said_here = []
-        body = turn_body(fn, at, body, said_here)
+        body = turn_body(fn, at, body, said_here, projections, takers)
         said += [f'{new}: {s}' for s in said_here]
         body = re.sub(r'(?<![^\s(){}\[\];,])[^\s(){}\[\];,.]+(?= c\b)', lambda mt: renamed.get(mt[0], mt[0]), body)
         if TRIVIAL.match(re.sub(r'\s+', ' ', body.strip())) and not unf and new not in cited: continue
@@ -308,7 +377,25 @@ def turn(path, fn_path, info, crate):
                 if re.search(rf'(?<![^\s(){{}}\[\];,]){re.escape(ans[j][0])} c\b', a[4]):
                     ans.insert(i, ans.pop(j)); moved = True; break
             if moved: break
-    helpers = [n for n in order if n not in used and n not in tie_of]
+    for name in takers:
+        lead, lines = defs[name]
+        s = '\n'.join(lines)
+        q = takers[name]
+        m3 = re.search(r'\((\w+) : tie\.', s.split('\n' + name + ' ')[0])
+        here = []
+        # the variable in the type, and the one of the clause
+        parts = re.split(rf'\n(?={re.escape(name)} )', s, maxsplit=1)
+        head_, rest_ = parts[0] + '\n', (parts[1] if len(parts) > 1 else '')
+        head_ = re.sub(r'tie\.[^\s()]+(?: invariant\S*| decreases\S*)*', 'goal.' + fn.by_name[q], head_, count=1)
+        if m3: head_ = turn_body(fn, q, head_, here, projections, {k: v for k, v in takers.items() if k != name}, m3[1])
+        if m3 and m3[1] != 'c': head_ = re.sub(rf'(?<![^\s(){{}}\[\];,])c\.', m3[1] + '.', head_)
+        m4 = re.match(rf'{re.escape(name)} (\w+)', rest_)
+        if m4:
+            rest_ = turn_body(fn, q, rest_, here, projections, {k: v for k, v in takers.items() if k != name}, m4[1])
+            if m4[1] != 'c': rest_ = re.sub(rf'(?<![^\s(){{}}\[\];,])c\.', m4[1] + '.', rest_)
+        said += [f'{name}: {x}' for x in here]
+        defs[name][1] = (head_ + rest_).split('\n')
+    helpers = [n for n in order if n not in used and n not in tie_of and n not in projections]
     return fn, head, uses, inv, ans, [(n, defs[n]) for n in helpers], said
 
 def params_of(crate_dir, mods, f):

@@ -7,6 +7,14 @@ use Rattle.tokens.proofs.Scanning.{scan_start, scan_blank, stop_fits, stop_insid
 use Rattle.tokens.proofs.Scanning.{token_fits, scan_token, scan-end}
 use Rattle.tokens.proofs.scan.Goals as goal
 
+-- where a token was taken: it has a byte, and ends in the text
+fits :
+    (c : goal.Else-code →
+    (0 < c.take_token-s.result.size) ×
+    (c.loop-at.at + c.take_token-s.result.size ≤ length c.args.text.now)
+fits c =
+    token_fits _ _ c.loop-at-test.true c.loop-at.invariant c.take_token-s.ensures c.if-code.false
+
 pub loop-at-init : goal.loop-at-init
 loop-at-init c = scan_start _ c.no_codes-codes.ensures c.no_places-places.ensures
 
@@ -30,12 +38,6 @@ returns-then-code c =
     let unblank = sym c.is_blank.ensures ∙ c.if-is_blank.false in
     let stuck = scan-stop _ _ c.loop-at-test.true c.loop-at.invariant step unblank c.if-code.true in
     rw c.refuse_bytes.ensures (stopped _ stuck)
-fits :
-    (c : tie.Else2 invariant-loop decreases-loop) →
-    (0 < c.take_token-s.result.size) ×
-    (c.loop-at.at + c.take_token-s.result.size ≤ length c.args.text.now)
-fits c =
-    token_fits _ _ c.loop-at-test.true c.loop-at.invariant c.take_token-s.ensures c.if-code.false
 
 pub overflow_add-at-in-loop-at : goal.overflow_add-at-in-loop-at
 overflow_add-at-in-loop-at c = let inside = fits c in omega arith

@@ -3,19 +3,17 @@ use Rattle.acceptance.proofs.CappedSizes.{left_combined, right_combined, left_fi
 use Rattle.acceptance.proofs.sizes.combine.Goals as goal
 
 pub returns-in-Left : goal.returns-in-Left
-returns-in-Left c = rw c.enum_told-1.given.1 left_combined
+returns-in-Left c = rw c.in-Left.is left_combined
 
 pub returns-in-Right : goal.returns-in-Right
-returns-in-Right c = rw c.enum_told-in-Right-1.given.1 right_combined
+returns-in-Right c = rw c.in-Right.is right_combined
 
 pub returns-in-LeftFirst : goal.returns-in-LeftFirst
-returns-in-LeftFirst c =
-    rw c.enum_told-in-LeftFirst-1.given.1 (left_first c.cap-tests.ensures c.cap.ensures)
+returns-in-LeftFirst c = rw c.in-LeftFirst.is (left_first c.cap-tests.ensures c.cap.ensures)
 
 pub returns-in-RightFirst : goal.returns-in-RightFirst
 returns-in-RightFirst c =
-    rw c.enum_told-in-RightFirst-1.given.1 (right_first c.cap-tests.ensures c.cap-in-RightFirst.ensures)
+    rw c.in-RightFirst.is (right_first c.cap-tests.ensures c.cap-in-RightFirst.ensures)
 
 pub returns-in-Together : goal.returns-in-Together
-returns-in-Together c =
-    rw c.enum_told-in-Together-1.given.1 (together c.cap-tests.ensures c.larger.ensures)
+returns-in-Together c = rw c.in-Together.is (together c.cap-tests.ensures c.larger.ensures)

@@ -1,20 +1,45 @@
 -- `put_head` meets its contract: a word, all names, a word.
-use Rattle.basics.proofs.PartByPart.{going_room, going_on, going_end}
+use Prim.Native.Nat.{ℕ}
+use mathlib.Core.List.{List, [], ◌∷◌}
+use Rattle.basics.proofs.PartByPart.{Going, going_room, going_on, going_end}
 use Rattle.basics.specs.Text.{bytes}
+use Rattle.row_lines.specs.Lines.{members}
+use Rattle.activity.specs.Activity.{head_line}
+use Rattle.row_lines.specs.Inner.{marked}
+use Rattle.activity.proofs.WholeText.{head_start}
 use Rattle.activity.proofs.texts.put_head.Goals as goal
+
+-- of the line, what is left
+abbrev Left : goal.Start → List (List ℕ) → List ℕ → ℕ → Type 0
+Left s = Going s.args.out.now s.args.at (head_line s.args.names.now s.args.k)
+
+abbrev all : goal.Start → List (List ℕ)
+all s = members s.args.names.now s.args.k (marked 4294967295) ∷ bytes " changed\n" ∷ []
+
+begun : (s : goal.Start) → Left s (bytes "time" ∷ all s) s.args.out.now s.args.at
+begun s = head_start _ s.requires.slots.few s.requires.room
+
+worded : (c : goal.After-put-p) → Left c.before.before.before.before.before.before (all c.before.before.before.before.before.before) c.put-p.new.out c.put-p.result
+unfolding bytes
+worded c = going_on (begun c.before.before.before.before.before.before) c.put-p.ensures
+
+named : (c : goal.After-put_members-q)
+    → Left c.before.before.before.before.before.before.before.before.before.before (bytes " changed\n" ∷ []) c.put_members-q.new.out c.put_members-q.result
+named c = going_on (worded c.before.before.before.before) c.put_members-q.ensures
 
 pub put-p-requires : goal.put-p-requires
 unfolding bytes
-put-p-requires c = going_room (begun start)
+put-p-requires c = going_room (begun c.before.before.before.before.before)
 
 pub put_members-q-requires : goal.put_members-q-requires
 put_members-q-requires c =
-    record { slots = (entry written).requires.slots; room = going_room (worded written) }
+    record { slots = c.requires.slots; room = going_room (worded c.before.before.before) }
 
 pub put-requires : goal.put-requires
 unfolding bytes
-put-requires c = going_room (named told)
+put-requires c = going_room (named c.before.before.before.before.before)
 
 pub returns : goal.returns
 unfolding bytes
-returns c = going_end (going_on (named told) c.put.ensures)
+returns c =
+    going_end (going_on (named c.before.before.before.before.before.before.before.before) c.put.ensures)

@@ -1,8 +1,12 @@
 -- `tell_part` meets its contract.
 use native.Mathlib.Omega.{arith}
 use Rattle.trace_writer.proofs.TraceChecks.{some_rows}
+use Rattle.activity.specs.Activity.{PartOf}
 use Rattle.activity.proofs.WholeText.{no_part, rows_refused, checked_good, part_delivered}
 use Rattle.activity.proofs.texts.tell_part.Goals as goal
+
+inside : (c : goal.Else-n-to) → PartOf c.args.n c.args.from c.args.to
+inside c = record { some = c.if-to-from.false; within = c.if-n-to.false }
 
 pub returns-then-to-from : goal.returns-then-to-from
 returns-then-to-from c = no_part (λ p. omega (arith, p.some, c.if-to-from.true)) c.refuse.ensures
@@ -11,22 +15,22 @@ pub returns-then-n-to : goal.returns-then-n-to
 returns-then-n-to c = no_part (λ p. omega (arith, p.within, c.if-n-to.true)) c.refuse-then-n-to.ensures
 
 pub check_rows-requires : goal.check_rows-requires
-check_rows-requires c =
-    some_rows (entry c).requires _ _ (omega (arith, c.if-to-from.false, c.if-n-to.false))
+check_rows-requires c = some_rows c.requires _ _ (omega (arith, c.if-to-from.false, c.if-n-to.false))
 
 pub overflow_sub-to-in-Done : goal.overflow_sub-to-in-Done
-overflow_sub-to-in-Done c = omega (arith, (checked c).before.before.if1.false)
+overflow_sub-to-in-Done c = omega (arith, c.if-to-from.false)
 
 pub write_part-requires : goal.write_part-requires
 write_part-requires c =
-    let rows = checked known in
-    checked_good (entry rows.before).requires (inside rows.before) rows.check-rows.ensures c.type_inv.out
+    let rows = checked c.before.before in
+    checked_good c.requires (inside c.before.before.before.before.before) rows.check-rows.ensures c.type_inv.out
 
 pub returns-in-Refused : goal.returns-in-Refused
-returns-in-Refused c = rows_refused (inside c) _ c.check_rows.ensures c.type_inv.out
+returns-in-Refused c =
+    rows_refused (inside c.before.before.before.before) _ c.check_rows.ensures c.type_inv.out
 
 pub returns-in-Done : goal.returns-in-Done
 returns-in-Done c =
-    let rows = checked known in
-    part_delivered (inside rows.before) rows.check-rows.ensures c.type_inv.out
+    let rows = checked c.before.before.before.before.before in
+    part_delivered (inside c.before.before.before.before.before.before.before.before) rows.check-rows.ensures c.type_inv.out
     c.write_part.ensures

@@ -1,39 +1,72 @@
 -- `write_part` meets its contract: the head, if it stands here, and the rows are written, and their length is the one
 -- measured.
 use native.Mathlib.Omega.{arith}
-use Rattle.basics.proofs.PartByPart.{going_room, going_on, going_end}
+use Prim.Native.Nat.{ℕ, ◌+◌, ◌≤◌}
+use mathlib.Core.Path.{◌≡◌}
+use mathlib.Core.List.{List, [], ◌∷◌}
+use lib.ListN.{length}
+use Rattle.basics.proofs.PartByPart.{Going, going_room, going_on, going_end}
 use Rattle.figures.proofs.Delivering.{short, delivered}
+use Rattle.row_lines.specs.Lines.{row_lines}
+use Rattle.activity.specs.Activity.{opening, part_text}
+use Rattle.activity.proofs.WholeText.{part_size, part_start}
 use Rattle.activity.proofs.texts.write_part.Goals as goal
+
+abbrev text : goal.After-rows_size → List ℕ
+text c =
+    part_text c.args.names.now c.args.k c.args.times.now c.args.states.now
+    c.args.first c.args.many
+
+abbrev size : goal.After-rows_size → ℕ
+size c = c.opening_size.result + c.rows_size.result
+
+measured : (c : goal.After-rows_size) → size c ≡ length (text c)
+measured c = part_size _ _ _ _ _ _ c.opening_size.ensures c.rows_size.ensures
+
+abbrev rows : goal.After-rows_size → List ℕ
+rows c =
+    row_lines c.args.names.now c.args.k c.args.times.now c.args.states.now
+    c.args.first c.args.many
+
+abbrev headed : goal.After-rows_size → List ℕ
+headed c = opening c.args.names.now c.args.k c.args.first
+
+begun : (c : goal.After-rows_size) → size c ≤ length c.args.out.now
+    → Going c.args.out.now 0 (text c) (headed c ∷ rows c ∷ []) c.args.out.now 0
+begun c = part_start _ _ _ _ _ _ (measured c)
+
+at_rows : (c : goal.After-put_opening-p)
+    → Going c.args.out.now 0 (text c.before.before.before) (rows c.before.before.before ∷ [])
+    c.put_opening-p.new.out c.put_opening-p.result
+at_rows c = going_on (begun c.before.before.before c.if-out-size.false) c.put_opening-p.ensures
 
 pub opening_size-requires : goal.opening_size-requires
 opening_size-requires c = c.requires.slots
 
 pub rows_size-requires : goal.rows_size-requires
-rows_size-requires c = (opened c).requires
+rows_size-requires c = c.requires
 
 pub overflow_add-size : goal.overflow_add-size
 overflow_add-size c =
-    let start = entry c in
     omega (
       arith,
       c.opening_size.ensures.few,
       c.rows_size.ensures.few,
-      start.pre.slots.few,
-      start.pre.few,
+      c.requires.slots.few,
+      c.requires.few,
     )
 
 pub returns-then-out-size : goal.returns-then-out-size
-returns-then-out-size c = short (measured c) c.if-out-size.true c.refuse.ensures
+returns-then-out-size c = short (measured c.before.before) c.if-out-size.true c.refuse.ensures
 
 pub put_opening-p-requires : goal.put_opening-p-requires
 put_opening-p-requires c =
-    record { slots = (entry sizes).requires.slots; room = going_room (begun sizes c.if-out-size.false) }
+    record { slots = c.requires.slots; room = going_room (begun c.before.before c.if-out-size.false) }
 
 pub put_rows-requires : goal.put_rows-requires
-put_rows-requires c =
-    record { good = (entry (sized written)).requires; room = going_room (at_rows written) }
+put_rows-requires c = record { good = c.requires; room = going_room (at_rows c.before.before.before) }
 
 pub returns : goal.returns
 returns c =
-    delivered (measured (sized written)) c.if-out-size.false
-    (going_end (going_on (at_rows written) c.put_rows.ensures))
+    delivered (measured c.before.before.before.before.before.before.before.before.before) c.if-out-size.false
+    (going_end (going_on (at_rows c.before.before.before.before.before.before) c.put_rows.ensures))

@@ -6,4 +6,4 @@ pub returns-in-Done : goal.returns-in-Done
 returns-in-Done c = told c.requires c.write_expression-o.ensures c.type_inv.text
 
 pub returns-in-Refused : goal.returns-in-Refused
-returns-in-Refused c = untold c.requires c.write_expression-o.ensures c.type_inv.text c.lay_dots.ensures
+returns-in-Refused c = untold c.requires c.write_expression-o.ensures c.in-Refused.is c.lay_dots.ensures

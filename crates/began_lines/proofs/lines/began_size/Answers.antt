@@ -6,4 +6,4 @@ pub returns-in-At : goal.returns-in-At
 returns-in-At c = at_size c.b-1.given.1 c.width_of.ensures
 
 pub returns-in-Nowhere : goal.returns-in-Nowhere
-returns-in-Nowhere c = nowhere_size c.enum_told-1.given.1
+returns-in-Nowhere c = nowhere_size c.in-Nowhere.is

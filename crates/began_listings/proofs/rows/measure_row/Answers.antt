@@ -12,13 +12,12 @@ line_size-requires c = row_known _ _ _ c.find-told.ensures c.stamp_of.ensures c.
 
 pub add-requires : goal.add-requires
 add-requires c =
-    let s = entry c in
-    measured_asked _ _ _ s.pre.measured (omega (arith, s.pre.there, s.pre.rows.asked.rows.few))
+    measured_asked _ _ _ c.requires.measured (omega (arith, c.requires.there, c.requires.rows.asked.rows.few))
     c.line_size.ensures
 
 pub returns : goal.returns
 returns c =
-    let s = entry told in
+    let s = entry c.before.before.before.before in
     let line = row_sized _ _ _ c.find-told.ensures c.stamp_of.ensures c.number_of-a.ensures
     c.line_size.ensures in
     measured_next _ _ _ s.pre.measured (c.number_of-a.ensures ∙ c.find-told.ensures.matches.is) line

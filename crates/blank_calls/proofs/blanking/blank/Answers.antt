@@ -20,4 +20,4 @@ returns-in-Refused c =
 pub returns-in-Good : goal.returns-in-Good
 returns-in-Good c =
     blank_done (lists_good _ _ _ _ (decided_yes _ c.lists_fit-fits.ensures c.if-not-fits.false))
-    c.judge_codes-v.ensures c.type_inv.kept c.blank_rows.ensures
+    c.judge_codes-v.ensures c.in-Good.is c.blank_rows.ensures

@@ -1,26 +1,66 @@
 -- `put_last` meets its contract: each number with the word behind it.
-use Rattle.basics.proofs.PartByPart.{going_room, going_on, going_two, going_end}
+use Prim.Native.Nat.{ℕ}
+use mathlib.Core.List.{List, [], ◌∷◌}
+use Rattle.basics.proofs.PartByPart.{Going, going_room, going_on, going_two, going_end}
 use Rattle.basics.specs.Text.{bytes}
+use Rattle.figures.specs.Numbers.{decimal}
+use Rattle.listing.specs.Listing.{last_line}
+use Rattle.column_listings.proofs.LastLine.{last_start}
 use Rattle.column_listings.proofs.totals.put_last.Goals as goal
+
+-- of the line, what is left
+abbrev Left : goal.Start → List (List ℕ) → List ℕ → ℕ → Type 0
+Left s = Going s.args.out.now s.args.at (last_line s.args.t.yes s.args.t.no s.args.t.unknown)
+
+-- the number of unknowns and the line's end, the number of noes and the word before them, and all behind `yes`
+abbrev unknowns : goal.Start → List (List ℕ)
+unknowns s = decimal s.args.t.unknown ∷ bytes "\n" ∷ []
+
+abbrev noes : goal.Start → List (List ℕ)
+noes s = decimal s.args.t.no ∷ bytes " unknown " ∷ unknowns s
+
+abbrev yeses : goal.Start → List (List ℕ)
+yeses s = decimal s.args.t.yes ∷ bytes " no " ∷ noes s
+
+begun : (s : goal.Start) → Left s (bytes "yes " ∷ yeses s) s.args.out.now s.args.at
+begun s =
+    last_start s.args.t.yes s.args.t.no s.args.t.unknown s.args.out.now s.args.at s.requires
+
+at_yeses : (c : goal.After-put-p) → Left c.before.before.before.before.before (yeses c.before.before.before.before.before) c.put-p.new.out c.put-p.result
+unfolding bytes
+at_yeses c = going_on (begun c.before.before.before.before.before) c.put-p.ensures
+
+at_noes : (c : goal.After-put_decimal_then-q)
+    → Left c.before.before.before.before.before.before.before.before.before.before.before (noes c.before.before.before.before.before.before.before.before.before.before.before) c.put_decimal_then-q.new.out c.put_decimal_then-q.result
+unfolding bytes
+at_noes c =
+    going_on (going_two (at_yeses c.before.before.before.before.before.before)) c.put_decimal_then-q.ensures
+
+at_unknowns : (c : goal.After-put_decimal_then-r)
+    → Left c.before.before.before.before.before.before.before.before.before.before.before.before.before.before.before.before.before (unknowns c.before.before.before.before.before.before.before.before.before.before.before.before.before.before.before.before.before) c.put_decimal_then-r.new.out c.put_decimal_then-r.result
+unfolding bytes
+at_unknowns c =
+    going_on (going_two (at_noes c.before.before.before.before.before.before))
+    c.put_decimal_then-r.ensures
 
 pub put-p-requires : goal.put-p-requires
 unfolding bytes
-put-p-requires c = going_room (begun c)
+put-p-requires c = going_room (begun c.before.before.before.before)
 
 pub put_decimal_then-q-requires : goal.put_decimal_then-q-requires
 unfolding bytes
-put_decimal_then-q-requires c = going_room (going_two (at_yeses earlier))
+put_decimal_then-q-requires c = going_room (going_two (at_yeses c.before.before.before.before.before))
 
 pub put_decimal_then-r-requires : goal.put_decimal_then-r-requires
 unfolding bytes
-put_decimal_then-r-requires c = going_room (going_two (at_noes earlier))
+put_decimal_then-r-requires c = going_room (going_two (at_noes c.before.before.before.before.before))
 
 pub put_decimal_then-requires : goal.put_decimal_then-requires
 unfolding bytes
-put_decimal_then-requires c = going_room (going_two (at_unknowns earlier))
+put_decimal_then-requires c = going_room (going_two (at_unknowns c.before.before.before.before.before))
 
 pub returns : goal.returns
 unfolding bytes
 returns c =
-    going_end (going_on (going_two (at_unknowns earlier))
+    going_end (going_on (going_two (at_unknowns c.before.before.before.before.before.before.before.before))
     c.put_decimal_then.ensures)

@@ -11,4 +11,3 @@ invariant-loop-i l = (l.i ≤ l.n) × (l.c ≡ count l.i (λ j. eqb (get_or l.a 
 
 abbrev pub decreases-loop-i : goal.decreases-loop-i
 decreases-loop-i l = l.n - l.i
-unfolding count

@@ -1,13 +1,18 @@
 -- `ranks::name_of` meets its contract.
 use mathlib.Core.Path.{refl}
+use Rattle.alf.specs.Windows.{numbered}
+use Rattle.alf.specs.Answers.{number_of}
 use Rattle.evaluator.proofs.AnswerNumbers.{numbered_yes}
 use Rattle.evaluator.proofs.ranks.name_of.Goals as goal
 
 pub returns-in-0 : goal.returns-in-0
+unfolding numbered number_of
 returns-in-0 c = rw c.in-0.keys1 refl
 
 pub returns-in-1 : goal.returns-in-1
+unfolding numbered number_of
 returns-in-1 c = rw c.in-1.keys2 refl
 
 pub returns-in_default : goal.returns-in_default
+unfolding numbered number_of
 returns-in_default c = numbered_yes _ c.in_default.rest.0.1 c.in_default.rest.1

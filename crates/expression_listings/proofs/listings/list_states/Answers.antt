@@ -7,5 +7,5 @@ returns-in-Refused c = states_refused c.requires.0 c.requires.1 c.values-o.ensur
 
 pub returns-in-Done : goal.returns-in-Done
 returns-in-Done c =
-    states_listed c.requires.0 c.requires.1 c.values-o.ensures c.type_inv.out
+    states_listed c.requires.0 c.requires.1 c.values-o.ensures c.in-Done.is
     c.list_values.ensures

@@ -1,16 +1,27 @@
 -- `put_point` meets its contract.
-use Rattle.basics.proofs.PartByPart.{going_room, going_on, going_two, going_end}
+use mathlib.Core.List.{[], ◌∷◌}
+use Rattle.basics.proofs.PartByPart.{Going, going_room, going_on, going_two, going_end}
+use Rattle.figures.specs.Numbers.{digits}
+use Rattle.figures.specs.Share.{with_point}
 use Rattle.figures.proofs.ShareParts.{point_start}
 use Rattle.figures.proofs.shares.put_point.Goals as goal
+
+-- behind the point the last six digits are left
+behind_point : (c : goal.After-put_decimal_then-p) →
+    Going c.args.out.now c.args.at (with_point c.args.m) (digits 6 c.args.m ∷ [])
+    c.put_decimal_then-p.new.out c.put_decimal_then-p.result
+behind_point c =
+    going_on (going_two (point_start c.args.m c.args.out.now c.args.at c.requires))
+    c.put_decimal_then-p.ensures
 
 pub put_decimal_then-p-requires : goal.put_decimal_then-p-requires
 put_decimal_then-p-requires c =
     going_room (going_two (point_start c.args.m c.args.out.now c.args.at c.requires))
 
 pub put_digits-requires : goal.put_digits-requires
-put_digits-requires c = going_room (behind_point c)
+put_digits-requires c = going_room (behind_point c.before.before.before)
 
 pub returns : goal.returns
 returns c =
-    going_end (going_on (behind_point earlier)
+    going_end (going_on (behind_point c.before.before.before.before.before.before)
     c.put_digits.ensures)

@@ -8,4 +8,4 @@ returns-in-Refused c = rw c.first-1.given.1
 
 pub returns-in-Good : goal.returns-in-Good
 unfolding next_of
-returns-in-Good c = rw c.enum_told-1.given.1
+returns-in-Good c = rw c.in-Good.is

@@ -8,7 +8,7 @@ match_all-requires c =
     (all_asked c.fits-good.ensures args.times.now args.answers.now args.tried.now
     args.given.now args.began.now _
     c.lists_are-lent.ensures c.lists_fit-lists.ensures c.judge_timed-v.ensures
-    c.type_inv.began).asked
+    c.in-Good.is).asked
 
 pub mark-requires : goal.mark-requires
 mark-requires c =
@@ -17,7 +17,7 @@ mark-requires c =
     (all_asked c.fits-good.ensures args.times.now args.answers.now args.tried.now
     args.given.now args.began.now _
     c.lists_are-lent.ensures c.lists_fit-lists.ensures c.judge_timed-v.ensures
-    c.type_inv.began) c.match_all.ensures
+    c.in-Good.is) c.match_all.ensures
 
 pub returns-in-Refused : goal.returns-in-Refused
 returns-in-Refused c =
@@ -33,4 +33,4 @@ returns-in-Good c =
     all_told c.fits-good.ensures args.times.now args.answers.now args.tried.now
     args.given.now args.began.now _
     c.lists_are-lent.ensures c.lists_fit-lists.ensures c.judge_timed-v.ensures
-    c.type_inv.began c.match_all.ensures c.mark.ensures
+    c.in-Good.is c.match_all.ensures c.mark.ensures

@@ -5,7 +5,7 @@ use Rattle.listed_calls.proofs.listed.push.Goals as goal
 pub push-requires : goal.push-requires
 push-requires c =
     push_asked c.row_fits-lists.ensures c.queue_good-good.ensures c.judge_push-v.ensures
-    c.type_inv.row
+    c.in-Good.is
 
 pub returns-in-Refused : goal.returns-in-Refused
 returns-in-Refused c =
@@ -15,4 +15,4 @@ returns-in-Refused c =
 pub returns-in-Good : goal.returns-in-Good
 returns-in-Good c =
     push_told c.row_fits-lists.ensures c.queue_good-good.ensures c.judge_push-v.ensures
-    c.type_inv.row c.push.ensures c.pushing_of.ensures.0 c.pushing_of.ensures.1
+    c.in-Good.is c.push.ensures c.pushing_of.ensures.0 c.pushing_of.ensures.1

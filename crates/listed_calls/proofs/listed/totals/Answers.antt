@@ -4,7 +4,7 @@ use Rattle.listed_calls.proofs.listed.totals.Goals as goal
 
 pub totals-requires : goal.totals-requires
 totals-requires c =
-    totals_asked c.fits-good.ensures c.rows_fit-lists.ensures c.judge-v.ensures c.type_inv.states
+    totals_asked c.fits-good.ensures c.rows_fit-lists.ensures c.judge-v.ensures c.in-Good.is
 
 pub returns-in-Refused : goal.returns-in-Refused
 returns-in-Refused c =
@@ -13,5 +13,5 @@ returns-in-Refused c =
 pub returns-in-Good : goal.returns-in-Good
 returns-in-Good c =
     totals_told c.fits-good.ensures c.rows_fit-lists.ensures c.judge-v.ensures
-    c.type_inv.states
+    c.in-Good.is
     c.totals.ensures

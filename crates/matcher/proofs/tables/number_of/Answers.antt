@@ -5,16 +5,16 @@ use Rattle.matcher.proofs.tables.number_of.Goals as goal
 
 pub returns-in-No : goal.returns-in-No
 unfolding number_of
-returns-in-No c = ap number_of (sym c.enum_told-1.given.1)
+returns-in-No c = ap number_of (sym c.in-No.is)
 
 pub returns-in-Yes : goal.returns-in-Yes
 unfolding number_of
-returns-in-Yes c = ap number_of (sym c.enum_told-in-Yes-1.given.1)
+returns-in-Yes c = ap number_of (sym c.in-Yes.is)
 
 pub returns-in-Unknown : goal.returns-in-Unknown
 unfolding number_of
-returns-in-Unknown c = ap number_of (sym c.enum_told-in-Unknown-1.given.1)
+returns-in-Unknown c = ap number_of (sym c.in-Unknown.is)
 
 pub returns-in-NoEvent : goal.returns-in-NoEvent
 unfolding number_of
-returns-in-NoEvent c = ap number_of (sym c.enum_told-in-NoEvent-1.given.1)
+returns-in-NoEvent c = ap number_of (sym c.in-NoEvent.is)

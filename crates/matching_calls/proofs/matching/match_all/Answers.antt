@@ -7,7 +7,7 @@ match_tree_all-requires c =
     let args = c.args in
     all_asked args.answers.now args.tried.now args.given.now args.began.now
     c.lists_are-lent.ensures c.check_timed-v.ensures
-    c.type_inv.began
+    c.in-Good.is
 
 pub returns-in-Refused : goal.returns-in-Refused
 returns-in-Refused c =
@@ -19,5 +19,5 @@ pub returns-in-Good : goal.returns-in-Good
 returns-in-Good c =
     let args = c.args in
     all_told args.answers.now args.tried.now args.given.now args.began.now
-    c.lists_are-lent.ensures c.check_timed-v.ensures c.type_inv.began
+    c.lists_are-lent.ensures c.check_timed-v.ensures c.in-Good.is
     c.match_tree_all.ensures

@@ -1,8 +1,23 @@
 -- `rank_of` gives each code its rank: a computed test of each arm's range.
+use Prim.Native.Nat.{ℕ, ◌+◌, ◌≤◌, ◌<◌}
 use native.Mathlib.Omega.{arith}
-use mathlib.Core.Path.{refl}
+use mathlib.Core.Path.{◌≡◌, refl}
+use mathlib.Core.Bool.{true}
+use lib.Dec.{eqb}
+use borrow.Author.Tests.{eqb-true}
+use Rattle.basics.proofs.Ranges.{all_from, all_from_law}
 use Rattle.grammar.specs.Tokens.{table, kind_in, kind}
+use Rattle.grammar.specs.Stops.{rank}
 use Rattle.parser_steps.proofs.cursor.rank_of.Goals as goal
+
+-- f gives the rank of each of n codes from lo on
+ranked :
+    (f : ℕ → ℕ) (lo n b : ℕ) →
+    all_from (λ k. eqb (f k) (rank (kind k))) lo n ≡ true →
+    lo ≤ b →
+    b < lo + n →
+    f b ≡ rank (kind b)
+ranked f lo n b t h k = eqb-true _ _ (all_from_law (λ k. eqb (f k) (rank (kind k))) lo n b t h k)
 
 pub returns-in-40 : goal.returns-in-40
 returns-in-40 c = ranked (λ k. 3) 40 1 _ (unfold kind kind_in table in refl) (omega arith) (omega arith)

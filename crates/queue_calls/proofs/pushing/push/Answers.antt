@@ -5,7 +5,7 @@ use Rattle.queue_calls.proofs.pushing.push.Goals as goal
 pub push_tree-requires : goal.push_tree-requires
 push_tree-requires c =
     push_good c.row_fits-fits.ensures c.queue_good-good.ensures c.judge_push-v.ensures
-    c.type_inv.row
+    c.in-Good.is
 
 pub returns-in-Refused : goal.returns-in-Refused
 returns-in-Refused c =
@@ -15,4 +15,4 @@ returns-in-Refused c =
 pub returns-in-Good : goal.returns-in-Good
 returns-in-Good c =
     push_told c.row_fits-fits.ensures c.queue_good-good.ensures c.judge_push-v.ensures
-    c.type_inv.row c.push_tree.ensures c.pushing_of.ensures.0 c.pushing_of.ensures.1
+    c.in-Good.is c.push_tree.ensures c.pushing_of.ensures.0 c.pushing_of.ensures.1

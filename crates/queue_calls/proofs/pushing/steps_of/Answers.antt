@@ -8,8 +8,7 @@ pub measure-size-requires : goal.measure-size-requires
 measure-size-requires c = accepted_tree _ _ c.requires
 
 pub returns-in-Over : goal.returns-in-Over
-returns-in-Over c =
-    steps_over _ (accepted_limited _ _ c.requires) c.measure-size.ensures c.type_inv.tree
+returns-in-Over c = steps_over _ (accepted_limited _ _ c.requires) c.measure-size.ensures c.in-Over.is
 
 pub returns-in-Within : goal.returns-in-Within
 returns-in-Within c =

@@ -1,6 +1,8 @@
 use native.Mathlib.Omega.{arith}
 use borrow.Author.Rules.{rules}
 use mathlib.Core.Path.{◌≡◌}
+use Prim.Native.Nat.{◌+◌, ◌≤◌}
+use lib.ListN.{length}
 use Rattle.basics.proofs.PartByPart.{put_none, put_length, put_front}
 use Rattle.record_copies.specs.HeldLists.{states_of}
 use Rattle.record_copies.proofs.Copying.{
@@ -11,6 +13,13 @@ use Rattle.record_copies.proofs.Copying.{
   states_put,
   states_length,
 use Rattle.record_copies.proofs.copies.copy_states.Goals as goal
+
+-- the row where the turn stands, behind the width that was read
+there : (c : goal.After-width_at-w →
+    c.loop-r.q + 2 + c.width_at-w.result + c.args.k
+    ≤ length c.args.file.now
+there c =
+    row_there _ _ _ c.requires.rows _ c.loop-r.invariant.1 c.width_at-w.ensures c.loop-r-test.true
 
 pub loop-r-init : goal.loop-r-init
 unfolding states_of
@@ -25,10 +34,10 @@ copy_codes-to-requires c =
     c.loop-r.invariant.2 c.loop-r-test.true c.requires.room
 
 pub overflow_add-q : goal.overflow_add-q
-overflow_add-q c = omega (arith, c.if-w-eq4.true, there c)
+overflow_add-q c = omega (arith, c.if-w-eq4.true, there c.before.before.before.before.before)
 
 pub overflow_add-q-then-w-eq4 : goal.overflow_add-q-then-w-eq4
-overflow_add-q-then-w-eq4 c = omega (arith, c.if-w-eq4.true, there c)
+overflow_add-q-then-w-eq4 c = omega (arith, c.if-w-eq4.true, there c.before.before.before.before.before)
 
 pub loop-r-preserved-then-w-eq4 : goal.loop-r-preserved-then-w-eq4
 loop-r-preserved-then-w-eq4 c =
@@ -45,13 +54,13 @@ copy_codes-to-requires-else-w-eq4 c =
     c.loop-r-test.true c.requires.room
 
 pub overflow_add-q-else-w-eq4 : goal.overflow_add-q-else-w-eq4
-overflow_add-q-else-w-eq4 c = omega (arith, there c)
+overflow_add-q-else-w-eq4 c = omega (arith, there c.before.before.before.before.before)
 
 pub overflow_add-q-else-w-eq4-2 : goal.overflow_add-q-else-w-eq4-2
-overflow_add-q-else-w-eq4-2 c = omega (arith, there c)
+overflow_add-q-else-w-eq4-2 c = omega (arith, there c.before.before.before.before.before)
 
 pub overflow_add-q-else-w-eq4-3 : goal.overflow_add-q-else-w-eq4-3
-overflow_add-q-else-w-eq4-3 c = omega (arith, there c)
+overflow_add-q-else-w-eq4-3 c = omega (arith, there c.before.before.before.before.before)
 
 pub loop-r-preserved : goal.loop-r-preserved
 loop-r-preserved c =

@@ -5,7 +5,7 @@ use Rattle.row_calls.proofs.written.row_answer.Goals as goal
 pub row_answer-requires : goal.row_answer-requires
 row_answer-requires c =
     let k = c.check_row-v.ensures in
-    let g = c.type_inv.states in
+    let g = c.in-Good.is in
     (pattern_there k g, row_there k g)
 
 pub returns-in-Refused : goal.returns-in-Refused
@@ -14,4 +14,4 @@ returns-in-Refused c = answer_refused c.check_row-v.ensures c.type_inv.states
 pub returns-in-Good : goal.returns-in-Good
 returns-in-Good c =
     let k = c.check_row-v.ensures in
-    answer_told k c.type_inv.states c.row_answer.ensures
+    answer_told k c.in-Good.is c.row_answer.ensures

@@ -5,7 +5,7 @@ use Rattle.row_calls.proofs.written.row_state.Goals as goal
 pub state-s-requires : goal.state-s-requires
 state-s-requires c =
     let k = c.check_row-v.ensures in
-    let g = c.type_inv.states in
+    let g = c.in-Good.is in
     (boolean_ends k g, row_there k g)
 
 pub returns-in-Refused : goal.returns-in-Refused
@@ -14,4 +14,4 @@ returns-in-Refused c = state_refused c.check_row-v.ensures c.type_inv.states
 pub returns-in-Good : goal.returns-in-Good
 returns-in-Good c =
     let k = c.check_row-v.ensures in
-    state_told k c.type_inv.states c.state-s.ensures
+    state_told k c.in-Good.is c.state-s.ensures

@@ -1,22 +1,31 @@
 -- `put_member` meets its contract: a blank, and the name behind it.
+use mathlib.Core.Path.{◌≡◌}
 use mathlib.Core.Bool.{true}
-use Rattle.row_lines.proofs.NameSets.{member_none, blank_fits, name_fits, member_one}
+use Rattle.trace_writer.proofs.Putting.{SlotName}
+use Rattle.row_lines.proofs.NameSets.{name_slot, member_none, blank_fits, name_fits, member_one}
 use Rattle.row_lines.proofs.marked.put_member.Goals as goal
+
+named : (c : goal.After-name_len-n)
+    → SlotName c.args.names.now c.args.i c.name_len-n.result
+named c = name_slot c.requires.slot c.name_len-n.ensures
+
+set : (c : goal.After-name_len-n) → c.bit_of.result ≡ true
+set c = c.if-not-bit_of.false
 
 pub returns-then-not-bit_of : goal.returns-then-not-bit_of
 returns-then-not-bit_of c = member_none _ _ _ c.bit_of.ensures c.if-not-bit_of.true
 
 pub push-p-requires : goal.push-p-requires
 push-p-requires c =
-    blank_fits _ _ _ (asked measured).bit-of.ensures (set measured) (named measured)
-    (entry measured).args.out.now (entry measured).requires.room
+    blank_fits _ _ _ c.bit_of.ensures (set c.before) (named c.before)
+    c.args.out.now c.requires.room
 
 pub put-requires : goal.put-requires
 put-requires c =
-    name_fits _ _ _ (asked measured).bit-of.ensures (set measured) (named measured) _ c.push-p.ensures
-    (entry measured).requires.room
+    name_fits _ _ _ c.bit_of.ensures (set c.before.before.before.before.before.before) (named c.before.before.before.before.before.before) _ c.push-p.ensures
+    c.requires.room
 
 pub returns : goal.returns
 returns c =
-    member_one _ _ _ (asked measured).bit-of.ensures (set measured) (named measured) _ c.push-p.ensures
+    member_one _ _ _ c.bit_of.ensures (set c.before.before.before.before.before.before.before.before.before) (named c.before.before.before.before.before.before.before.before.before) _ c.push-p.ensures
     c.put.ensures

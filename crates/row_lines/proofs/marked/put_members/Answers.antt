@@ -17,14 +17,14 @@ put_member-p-requires c =
     }
 
 pub overflow_add-i : goal.overflow_add-i
-overflow_add-i c = omega (arith, (entered_by c).loop-test.taken)
+overflow_add-i c = omega (arith, c.loop-i-test.taken)
 
 pub loop-i-smaller : goal.loop-i-smaller
-loop-i-smaller c = omega (arith, (entered_by c).loop-test.taken)
+loop-i-smaller c = omega (arith, c.loop-i-test.taken)
 
 pub loop-i-preserved : goal.loop-i-preserved
 loop-i-preserved c =
-    let entered = entered_by put in
+    let entered = entered_by c.before.before in
     written_next entered.before.loop.inv entered.loop-test.taken c.put_member-p.ensures
 
 pub shape_of-out : goal.shape_of-out

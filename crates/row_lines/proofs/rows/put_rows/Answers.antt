@@ -10,34 +10,33 @@ unfolding row_lines
 loop-i-init c = written_first _ _ (rw (parts_shifted _ _ _) at c.requires.room)
 
 pub overflow_add-row : goal.overflow_add-row
-overflow_add-row c = omega (arith, c.loop-i-test.true, (entry c).pre.good.few)
+overflow_add-row c = omega (arith, c.loop-i-test.true, c.requires.good.few)
 
 pub overflow_cast-row : goal.overflow_cast-row
-overflow_cast-row c = omega (arith, c.loop-i-test.true, (entry c).pre.good.few)
+overflow_cast-row c = omega (arith, c.loop-i-test.true, c.requires.good.few)
 
 pub stamp_of-requires : goal.stamp_of-requires
-stamp_of-requires c = omega (arith, c.loop-i-test.true, (entry c).pre.good.rows.times_all)
+stamp_of-requires c = omega (arith, c.loop-i-test.true, c.requires.good.rows.times_all)
 
 pub put_row-p-requires : goal.put_row-p-requires
 put_row-p-requires c =
     rw c.stamp_of.ensures
     (record {
-      row = row_in (entry turn).requires.good c.loop-i-test.true;
-      known = λ i h. (entry turn).requires.good.known _ i c.loop-i-test.true h;
+      row = row_in c.requires.good c.loop-i-test.true;
+      known = λ i h. c.requires.good.known _ i c.loop-i-test.true h;
       room = written_room c.loop-i.invariant c.loop-i-test.true;
     })
 
 pub overflow_add-i : goal.overflow_add-i
-overflow_add-i c = omega (arith, (turned c).before.loop-test.taken)
+overflow_add-i c = omega (arith, c.loop-i-test.taken)
 
 pub loop-i-smaller : goal.loop-i-smaller
-loop-i-smaller c = omega (arith, (turned c).before.loop-test.taken)
+loop-i-smaller c = omega (arith, c.loop-i-test.taken)
 
 pub loop-i-preserved : goal.loop-i-preserved
 loop-i-preserved c =
-    let entered = (turned put).before in
-    written_next entered.before.loop.inv entered.loop-test.taken
-    (rw (turned put).stamp_of_lem.ensures at c.put_row-p.ensures)
+    written_next c.loop-i.inv c.loop-i-test.taken
+    (rw c.stamp_of.ensures at c.put_row-p.ensures)
 
 pub shape_of-out : goal.shape_of-out
 shape_of-out c = written_length c.loop-i.invariant

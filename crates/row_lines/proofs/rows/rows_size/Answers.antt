@@ -9,16 +9,16 @@ pub loop-i-init : goal.loop-i-init
 loop-i-init c = measured_first _ _ _
 
 pub overflow_add-row : goal.overflow_add-row
-overflow_add-row c = omega (arith, c.loop-i-test.true, (entry c).pre.few)
+overflow_add-row c = omega (arith, c.loop-i-test.true, c.requires.few)
 
 pub overflow_cast-row : goal.overflow_cast-row
-overflow_cast-row c = omega (arith, c.loop-i-test.true, (entry c).pre.few)
+overflow_cast-row c = omega (arith, c.loop-i-test.true, c.requires.few)
 
 pub stamp_of-requires : goal.stamp_of-requires
-stamp_of-requires c = omega (arith, c.loop-i-test.true, (entry c).pre.rows.times_all)
+stamp_of-requires c = omega (arith, c.loop-i-test.true, c.requires.rows.times_all)
 
 pub row_size-size-requires : goal.row_size-size-requires
-row_size-size-requires c = row_in (entry c).pre c.loop-i-test.true
+row_size-size-requires c = row_in c.requires c.loop-i-test.true
 
 pub overflow_add-size : goal.overflow_add-size
 overflow_add-size c =
@@ -27,7 +27,7 @@ overflow_add-size c =
       c.loop-i.invariant.few,
       c.loop-i.invariant.within,
       c.row_size-size.ensures.few,
-      (entry turn).requires.few,
+      c.requires.few,
     )
 
 pub overflow_add-i : goal.overflow_add-i

@@ -7,7 +7,7 @@ use Rattle.spelling.proofs.halves.put_based.Goals as goal
 
 pub returns : goal.returns
 returns c =
-    let base = of_half half in
+    let base = of_half c.before.before in
     let quote = of_base base in
     let entry = quote.before.before.before in
     let g =

@@ -8,7 +8,7 @@ use Rattle.spelling.proofs.halves.put_wide.Goals as goal
 
 pub returns : goal.returns
 returns c =
-    let first = of_second second in
+    let first = of_second c.before.before in
     let entry = first.before.before.before in
     let g =
     going_start (based (half_byte entry.args.f) ∷ based (half_byte entry.args.t) ∷ []) refl entry.pre.room in

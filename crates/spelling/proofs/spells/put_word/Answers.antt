@@ -20,20 +20,20 @@ returns-then-s-lt40 c =
     put_as (sym (word_literal _ _ c.if-s-lt32.false c.if-s-lt40.true)) c.put_literal.ensures
 
 pub put_mark-requires : goal.put_mark-requires
-put_mark-requires c = wording_mark (entry sign).requires c.if-s-lt40.false (λ h. omega arith)
+put_mark-requires c = wording_mark c.requires c.if-s-lt40.false (λ h. omega arith)
 
 pub returns-then-s-lt64 : goal.returns-then-s-lt64
 returns-then-s-lt64 c = put_as (sym (word_mark _ _ c.if-s-lt40.false)) c.put_mark.ensures
 
 pub put_pair-requires : goal.put_pair-requires
-put_pair-requires c = wording_pair (entry c).requires c.if-s-lt64.false c.if-s-lt145.true
+put_pair-requires c = wording_pair c.requires c.if-s-lt64.false c.if-s-lt145.true
 
 pub returns-then-s-lt145 : goal.returns-then-s-lt145
 returns-then-s-lt145 c =
     put_as (sym (word_pair _ _ c.if-s-lt64.false c.if-s-lt145.true)) c.put_pair.ensures
 
 pub put_mark-requires-2 : goal.put_mark-requires-2
-put_mark-requires-2 c = wording_mark (entry sign).requires c.if-s-lt40.false (λ h. c.if-s-lt145.false)
+put_mark-requires-2 c = wording_mark c.requires c.if-s-lt40.false (λ h. c.if-s-lt145.false)
 
 pub returns : goal.returns
 returns c = put_as (sym (word_mark _ _ c.if-s-lt40.false)) c.put_mark-2.ensures

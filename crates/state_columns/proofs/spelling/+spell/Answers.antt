@@ -80,21 +80,22 @@ overflow_mul-p t c = omega (arith, (entry t c).requires.1.room, (entry t c).well
 
 pub spell-requires-then-b-lt60 : goal.spell-requires-then-b-lt60
 spell-requires-then-b-lt60 t c =
-    (omega (arith, (entry t l).requires.0, left_shorter (located t l)), left_asked (located t l))
+    (omega (arith, (entry t c.before.before).requires.0, left_shorter (located t c.before.before)), left_asked (located t c.before.before))
 
 pub overflow_add-d-then-b-lt60 : goal.overflow_add-d-then-b-lt60
-overflow_add-d-then-b-lt60 t c = omega (arith, (entry t l).requires.1.room, (entry t l).well-formed)
+overflow_add-d-then-b-lt60 t c =
+    omega (arith, (entry t c.before.before.before.before.before.before).requires.1.room, (entry t c.before.before.before.before.before.before).well-formed)
 
 pub spell-requires-then-b-lt60-2 : goal.spell-requires-then-b-lt60-2
 spell-requires-then-b-lt60-2 t c =
     (
-      omega (arith, (entry t l).requires.0, right_shorter (located t l)),
-      right_asked (located t l) c.if-b-lt60.true _ c.spell-then-b-lt60.ensures,
+      omega (arith, (entry t c.before.before.before.before.before.before).requires.0, right_shorter (located t c.before.before.before.before.before.before)),
+      right_asked (located t c.before.before.before.before.before.before) c.if-b-lt60.true _ c.spell-then-b-lt60.ensures,
     )
 
 pub operate-requires : goal.operate-requires
 operate-requires t c =
-    let g = located t (of_two t y) in let k = c.if-b-lt60.true in (
+    let g = located t (of_two t c.before.before.before) in let k = c.if-b-lt60.true in (
       (g.first, operator_known g.asked.ends g.first k),
       operands g k _ c.spell-then-b-lt60.ensures c.spell-then-b-lt60-2.ensures,
     )
@@ -111,28 +112,30 @@ start_of-first-requires t c = of_boolean (left_ends (located t c))
 pub spell-requires-2 : goal.spell-requires-2
 spell-requires-2 t c =
     (
-      omega (arith, (entry t l).requires.0, left_shorter (located t l), c.start_of-first.ensures.before),
-      condition_asked (located t l) c.if-b-lt60.false c.start_of-first.ensures,
+      omega (arith, (entry t c.before.before.before).requires.0, left_shorter (located t c.before.before.before), c.start_of-first.ensures.before),
+      condition_asked (located t c.before.before.before) c.if-b-lt60.false c.start_of-first.ensures,
     )
 
 pub overflow_add-d-2 : goal.overflow_add-d-2
-overflow_add-d-2 t c = omega (arith, (entry t l).requires.1.room, (entry t l).well-formed)
+overflow_add-d-2 t c =
+    omega (arith, (entry t c.before.before.before.before.before.before.before).requires.1.room, (entry t c.before.before.before.before.before.before.before).well-formed)
 
 pub spell-requires-3 : goal.spell-requires-3
 spell-requires-3 t c =
     (
-      omega (arith, (entry t l).requires.0, left_shorter (located t l)),
-      first_asked (located t l) c.if-b-lt60.false c.start_of-first.ensures _ c.spell-2.ensures,
+      omega (arith, (entry t c.before.before.before.before.before.before.before).requires.0, left_shorter (located t c.before.before.before.before.before.before.before)),
+      first_asked (located t c.before.before.before.before.before.before.before) c.if-b-lt60.false c.start_of-first.ensures _ c.spell-2.ensures,
     )
 
 pub overflow_add-d-3 : goal.overflow_add-d-3
-overflow_add-d-3 t c = omega (arith, (entry t l).requires.1.room, (entry t l).well-formed)
+overflow_add-d-3 t c =
+    omega (arith, (entry t c.before.before.before.before.before.before.before.before.before.before.before).requires.1.room, (entry t c.before.before.before.before.before.before.before.before.before.before.before).well-formed)
 
 pub spell-requires-4 : goal.spell-requires-4
 spell-requires-4 t c =
     (
-      omega (arith, (entry t l).requires.0, right_shorter (located t l)),
-      second_asked (located t l) c.if-b-lt60.false c.start_of-first.ensures _ c.spell-2.ensures
+      omega (arith, (entry t c.before.before.before.before.before.before.before.before.before.before.before).requires.0, right_shorter (located t c.before.before.before.before.before.before.before.before.before.before.before)),
+      second_asked (located t c.before.before.before.before.before.before.before.before.before.before.before) c.if-b-lt60.false c.start_of-first.ensures _ c.spell-2.ensures
           c.spell-3.ensures,
     )
 
@@ -164,8 +167,8 @@ bounds-tree-at-2 t c =
 
 pub choose-requires : goal.choose-requires
 choose-requires t c =
-    let x = condition t z in let s = x.before.before in
-    branches (located t (of_three t z)) s.before.if5.left s.start-of2.ensures _ x.spell4.ensures
+    let x = condition t c.before.before.before.before.before in let s = x.before.before in
+    branches (located t (of_three t c.before.before.before.before.before)) s.before.if5.left s.start-of2.ensures _ x.spell4.ensures
     c.spell-3.ensures c.spell-4.ensures
 
 pub shape_of-parts : goal.shape_of-parts

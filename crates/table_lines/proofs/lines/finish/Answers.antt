@@ -1,27 +1,48 @@
 -- `finish` meets its contract: columns, the pattern and the line's end are written.
-use Rattle.basics.proofs.PartByPart.{going_room, going_byte, going_on, going_end}
+use Prim.Native.Nat.{ℕ, ◌+◌, ◌≤◌}
+use mathlib.Core.List.{List, [], ◌∷◌, map}
+use lib.ListN.{length}
+use Rattle.basics.proofs.PartByPart.{Going, going_room, going_byte, going_on, going_end}
 use Rattle.basics.specs.Text.{bytes}
 use Rattle.figures.proofs.Delivering.{short, delivered}
-use Rattle.table_lines.proofs.LineEnds.{ended_size}
+use Rattle.table_lines.specs.Table.{plain, ended}
+use Rattle.table_lines.proofs.LineEnds.{ended_size, ended_start}
 use Rattle.table_lines.proofs.lines.finish.Goals as goal
+
+-- of the line, what is left
+abbrev Left : goal.Start → List (List ℕ) → List ℕ → ℕ → Type 0
+Left s = Going s.args.out.now 0 (ended s.args.columns.now s.args.pattern.now)
+
+begun : (s : goal.Start) → length s.args.columns.now + length s.args.pattern.now + 1 ≤ length
+    s.args.out.now
+    → Left s (s.args.columns.now ∷ map plain s.args.pattern.now ∷ bytes "\n" ∷ []) s.args.out.now 0
+begun s = ended_start s.args.columns.now s.args.pattern.now s.args.out.now
+
+at_pattern : (c : goal.After-put-p)
+    → Left c.before.before.before.before.before.before (map plain c.args.pattern.now ∷ bytes "\n" ∷ []) c.put-p.new.out c.put-p.result
+at_pattern c = going_on (begun c.before.before.before.before.before.before c.if-out-size.false) c.put-p.ensures
+
+at-end : (c : goal.After-put_plain-q)
+    → Left c.before.before.before.before.before.before.before.before.before.before (bytes "\n" ∷ []) c.put_plain-q.new.out c.put_plain-q.result
+at-end c = going_on (at_pattern c.before.before.before.before) c.put_plain-q.ensures
 
 pub returns-then-out-size : goal.returns-then-out-size
 returns-then-out-size c =
     short (ended_size c.args.columns.now c.args.pattern.now) c.if-out-size.true c.refuse.ensures
 
 pub put-p-requires : goal.put-p-requires
-put-p-requires c = going_room (begun earlier c.if-out-size.false)
+put-p-requires c = going_room (begun c.before.before.before.before.before c.if-out-size.false)
 
 pub put_plain-q-requires : goal.put_plain-q-requires
-put_plain-q-requires c = going_room (at_pattern c)
+put_plain-q-requires c = going_room (at_pattern c.before.before.before)
 
 pub push-requires : goal.push-requires
 unfolding bytes
-push-requires c = going_byte (at-end c)
+push-requires c = going_byte (at-end c.before.before.before)
 
 pub returns : goal.returns
 unfolding bytes
 returns c =
-    let s = entry written in
+    let s = entry c.before.before.before.before.before.before.before.before.before.before in
     delivered (ended_size s.args.columns.now s.args.pattern.now) c.if-out-size.false
-    (going_end (going_on (at-end shown) c.push.ensures))
+    (going_end (going_on (at-end c.before.before.before.before.before.before) c.push.ensures))

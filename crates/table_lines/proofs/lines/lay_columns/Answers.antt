@@ -1,10 +1,19 @@
 -- `lay_columns` meets its contract: the list is long enough.
 use native.Mathlib.Omega.{arith}
+use Prim.Native.Nat.{◌≤◌}
+use lib.ListN.{length}
 use Rattle.basics.proofs.PartByPart.{held}
+use Rattle.table_lines.specs.Table.{columns}
+use Rattle.table_lines.proofs.ColumnParts.{columns_short}
 use Rattle.table_lines.proofs.lines.lay_columns.Goals as goal
 
+enough : (s : goal.Start) → length (columns s.args.yes s.args.unknown s.args.no s.args.n) ≤ 192
+enough s =
+    columns_short s.args.yes s.args.unknown s.args.no s.args.n
+    s.ranges.yes s.ranges.unknown s.ranges.no s.ranges.n
+
 pub put_columns-requires : goal.put_columns-requires
-put_columns-requires c = let h = enough c in omega arith
+put_columns-requires c = let h = enough c.before in omega arith
 
 pub returns : goal.returns
-returns c = let h = enough c in held c.put_columns.ensures (omega arith)
+returns c = let h = enough c.before.before in held c.put_columns.ensures (omega arith)

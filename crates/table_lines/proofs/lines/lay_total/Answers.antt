@@ -1,10 +1,20 @@
 -- `lay_total` meets its contract: the list is long enough.
 use native.Mathlib.Omega.{arith}
+use Prim.Native.Nat.{◌≤◌}
+use lib.ListN.{length}
 use Rattle.basics.proofs.PartByPart.{held}
+use Rattle.table_lines.specs.Table.{total_columns}
+use Rattle.table_lines.proofs.ColumnParts.{total_short}
 use Rattle.table_lines.proofs.lines.lay_total.Goals as goal
 
+enough : (s : goal.Start) → length (total_columns s.args.yes s.args.unknown s.args.no
+    s.args.patterns s.args.events) ≤ 192
+enough s =
+    total_short s.args.yes s.args.unknown s.args.no s.args.patterns s.args.events
+    s.ranges.yes s.ranges.unknown s.ranges.no s.ranges.patterns s.ranges.events
+
 pub put_total-requires : goal.put_total-requires
-put_total-requires c = let h = enough c in omega arith
+put_total-requires c = let h = enough c.before in omega arith
 
 pub returns : goal.returns
-returns c = let h = enough c in held c.put_total.ensures (omega arith)
+returns c = let h = enough c.before.before in held c.put_total.ensures (omega arith)

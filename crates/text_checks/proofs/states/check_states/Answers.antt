@@ -6,10 +6,10 @@ pub loop-i-init : goal.loop-i-init
 loop-i-init c = (omega arith, states_none _)
 
 pub overflow_add-i : goal.overflow_add-i
-overflow_add-i c = omega (arith, c.loop-i-test.true, (entry c).pre.few)
+overflow_add-i c = omega (arith, c.loop-i-test.true, c.requires.few)
 
 pub find_word-s-requires : goal.find_word-s-requires
-find_word-s-requires c = (entry c).pre.within
+find_word-s-requires c = c.requires.within
 
 pub returns-then-end-start : goal.returns-then-end-start
 returns-then-end-start c =
@@ -29,7 +29,7 @@ returns-then-code_at-gt7 c =
     _ c.code_at.ensures c.if-code_at-gt7.true c.refuse-then-code_at-gt7.ensures
 
 pub overflow_add-i-in-loop-i : goal.overflow_add-i-in-loop-i
-overflow_add-i-in-loop-i c = omega (arith, c.loop-i-test.true, (entry c).pre.few)
+overflow_add-i-in-loop-i c = omega (arith, c.loop-i-test.true, c.requires.few)
 
 pub loop-i-smaller : goal.loop-i-smaller
 loop-i-smaller c = omega (arith, c.loop-i-test.true)

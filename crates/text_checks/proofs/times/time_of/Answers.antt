@@ -26,7 +26,7 @@ overflow_sub-d-in-loop-i c = omega (arith, c.if-b-gt57.false)
 
 pub returns-then-d-n : goal.returns-then-d-n
 returns-then-d-n c =
-    time_large (turn digit).before.loop.invariant (turn digit).loop-test.true c.if-b-lt48.false
+    time_large c.loop-i.invariant c.loop-i-test.true c.if-b-lt48.false
     c.if-b-gt57.false (omega (arith, c.if-d-n.true, c.if-b-gt57.false))
 
 pub overflow_mul-n : goal.overflow_mul-n
@@ -36,14 +36,14 @@ pub overflow_add-n : goal.overflow_add-n
 overflow_add-n c = omega (arith, c.if-d-n.false, c.if-b-gt57.false)
 
 pub overflow_add-i : goal.overflow_add-i
-overflow_add-i c = omega (arith, (turn c).loop-test.taken)
+overflow_add-i c = omega (arith, c.loop-i-test.taken)
 
 pub loop-i-smaller : goal.loop-i-smaller
-loop-i-smaller c = omega (arith, (turn c).loop-test.taken)
+loop-i-smaller c = omega (arith, c.loop-i-test.taken)
 
 pub loop-i-preserved : goal.loop-i-preserved
 loop-i-preserved c =
-    timing_next (turn digit).before.loop.invariant (turn digit).loop-test.true c.if-b-lt48.false
+    timing_next c.loop-i.invariant c.loop-i-test.true c.if-b-lt48.false
     c.if-b-gt57.false (omega (arith, c.if-d-n.false, c.if-b-gt57.false))
 
 pub returns : goal.returns

@@ -19,27 +19,26 @@ pub slice_bounds-put_slot-end : goal.slice_bounds-put_slot-end
 slice_bounds-put_slot-end c = omega (arith, c.loop-i.invariant.found.run.within)
 
 pub put_slot-at-requires : goal.put_slot-at-requires
-put_slot-at-requires c = slot_fits (start c).pre c.loop-i.invariant c.loop-i-test.true
+put_slot-at-requires c = slot_fits c.requires c.loop-i.invariant c.loop-i-test.true
 
 pub find_word-next-requires : goal.find_word-next-requires
 find_word-next-requires c =
-    let found = (entered c).before.loop.invariant.found in
+    let found = c.loop-i.invariant.found in
     omega (arith, found.run.low, found.run.within)
 
 pub overflow_add-i : goal.overflow_add-i
-overflow_add-i c = omega (arith, (entered c).loop-test.taken)
+overflow_add-i c = omega (arith, c.loop-i-test.taken)
 
 pub loop-i-smaller : goal.loop-i-smaller
-loop-i-smaller c = omega (arith, (entered c).loop-test.taken)
+loop-i-smaller c = omega (arith, c.loop-i-test.taken)
 
 pub loop-i-preserved : goal.loop-i-preserved
 loop-i-preserved c =
-    let inside = entered c in
-    copied_next (start inside.before).pre inside.before.loop.inv inside.loop-test.taken
+    copied_next c.requires c.loop-i.inv c.loop-i-test.taken
     c.put_slot-at.ensures c.find_word-next.ensures
 
 pub shape_of-out : goal.shape_of-out
 shape_of-out c = going_length c.loop-i.invariant.going
 
 pub returns : goal.returns
-returns c = copied_all (start c).pre c.loop-i.invariant c.loop-i-test.false
+returns c = copied_all c.requires c.loop-i.invariant c.loop-i-test.false

@@ -12,41 +12,40 @@ pub loop-r-init : goal.loop-r-init
 loop-r-init c = filling_first c.requires c.next_line-line.ensures
 
 pub row_time-t-requires : goal.row_time-t-requires
-row_time-t-requires c = filling_in (start c).pre c.loop-r.invariant c.loop-r-test.true
+row_time-t-requires c = filling_in c.requires c.loop-r.invariant c.loop-r-test.true
 
 pub offset_bounds-times-r : goal.offset_bounds-times-r
 offset_bounds-times-r c =
     omega (
       arith,
-      filling_times (start c).pre c.loop-r.invariant c.loop-r-test.true,
+      filling_times c.requires c.loop-r.invariant c.loop-r-test.true,
     )
 
 pub bounds-times-r : goal.bounds-times-r
 bounds-times-r c =
-    filling_times (start c).pre c.loop-r.invariant
+    filling_times c.requires c.loop-r.invariant
     c.loop-r-test.true
 
 pub put_codes-to-requires : goal.put_codes-to-requires
 put_codes-to-requires c =
-    filling_room (start c).pre c.loop-r.invariant
+    filling_room c.requires c.loop-r.invariant
     c.loop-r-test.true
 
 pub behind_line-behind-requires : goal.behind_line-behind-requires
-behind_line-behind-requires c = (entered c).before.loop.invariant.next.within
+behind_line-behind-requires c = c.loop-r.invariant.next.within
 
 pub next_line-line-requires-in-loop-r : goal.next_line-line-requires-in-loop-r
 next_line-line-requires-in-loop-r c = c.behind_line-behind.ensures.within
 
 pub overflow_add-r : goal.overflow_add-r
-overflow_add-r c = omega (arith, (entered c).loop-test.taken)
+overflow_add-r c = omega (arith, c.loop-r-test.taken)
 
 pub loop-r-smaller : goal.loop-r-smaller
-loop-r-smaller c = omega (arith, (entered c).loop-test.taken)
+loop-r-smaller c = omega (arith, c.loop-r-test.taken)
 
 pub loop-r-preserved : goal.loop-r-preserved
 loop-r-preserved c =
-    let inside = entered c in
-    filling_next (start inside.before).pre inside.before.loop.inv inside.loop-test.taken
+    filling_next c.requires c.loop-r.inv c.loop-r-test.taken
     c.row_time-t.ensures c.put_codes-to.ensures c.behind_line-behind.ensures
     c.next_line-line-in-loop-r.ensures
 
@@ -57,4 +56,4 @@ pub shape_of-states : goal.shape_of-states
 shape_of-states c = going_length c.loop-r.invariant.going
 
 pub returns : goal.returns
-returns c = filled_all (start c).pre c.loop-r.invariant c.loop-r-test.false
+returns c = filled_all c.requires c.loop-r.invariant c.loop-r-test.false

@@ -16,14 +16,14 @@ code_at-requires c =
     record { ordered = run.low; within = run.within }
 
 pub overflow_add-out : goal.overflow_add-out
-overflow_add-out c = omega (arith, c.loop-i-test.true, (start c).pre.room)
+overflow_add-out c = omega (arith, c.loop-i-test.true, c.requires.room)
 
 pub bounds-out-at : goal.bounds-out-at
 bounds-out-at c =
     omega (
       arith,
       c.loop-i-test.true,
-      (start turn).requires.room,
+      c.requires.room,
       writing_length c.loop-i.invariant.2,
     )
 
@@ -48,7 +48,7 @@ loop-i-preserved c =
     )
 
 pub overflow_add-result : goal.overflow_add-result
-overflow_add-result c = omega (arith, (start c).pre.room)
+overflow_add-result c = omega (arith, c.requires.room)
 
 pub shape_of-out : goal.shape_of-out
 shape_of-out c = writing_length c.loop-i.invariant.2

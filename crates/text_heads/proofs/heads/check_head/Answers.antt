@@ -26,7 +26,7 @@ check_names-requires c = c.requires.names
 pub returns-then-k-eq0 : goal.returns-then-k-eq0
 returns-then-k-eq0 c =
     head_empty c.requires c.find_word-first.ensures c.is_time.ensures
-    c.if-not-is_time.false c.check_names.ensures c.type_inv.text _
+    c.if-not-is_time.false c.check_names.ensures c.in-Done.is _
     c.if-k-eq0.true
     c.refuse-then-k-eq0.ensures
 
@@ -38,4 +38,4 @@ returns-in-Refused c =
 pub returns-else-k-eq0 : goal.returns-else-k-eq0
 returns-else-k-eq0 c =
     head_good c.requires c.find_word-first.ensures c.is_time.ensures
-    c.if-not-is_time.false c.check_names.ensures c.type_inv.text c.if-k-eq0.false
+    c.if-not-is_time.false c.check_names.ensures c.in-Done.is c.if-k-eq0.false

@@ -12,17 +12,17 @@ loop-i-init c = naming_first c.find_word-first.ensures
 
 pub returns-then-i-ge32 : goal.returns-then-i-ge32
 returns-then-i-ge32 c =
-    names_33rd (start turn).requires c.loop-i.invariant c.loop-i-test.true _ c.if-i-ge32.true
+    names_33rd c.requires c.loop-i.invariant c.loop-i-test.true _ c.if-i-ge32.true
     c.refuse.ensures
 
 pub is_new_name-requires : goal.is_new_name-requires
 is_new_name-requires c =
-    word_here_lem (start c).pre c.loop-i.invariant
+    word_here_lem c.requires c.loop-i.invariant
     c.loop-i-test.true
 
 pub returns-then-not-is_new_name : goal.returns-then-not-is_new_name
 returns-then-not-is_new_name c =
-    names_bad (start turn).requires c.loop-i.invariant c.loop-i-test.true _ c.if-i-ge32.false
+    names_bad c.requires c.loop-i.invariant c.loop-i-test.true _ c.if-i-ge32.false
     (decided_no _ c.is_new_name.ensures c.if-not-is_new_name.true) c.refuse-then-not-is_new_name.ensures
 
 pub find_word-next-requires : goal.find_word-next-requires
@@ -38,8 +38,8 @@ loop-i-smaller c = omega (arith, c.loop-i-test.true)
 
 pub loop-i-preserved : goal.loop-i-preserved
 loop-i-preserved c =
-    naming_next (start turn).requires c.loop-i.invariant c.loop-i-test.true c.if-i-ge32.false
+    naming_next c.requires c.loop-i.invariant c.loop-i-test.true c.if-i-ge32.false
     (decided_yes _ c.is_new_name.ensures c.if-not-is_new_name.false) c.find_word-next.ensures
 
 pub returns : goal.returns
-returns c = names_done (start c).pre c.loop-i.invariant c.loop-i-test.false
+returns c = names_done c.requires c.loop-i.invariant c.loop-i-test.false

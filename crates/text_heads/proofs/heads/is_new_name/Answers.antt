@@ -21,31 +21,31 @@ pub loop-j-init : goal.loop-j-init
 loop-j-init c = λ w. newing_first w c.find_word-first.ensures
 
 pub slice_bounds-same-count : goal.slice_bounds-same-count
-slice_bounds-same-count c = omega (arith, (c.loop-j.invariant (pre c).pre).found.run.low)
+slice_bounds-same-count c = omega (arith, (c.loop-j.invariant c.requires).found.run.low)
 
 pub slice_bounds-same-start : goal.slice_bounds-same-start
-slice_bounds-same-start c = omega (arith, (c.loop-j.invariant (pre c).pre).found.run.low)
+slice_bounds-same-start c = omega (arith, (c.loop-j.invariant c.requires).found.run.low)
 
 pub slice_bounds-same-end : goal.slice_bounds-same-end
-slice_bounds-same-end c = omega (arith, (c.loop-j.invariant (pre c).pre).found.run.within)
+slice_bounds-same-end c = omega (arith, (c.loop-j.invariant c.requires).found.run.within)
 
 pub slice_bounds-same-count-in-loop-j : goal.slice_bounds-same-count-in-loop-j
-slice_bounds-same-count-in-loop-j c = omega (arith, (pre c).pre.found.run.low)
+slice_bounds-same-count-in-loop-j c = omega (arith, c.requires.found.run.low)
 
 pub slice_bounds-same-start-in-loop-j : goal.slice_bounds-same-start-in-loop-j
-slice_bounds-same-start-in-loop-j c = omega (arith, (pre c).pre.found.run.low)
+slice_bounds-same-start-in-loop-j c = omega (arith, c.requires.found.run.low)
 
 pub slice_bounds-same-end-in-loop-j : goal.slice_bounds-same-end-in-loop-j
-slice_bounds-same-end-in-loop-j c = omega (arith, (pre c).pre.found.run.within)
+slice_bounds-same-end-in-loop-j c = omega (arith, c.requires.found.run.within)
 
 pub returns-then-same : goal.returns-then-same
 returns-then-same c =
-    repeated (pre turn).requires (c.loop-j.invariant (pre turn).requires) c.loop-j-test.true c.same.ensures.0
+    repeated c.requires (c.loop-j.invariant c.requires) c.loop-j-test.true c.same.ensures.0
     c.if-same.true
 
 pub find_word-next-requires : goal.find_word-next-requires
 find_word-next-requires c =
-    let found = (c.loop-j.invariant (pre turn).requires).found in
+    let found = (c.loop-j.invariant c.requires).found in
     omega (arith, found.run.low, found.run.within)
 
 pub overflow_add-j : goal.overflow_add-j
@@ -61,5 +61,5 @@ loop-j-preserved c =
 
 pub returns : goal.returns
 returns c =
-    new-all (pre turn).requires (c.loop-j.invariant (pre turn).requires) c.loop-j-test.false c.is_name.ensures
+    new-all c.requires (c.loop-j.invariant c.requires) c.loop-j-test.false c.is_name.ensures
     c.if-not-is_name.false

@@ -7,7 +7,7 @@ pub check_states-requires : goal.check_states-requires
 check_states-requires c = c.requires
 
 pub returns-then-wide : goal.returns-then-wide
-returns-then-wide c = rest_passed _ _ _ _ c.check_states.ensures c.type_inv.text c.if-wide.true
+returns-then-wide c = rest_passed _ _ _ _ c.check_states.ensures c.in-Done.is c.if-wide.true
 
 pub overflow_add-k : goal.overflow_add-k
 overflow_add-k c = omega (arith, c.requires.few)
@@ -17,7 +17,7 @@ find_word-s-requires c = c.requires.within
 
 pub returns-then-start-end : goal.returns-then-start-end
 returns-then-start-end c =
-    rest_more _ _ _ _ c.check_states.ensures c.type_inv.text
+    rest_more _ _ _ _ c.check_states.ensures c.in-Done.is
     c.find_word-s.ensures
     _ c.if-wide.false c.if-start-end.true c.refuse.ensures
 
@@ -26,6 +26,6 @@ returns-in-Refused c = rest_refused _ _ _ _ c.check_states.ensures _ c.type_inv.
 
 pub returns-else-start-end : goal.returns-else-start-end
 returns-else-start-end c =
-    rest_end _ _ _ _ c.check_states.ensures c.type_inv.text
+    rest_end _ _ _ _ c.check_states.ensures c.in-Done.is
     c.find_word-s.ensures
     c.if-start-end.false

@@ -12,4 +12,4 @@ pub returns-in-Refused : goal.returns-in-Refused
 returns-in-Refused c = row_early _ _ _ c.check_time.ensures _ c.type_inv.text
 
 pub returns-in-Done : goal.returns-in-Done
-returns-in-Done c = row_rest _ _ _ c.check_time.ensures _ _ c.type_inv.text c.check_rest.ensures
+returns-in-Done c = row_rest _ _ _ c.check_time.ensures _ _ c.in-Done.is c.check_rest.ensures

@@ -10,7 +10,7 @@ pub loop-at-init : goal.loop-at-init
 loop-at-init c = rowing_first c.next_line-at.ensures
 
 pub check_row-requires : goal.check_row-requires
-check_row-requires c = row_in c.loop-at.invariant c.loop-at-test.true (start c).pre
+check_row-requires c = row_in c.loop-at.invariant c.loop-at-test.true c.requires
 
 pub returns-in-Refused : goal.returns-in-Refused
 returns-in-Refused c =
@@ -19,40 +19,38 @@ returns-in-Refused c =
 
 pub row_time-t-requires : goal.row_time-t-requires
 row_time-t-requires c =
-    let inside = entered c in
-    (row_in inside.before.loop.inv inside.loop-test.taken
-    (start inside.before).pre).timed
+    (row_in c.loop-at.inv c.loop-at-test.taken
+    c.requires).timed
 
 pub behind_line-behind-requires : goal.behind_line-behind-requires
-behind_line-behind-requires c = (entered c).before.loop.inv.next.within
+behind_line-behind-requires c = c.loop-at.inv.next.within
 
 pub next_line-at-requires-in-Done : goal.next_line-at-requires-in-Done
 next_line-at-requires-in-Done c = c.behind_line-behind.ensures.within
 
 pub overflow_add-r : goal.overflow_add-r
 overflow_add-r c =
-    let inside = entered told in
+    let inside = entered c.before.before.before in
     omega (
       arith,
       rowing_few inside.before.loop.inv inside.loop-test.taken c.check_row.ensures
-          c.type_inv.text,
+          c.in-Done.is,
     )
 
 pub loop-at-smaller : goal.loop-at-smaller
 loop-at-smaller c =
-    let inside = entered c in
     omega (
       arith,
-      inside.loop-test.taken,
-      c.behind_line-behind.ensures.on inside.loop-test.taken,
+      c.loop-at-test.taken,
+      c.behind_line-behind.ensures.on c.loop-at-test.taken,
       c.next_line-at-in-Done.ensures.low,
     )
 
 pub loop-at-preserved : goal.loop-at-preserved
 loop-at-preserved c =
-    let inside = entered told in
+    let inside = entered c.before.before.before in
     rowing_next inside.before.loop.inv inside.loop-test.taken c.check_row.ensures
-    c.type_inv.text c.row_time-t.ensures c.behind_line-behind.ensures c.next_line-at-in-Done.ensures
+    c.in-Done.is c.row_time-t.ensures c.behind_line-behind.ensures c.next_line-at-in-Done.ensures
 
 pub returns-then-r-eq0 : goal.returns-then-r-eq0
 returns-then-r-eq0 c =

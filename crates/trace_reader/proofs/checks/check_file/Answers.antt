@@ -1,7 +1,13 @@
 use native.Mathlib.Omega.{arith}
+use Rattle.trace_format.specs.Records.{Before}
 use Rattle.record_checks.proofs.CursorSteps.{start_stands, start_before}
 use Rattle.trace_reader.proofs.FileChecks.{goes_on, file_refused, file_accepted}
 use Rattle.trace_reader.proofs.checks.check_file.Goals as goal
+
+-- where the turn stands behind the rows that it passed
+passed : (c : goal.After-pass_rows-s
+    → Before c.args.file.now c.pass_rows-s.result.names c.pass_rows-s.result.rows
+passed c = c.pass_rows-s.ensures.before c.loop-r.invariant.1
 
 pub loop-r-init : goal.loop-r-init
 loop-r-init c = (start_stands _, start_before _)
@@ -15,13 +21,13 @@ check_record-requires c = c.pass_rows-s.ensures.stands
 pub returns-in-Refused : goal.returns-in-Refused
 returns-in-Refused c =
     file_refused c.pass_rows-s.result c.check_record.ensures
-    (passed turn) c.type_inv.file
+    (passed c.before.before.before.before) c.type_inv.file
 
 pub returns-then-kind-eq3 : goal.returns-then-kind-eq3
 returns-then-kind-eq3 c =
     file_accepted c.pass_rows-s.result
     c.check_record.ensures
-    (passed turn) c.type_inv.file c.if-kind-eq3.true
+    (passed c.before.before.before.before.before) c.type_inv.file c.if-kind-eq3.true
 
 pub pass-s-requires : goal.pass-s-requires
 pass-s-requires c =
@@ -34,4 +40,5 @@ loop-r-smaller c =
     (arith, c.pass_rows-s.ensures.further, c.pass-s.ensures.further, c.pass-s.ensures.stands.within)
 
 pub loop-r-preserved : goal.loop-r-preserved
-loop-r-preserved c = (c.pass-s.ensures.stands, c.pass-s.ensures.before (passed turn))
+loop-r-preserved c =
+    (c.pass-s.ensures.stands, c.pass-s.ensures.before (passed c.before.before.before.before.before.before))

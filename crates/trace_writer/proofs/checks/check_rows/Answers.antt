@@ -1,11 +1,21 @@
 use native.Mathlib.Omega.{arith}
 use borrow.Author.Rules.{rules}
 use mathlib.Core.Path.{◌≡◌, refl}
-use Prim.Native.Nat.{◌+◌, ◌≤◌}
+use Prim.Native.Nat.{◌+◌, ◌<◌, ◌≤◌}
 use native.Mathlib.Nat.{add-zero, mul-le-mul_right}
+use lib.ListN.{length}
+use Rattle.trace_format.proofs.RowByRow.{room_for}
 use Rattle.trace_writer.proofs.RowOrders.{row_late, row_bad, row_passes, rows_none, rows_passed}
 use Rattle.trace_writer.proofs.RowOrders.{next_place}
 use Rattle.trace_writer.proofs.checks.check_rows.Goals as goal
+
+-- the codes of the row are there
+codes_there : (c : goal.In-loop-i
+    → c.loop-i.from + c.args.k ≤ length c.args.states.now
+codes_there c =
+    let inside : c.args.first + c.loop-i.i < c.args.first + c.args.many =
+    omega (arith, c.loop-i-test.true) in
+    omega (arith, room_for _ _ c.args.k inside, c.loop-i.invariant.1, c.requires.states_all)
 
 pub overflow_mul-from : goal.overflow_mul-from
 overflow_mul-from c =
@@ -16,10 +26,10 @@ pub loop-i-init : goal.loop-i-init
 loop-i-init c = (search rules, rw add-zero refl, rows_none _ _ _ _)
 
 pub overflow_add-r : goal.overflow_add-r
-overflow_add-r c = omega (arith, c.loop-i-test.true, (entry c).pre.times_all)
+overflow_add-r c = omega (arith, c.loop-i-test.true, c.requires.times_all)
 
 pub is_later-requires : goal.is_later-requires
-is_later-requires c = omega (arith, c.loop-i-test.true, (entry c).pre.times_all)
+is_later-requires c = omega (arith, c.loop-i-test.true, c.requires.times_all)
 
 pub returns-then-not-is_later : goal.returns-then-not-is_later
 returns-then-not-is_later c =
@@ -28,10 +38,10 @@ returns-then-not-is_later c =
     c.if-not-is_later.true
 
 pub overflow_add-to : goal.overflow_add-to
-overflow_add-to c = omega (arith, codes_there c)
+overflow_add-to c = omega (arith, codes_there c.before.before)
 
 pub codes_to-bad-requires : goal.codes_to-bad-requires
-codes_to-bad-requires c = (search rules, codes_there c)
+codes_to-bad-requires c = (search rules, codes_there c.before.before)
 
 pub returns-then-bad-to : goal.returns-then-bad-to
 returns-then-bad-to c =

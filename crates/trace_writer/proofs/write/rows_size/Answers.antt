@@ -1,8 +1,19 @@
 use native.Mathlib.Omega.{arith}
 use borrow.Author.Rules.{rules}
 use mathlib.Core.Path.{◌≡◌}
+use Prim.Native.Nat.{◌+◌, ◌≤◌}
 use Rattle.trace_writer.proofs.Putting.{size_none, size_grow}
 use Rattle.trace_writer.proofs.write.rows_size.Goals as goal
+
+-- with one row more the size is small
+small : (c : goal.After-width_of →
+    c.loop-r.size +
+    (2 + c.width_of.result + c.args.k)
+    ≤ 2752470
+small c =
+    let grown = size_grow c.args.times.now c.requires.few_names c.loop-r.invariant.1
+    c.width_of.ensures in
+    omega (arith, grown.few, c.requires.few, c.loop-r-test.true)
 
 pub loop-r-init : goal.loop-r-init
 loop-r-init c = (search rules, size_none _ _)

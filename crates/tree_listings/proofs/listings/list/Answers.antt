@@ -3,10 +3,10 @@ use Rattle.tree_listings.proofs.TreeTexts.{list_asked, list_refused, list_writte
 use Rattle.tree_listings.proofs.listings.list.Goals as goal
 
 pub list_good-requires : goal.list_good-requires
-list_good-requires c = list_asked c.args.times.now c.check_rows-v.ensures c.type_inv.out
+list_good-requires c = list_asked c.args.times.now c.check_rows-v.ensures c.in-Good.is
 
 pub returns-in-Refused : goal.returns-in-Refused
 returns-in-Refused c = list_refused _ c.check_rows-v.ensures c.type_inv.out
 
 pub returns-in-Good : goal.returns-in-Good
-returns-in-Good c = list_written _ c.check_rows-v.ensures c.type_inv.out c.list_good.ensures
+returns-in-Good c = list_written _ c.check_rows-v.ensures c.in-Good.is c.list_good.ensures

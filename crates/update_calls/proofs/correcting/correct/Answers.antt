@@ -6,7 +6,7 @@ pub correct_tree-requires : goal.correct_tree-requires
 correct_tree-requires c =
     correction_asked c.args.answers.now
     c.correction_fits-fits.ensures c.accepts-good.ensures
-    c.judge_correction-v.ensures c.type_inv.new
+    c.judge_correction-v.ensures c.in-Good.is
 
 pub returns-in-Refused : goal.returns-in-Refused
 returns-in-Refused c =
@@ -18,4 +18,4 @@ pub returns-in-Good : goal.returns-in-Good
 returns-in-Good c =
     correction_told c.args.answers.now
     c.correction_fits-fits.ensures c.accepts-good.ensures
-    c.judge_correction-v.ensures c.type_inv.new c.correct_tree.ensures
+    c.judge_correction-v.ensures c.in-Good.is c.correct_tree.ensures

@@ -32,7 +32,7 @@ overflow_mul-at-then-k-ge64 t c = omega (arith, (entry t c).pre.1.few)
 
 pub fill_leaf-requires-then-k-ge64 : goal.fill_leaf-requires-then-k-ge64
 fill_leaf-requires-then-k-ge64 t c =
-    leaf_ready (entry t o).requires.1 (edge_ends (is_vector_lem t o) c.if-k-ge64.true)
+    leaf_ready (entry t c.before.before).requires.1 (edge_ends (is_vector_lem t c.before.before) c.if-k-ge64.true)
 
 pub hold_part-requires : goal.hold_part-requires
 hold_part-requires t c = part_held (entry t c).pre.1 c.fill_leaf-then-k-ge64.ensures.long
@@ -53,7 +53,7 @@ fill-requires t c =
 
 pub fill-requires-2 : goal.fill-requires-2
 fill-requires-2 t c =
-    let o = opened t l in
+    let o = opened t c.before.before.before in
     let g = c.start_of-left.ensures in (
       omega (arith, (entry t o).pre.0, g.before),
       left_fillable (entry t o).pre.1 (is_vector_lem t o) (omega (arith, c.if-k-ge64.false)) g
@@ -77,13 +77,13 @@ overflow_mul-at-then-k-ge56 t c = let p = places t c in omega arith
 
 pub operator_part-requires : goal.operator_part-requires
 operator_part-requires t c =
-    let o = opened t (located t f) in let p = places t f in
-    part_ready (entry t o).pre.1 (is_vector_lem t o) (small t f) c.fill-2.ensures.long (omega arith) (omega arith)
+    let o = opened t (located t c.before.before) in let p = places t c.before.before in
+    part_ready (entry t o).pre.1 (is_vector_lem t o) (small t c.before.before) c.fill-2.ensures.long (omega arith) (omega arith)
 
 pub returns-then-k-ge56 : goal.returns-then-k-ge56
 returns-then-k-ge56 t c =
-    let l = located t f in let o = opened t l in
-    while_filled (is_vector_lem t o) (small t f) l.start_of_lem.ensures c.fill.ensures
+    let l = located t c.before.before.before in let o = opened t l in
+    while_filled (is_vector_lem t o) (small t c.before.before.before) l.start_of_lem.ensures c.fill.ensures
     c.fill-2.ensures (entry t o).pre.1.rows.most c.operator_part.ensures c.if-k-ge56.true
 
 pub overflow_mul-at-2 : goal.overflow_mul-at-2
@@ -91,17 +91,17 @@ overflow_mul-at-2 t c = let p = places t c in omega arith
 
 pub operator_part-requires-2 : goal.operator_part-requires-2
 operator_part-requires-2 t c =
-    let o = opened t (located t f) in let p = places t f in
-    part_ready (entry t o).pre.1 (is_vector_lem t o) (small t f) c.fill-2.ensures.long (omega arith) (omega arith)
+    let o = opened t (located t c.before.before) in let p = places t c.before.before in
+    part_ready (entry t o).pre.1 (is_vector_lem t o) (small t c.before.before) c.fill-2.ensures.long (omega arith) (omega arith)
 
 pub hold_part-requires-2 : goal.hold_part-requires-2
 hold_part-requires-2 t c =
-    part_held (entry t (opened t (located t f))).pre.1 c.operator_part-2.ensures.long
+    part_held (entry t (opened t (located t c.before.before.before.before))).pre.1 c.operator_part-2.ensures.long
 
 pub returns : goal.returns
 returns t c =
-    let l = located t f in
+    let l = located t c.before.before.before.before.before in
     let o = opened t l in
-    joined_filled (is_vector_lem t o) (small t f) l.start_of_lem.ensures c.fill.ensures
+    joined_filled (is_vector_lem t o) (small t c.before.before.before.before.before) l.start_of_lem.ensures c.fill.ensures
     c.fill-2.ensures (entry t o).pre.1.rows.most c.operator_part-2.ensures c.if-k-ge56.false
     c.hold_part-2.ensures

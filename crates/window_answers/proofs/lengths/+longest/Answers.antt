@@ -58,5 +58,5 @@ returns-then-b-lt54 t c =
 
 pub returns : goal.returns
 returns t c =
-    greater_longest _ _ _ (operands t c2) c.longest-x.ensures c.longest-y.ensures
+    greater_longest _ _ _ (operands t c.before.before) c.longest-x.ensures c.longest-y.ensures
     c.if-b-lt54.false c.larger.ensures
