@@ -1,5 +1,4 @@
 use borrow.Author.Rules.{rules}
-use borrow.Author.Tests.{not-true, not-false}
 use native.Mathlib.Omega.{arith}
 use mathlib.Core.Path.{sym, ◌∙◌}
 use Rattle.alf.specs.Names.{goes_on_name}
@@ -13,21 +12,20 @@ pub returns-then-n-gt32 : goal.returns-then-n-gt32
 returns-then-n-gt32 c = name_long _ (omega arith)
 
 pub returns-then-not-starts_name : goal.returns-then-not-starts_name
-returns-then-not-starts_name c =
-    name_start _ (sym c.starts_name.ensures ∙ not-true _ c.if-not-starts_name.true)
+returns-then-not-starts_name c = name_start _ (sym c.starts_name.ensures ∙ c.if-not-starts_name.true)
 
 pub loop-i-init : goal.loop-i-init
 loop-i-init c = (
   search rules,
   search rules,
-  name_rest _ (omega arith) (omega arith) (sym c.starts_name.ensures ∙ not-false _ c.if-not-starts_name.false),
+  name_rest _ (omega arith) (omega arith) (sym c.starts_name.ensures ∙ c.if-not-starts_name.false),
 )
 
 pub returns-then-not-goes_on_name : goal.returns-then-not-goes_on_name
 returns-then-not-goes_on_name c =
     sym (c.loop-i.invariant.2 ∙
     all-stop goes_on_name _ _ c.loop-i-test.true
-    (sym c.goes_on_name.ensures ∙ not-true _ c.if-not-goes_on_name.true))
+    (sym c.goes_on_name.ensures ∙ c.if-not-goes_on_name.true))
 
 pub loop-i-preserved : goal.loop-i-preserved
 loop-i-preserved c = (
@@ -35,7 +33,7 @@ loop-i-preserved c = (
   search rules,
   c.loop-i.invariant.2 ∙ all_more goes_on_name _ _
       c.loop-i-test.true
-      (sym c.goes_on_name.ensures ∙ not-false _ c.if-not-goes_on_name.false),
+      (sym c.goes_on_name.ensures ∙ c.if-not-goes_on_name.false),
 )
 
 pub returns : goal.returns
