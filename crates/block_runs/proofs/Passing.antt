@@ -3,6 +3,7 @@
 --   Stripping, stripping_first, stripping_next, stripping_end     the marks of gifts are taken away
 --   Passing          what the parts before k have given, and that the others give the rest
 --   passing_first, passing_next, passing_done
+use Rattle.std.specs.Prelude.{if◌then◌else◌}
 use Prim.Native.Nat.{ℕ, suc, ◌+◌, ◌-◌, ◌*◌, ◌/◌, ◌<◌, ◌≤◌}
 use native.Mathlib.Omega.{arith}
 use native.Mathlib.Numerals.{add-one}
@@ -14,7 +15,6 @@ use lib.Dec.{eqb, ltb}
 use lib.ListN.{length, get_or, set, drop, length-set, drop_of_length-le}
 use lib.Seq.{get_or-set_same, get_or-set_other, drop-cons}
 use borrow.Author.Tests.{lt-ltb, le-ltb}
-use Rattle.basics.specs.Words.{if◌then◌else◌}
 use Rattle.basics.proofs.Bools.{equal?, below?}
 use Rattle.alf.specs.declared.Rules.{Rules}
 use Rattle.alf.specs.Expressions.{Expression, boolean, vector, literal}

@@ -6,8 +6,7 @@
 --   Room, Put                a gift for an output
 --   Giving, Gave             an assignment
 --   Turning, Turned          any part
-use Rattle.std.specs.Prelude.{ℕ, ◌+◌, ◌*◌, ◌<◌, ◌≤◌, ◌≡◌, Bool, List, ◌++◌, ltb, length, get_or, set}
-use Rattle.basics.specs.Words.{if◌then◌else◌}
+use Rattle.std.specs.Prelude.{ℕ, ◌+◌, ◌*◌, ◌<◌, ◌≤◌, ◌≡◌, Bool, List, ◌++◌, ltb, length, get_or, set, if◌then◌else◌}
 use Rattle.alf.specs.declared.Rules.{Rules}
 use Rattle.alf.specs.Expressions.{Boolean, Expression, Over}
 use Rattle.alf.specs.Values.{row_of}

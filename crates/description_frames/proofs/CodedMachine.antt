@@ -4,6 +4,7 @@
 --   level_stop, level_on, inside_close, inside_on        a step in an expression
 --   trigger_ready, right_ready, outside_step             a step
 --   broken_is, behind_is                                 the numbers of being broken, and behind a clause
+use Rattle.std.specs.Prelude.{if◌then◌else◌}
 use mathlib.Core.Path.{◌≡◌, refl, sym, ◌∙◌}
 use mathlib.Core.Bool.{Bool, true, false}
 use mathlib.Core.List.{List, []}
@@ -13,7 +14,6 @@ use native.Mathlib.Numerals.{add-one}
 use lib.Dec.{eqb}
 use lib.ListN.{get_or}
 use borrow.Author.Tests.{eq-eqb, ne_eqb, lt-ltb, le-ltb}
-use Rattle.basics.specs.Words.{if◌then◌else◌}
 use Rattle.descriptions.specs.Frames.{is_inner}
 use Rattle.descriptions.specs.Machine.{of_trigger, of_right, broken, stop_of}
 use Rattle.descriptions.specs.Machine.{step_to, is_broken, is_behind}

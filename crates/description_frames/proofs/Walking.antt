@@ -2,6 +2,7 @@
 --   held_next, held_code, held_place     the next token
 --   Walking, walk_start, walk_on         where the machine is, and that the rest of the tokens decides
 --   walk_break, walk_end                 it breaks at a token; it gets to the end
+use Rattle.std.specs.Prelude.{if◌then◌else◌}
 use mathlib.Core.Path.{◌≡◌, refl, sym, ap, ◌∙◌}
 use mathlib.Core.Bool.{true, false}
 use mathlib.Core.List.{List, [], ◌∷◌}
@@ -12,7 +13,6 @@ use lib.Dec.{eqb}
 use lib.ListN.{drop, get_or, drop_of_length-le}
 use lib.Seq.{drop-cons, get_or-take}
 use borrow.Author.Tests.{eq-eqb, ne_eqb}
-use Rattle.basics.specs.Words.{if◌then◌else◌}
 use Rattle.basics.proofs.Entries.{get_d_map}
 use Rattle.tokens.specs.Texts.{Token, token_at}
 use Rattle.descriptions.specs.Machine.{Where, start, step_to, is_broken, is_behind, breaks_at}

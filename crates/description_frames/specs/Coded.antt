@@ -4,8 +4,7 @@
 --   Placed, Stepped      what one step is asked, and what it gives
 --   Outside, Moved       a step outside of expressions
 --   Ready, Deeper        a step in an expression
-use Rattle.std.specs.Prelude.{ℕ, zero, suc, ◌+◌, ◌≤◌, ◌<◌, ◌≡◌, List, [], ◌∷◌, eqb, get_or}
-use Rattle.basics.specs.Words.{if◌then◌else◌}
+use Rattle.std.specs.Prelude.{ℕ, zero, suc, ◌+◌, ◌≤◌, ◌<◌, ◌≡◌, List, [], ◌∷◌, eqb, get_or, if◌then◌else◌}
 use Rattle.descriptions.specs.Machine.{Kind, of_trigger, of_right, Where, start, at_clause, inside, at_brace, at_name}
 use Rattle.descriptions.specs.Machine.{at-is, at_more, behind, broken, stop_of, next_of, inner, step_to}
 use Rattle.description_frames.specs.declared.machine.At.{At}

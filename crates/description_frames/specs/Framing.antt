@@ -5,8 +5,7 @@
 --   verdict, Framed      20 at a place, or none: where the frame machine breaks
 --   Lists, Parted        the parts of tokens that have a frame
 --   emitted, Ends, Keeps, Opens, Carried     for the functions inside: what one token changes
-use Rattle.std.specs.Prelude.{ℕ, zero, suc, ◌+◌, ◌≤◌, ◌<◌, ◌≡◌, List, [], ◌∷◌, map, length, take}
-use Rattle.basics.specs.Words.{if◌then◌else◌}
+use Rattle.std.specs.Prelude.{ℕ, zero, suc, ◌+◌, ◌≤◌, ◌<◌, ◌≡◌, List, [], ◌∷◌, map, length, take, if◌then◌else◌}
 use Rattle.tokens.specs.Texts.{Token}
 use Rattle.tokens.specs.Tokenizing.{codes_of, places_of}
 use Rattle.descriptions.specs.Machine.{start, breaks_at}

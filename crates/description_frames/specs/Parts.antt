@@ -4,8 +4,7 @@
 --   kept, opening, named     what the walk carries on: where a part may start, which trigger it is
 --   finds, collect       the parts that end at a token; all parts
 --   part_of, item_of       what they are in a list of tokens
-use Rattle.std.specs.Prelude.{ℕ, ◌+◌, ◌-◌, List, [], ◌∷◌, ◌++◌, eqb, take, drop}
-use Rattle.basics.specs.Words.{if◌then◌else◌}
+use Rattle.std.specs.Prelude.{ℕ, ◌+◌, ◌-◌, List, [], ◌∷◌, ◌++◌, eqb, take, drop, if◌then◌else◌}
 use Rattle.tokens.specs.Texts.{Token}
 use Rattle.descriptions.specs.Goings.{place_of}
 use Rattle.descriptions.specs.Frames.{Part, place_in}

@@ -2,6 +2,7 @@
 -- before it, whatever the row's number and the other rows.
 --   level_next        one row
 --   level_outputs     traces that have the same inputs from two rows on, with the same outputs before, run alike
+use Rattle.std.specs.Prelude.{if◌then◌else◌}
 use mathlib.Core.Path.{◌≡◌, refl, sym, ap, ◌∙◌}
 use mathlib.Core.Bool.{Bool, true, false}
 use mathlib.Core.List.{List, [], ◌∷◌, ◌++◌}
@@ -9,7 +10,7 @@ use Prim.Native.Nat.{ℕ, zero, suc, ◌+◌, ◌-◌, ◌<◌, ◌≤◌}
 use native.Mathlib.Nat.{zero-add}
 use native.Mathlib.Omega.{arith}
 use lib.Dec.{eqb, ltb}
-use Rattle.basics.specs.Words.{if◌then◌else◌, All, none, more}
+use Rattle.basics.specs.Words.{All, none, more}
 use Rattle.basics.proofs.AllEntries.{all_append}
 use Rattle.alf.specs.declared.Rules.{Rules}
 use Rattle.alf.specs.Expressions.{Boolean, Expression, boolean, vector}

@@ -1,6 +1,7 @@
 -- Laws of what a description does.
 --   quiet_holds        a row at which every trigger is false leaves every output
 --   outputs_causal     the outputs at row i depend on the inputs' rows 0 to i only
+use Rattle.std.specs.Prelude.{if◌then◌else◌}
 use mathlib.Core.Path.{◌≡◌, refl, sym, ap, ◌∙◌}
 use mathlib.Core.Bool.{Bool, true, false}
 use mathlib.Core.List.{List, [], ◌∷◌, ◌++◌}
@@ -8,7 +9,7 @@ use Prim.Native.Nat.{ℕ, zero, suc, ◌-◌, ◌<◌, ◌≤◌}
 use native.Mathlib.Omega.{arith}
 use lib.Dec.{eqb, ltb}
 use borrow.Author.Tests.{ltb-true}
-use Rattle.basics.specs.Words.{if◌then◌else◌, All, none, more}
+use Rattle.basics.specs.Words.{All, none, more}
 use Rattle.basics.proofs.AllEntries.{all_append}
 use Rattle.alf.specs.declared.Rules.{Rules}
 use Rattle.alf.specs.Expressions.{Boolean, Vector, Expression, boolean, vector, Over, VectorOver, ExpressionOver}

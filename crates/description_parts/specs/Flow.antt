@@ -6,8 +6,7 @@
 --   mode_after, read_after        mode and row behind an item
 --   gift_of, flow                what an item gives to an output; what some items give
 --   kept, stripped              a state while gifts come in: 8 more once there was one; the state without it
-use Rattle.std.specs.Prelude.{ℕ, ◌+◌, ◌-◌, Bool, true, false, ◌||◌, List, [], ◌∷◌, ◌++◌, eqb, ltb}
-use Rattle.basics.specs.Words.{if◌then◌else◌}
+use Rattle.std.specs.Prelude.{ℕ, ◌+◌, ◌-◌, Bool, true, false, ◌||◌, List, [], ◌∷◌, ◌++◌, eqb, ltb, if◌then◌else◌}
 use Rattle.alf.specs.declared.Rules.{Rules}
 use Rattle.alf.specs.States.{X}
 use Rattle.alf.specs.Expressions.{Expression, boolean, vector}

@@ -3,6 +3,7 @@
 --   frame_taken                 a sign of the frame is the longest token there
 --   spelled_taken, spelled_unblank      so is every token that is written, and it begins with no blank
 --   spelt, name_stands          the name at a place of a text, and of what is written
+use Rattle.std.specs.Prelude.{if◌then◌else◌}
 use Prim.Native.Nat.{ℕ, suc, ◌+◌, ◌≤◌, ◌<◌}
 use native.Mathlib.Omega.{arith}
 use mathlib.Core.Path.{◌≡◌, refl, sym, ap, ◌∙◌, subst}
@@ -12,7 +13,7 @@ use lib.Dec.{eqb}
 use lib.ListN.{length, take, drop}
 use lib.Seq.{take_at}
 use borrow.Author.Tests.{eqb-true, ne_eqb, le-leb, not-true}
-use Rattle.basics.specs.Words.{if◌then◌else◌, all}
+use Rattle.basics.specs.Words.{all}
 use Rattle.basics.proofs.Bools.{never, below?, and_left, and_right}
 use Rattle.basics.proofs.Ranges.{all_from, all_from_law}
 use Rattle.alf.specs.States.{among}

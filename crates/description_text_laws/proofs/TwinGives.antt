@@ -1,13 +1,13 @@
 -- The same tokens at other places give the same description: gives_twin.
 --   number_twin, part_renumbered     the numbers of names
 --   says_twin                        the same expression
+use Rattle.std.specs.Prelude.{if◌then◌else◌}
 use Prim.Native.Nat.{ℕ}
 use mathlib.Core.Path.{◌≡◌, refl, sym, ap, ◌∙◌, subst}
 use mathlib.Core.Bool.{Bool, true, false}
 use mathlib.Core.List.{List, ◌∷◌, ◌++◌, map}
 use lib.Dec.{eqb}
 use borrow.Author.Tests.{eqb-true}
-use Rattle.basics.specs.Words.{if◌then◌else◌}
 use Rattle.alf.specs.Expressions.{Expression}
 use Rattle.tokens.specs.Texts as texts
 use Rattle.grammar.specs.declared.Token.{Token}

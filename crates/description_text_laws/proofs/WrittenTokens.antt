@@ -2,6 +2,7 @@
 --   behind_reads, written_reads     it reads as them, where they begin
 --   behind_twins, written_twins     they are the same
 --   twins_written                   the same tokens are written alike
+use Rattle.std.specs.Prelude.{if◌then◌else◌}
 use Prim.Native.Nat.{ℕ, suc, ◌+◌}
 use native.Mathlib.Omega.{arith}
 use mathlib.Core.Path.{◌≡◌, refl, sym, ap, ◌∙◌, subst}
@@ -11,7 +12,7 @@ use lib.Dec.{eqb, ltb}
 use lib.ListN.{length, take, drop}
 use lib.Seq.{drop-drop, drop_at}
 use borrow.Author.Tests.{eqb-true}
-use Rattle.basics.specs.Words.{if◌then◌else◌, all, All, more}
+use Rattle.basics.specs.Words.{all, All, more}
 use Rattle.basics.specs.Words.All.{none as none_of}
 use Rattle.basics.proofs.AllEntries.{all_weaken}
 use Rattle.basics.proofs.Bools.{and_left, and_right}

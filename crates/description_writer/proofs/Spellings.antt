@@ -4,6 +4,7 @@
 --   gap_first, gap_shut, gap_open, gap_ended, gap_other, ended_shut, ended_next      the gap, by the token before it
 --   countable_as, name_end_lem, name_asked, sign_asked, byte_asked, signed     what each function is asked
 --   sign_fits, line_sign, lining, sign_held                  a sign as a line of one
+use Rattle.std.specs.Prelude.{if◌then◌else◌}
 use Prim.Native.Nat.{ℕ, zero, suc, ◌+◌, ◌-◌, ◌≤◌, ◌<◌}
 use native.Mathlib.Omega.{arith}
 use mathlib.Core.Path.{◌≡◌, refl, ap}
@@ -12,7 +13,6 @@ use mathlib.Core.List.{List, [], ◌∷◌, append-nil}
 use lib.Dec.{eqb, ltb}
 use lib.ListN.{length, get_or, drop, length-take, length-drop}
 use borrow.Author.Tests.{ne_eqb, lt-ltb, le-ltb, ltb-true, ltb-false}
-use Rattle.basics.specs.Words.{if◌then◌else◌}
 use Rattle.basics.specs.Memory.{Put, Holds}
 use Rattle.basics.proofs.PartByPart.{held, put_as}
 use Rattle.token_steps.specs.Steps.{none}

@@ -11,8 +11,7 @@
 --   sign_byte, spelled_at        a sign of the frame; a token with a code, at a place of a text
 --   gap                        what stands before a token, by its code and the code of the token before it
 --   written_behind, written     the text of some tokens, behind a token with a code, and by themselves
-use Rattle.std.specs.Prelude.{ℕ, ◌-◌, List, [], ◌∷◌, ◌++◌, eqb, ltb, get_or}
-use Rattle.basics.specs.Words.{if◌then◌else◌}
+use Rattle.std.specs.Prelude.{ℕ, ◌-◌, List, [], ◌∷◌, ◌++◌, eqb, ltb, get_or, if◌then◌else◌}
 use Rattle.token_steps.specs.Steps.{none}
 use Rattle.tokens.specs.Texts.{Token}
 use Rattle.sorting.specs.Lookup.{word}

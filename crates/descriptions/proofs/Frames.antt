@@ -1,4 +1,5 @@
 -- The frame is unambiguous: frame_unique.
+use Rattle.std.specs.Prelude.{if◌then◌else◌}
 use mathlib.Core.Path.{◌≡◌, refl, sym, ap, ◌∙◌, subst}
 use mathlib.Core.Bool.{Bool, true, false}
 use mathlib.Core.List.{List, [], ◌∷◌, ◌++◌}
@@ -6,7 +7,6 @@ use Prim.Native.Nat.{ℕ, zero, suc, pred}
 use native.Mathlib.Omega.{arith}
 use lib.Dec.{eqb}
 use borrow.Author.Tests.{eqb-false}
-use Rattle.basics.specs.Words.{if◌then◌else◌}
 use Rattle.basics.proofs.Bools.{never}
 use Rattle.tokens.specs.Texts.{Token}
 use Rattle.descriptions.specs.Signs.{SHUT, END}

@@ -3,11 +3,11 @@
 --   stuck_token, stuck_end, refused_token, refused_end     20, by where the machine breaks
 --   Verdict, breaks_right                     where it breaks is where the tokens are refused
 --   framed_never, refused_first               so 20 is given at p exactly where the machine breaks at p
+use Rattle.std.specs.Prelude.{if◌then◌else◌}
 use mathlib.Core.Path.{◌≡◌, refl, sym, ap, ◌∙◌}
 use mathlib.Core.Bool.{Bool, true, false}
 use mathlib.Core.List.{List, [], ◌∷◌, ◌++◌, append_assoc, append-nil}
 use Prim.Native.Nat.{ℕ, zero, suc}
-use Rattle.basics.specs.Words.{if◌then◌else◌}
 use Rattle.alf.specs.Refusals.{First}
 use Rattle.basics.proofs.Bools.{never}
 use Rattle.tokens.specs.Texts.{Token}

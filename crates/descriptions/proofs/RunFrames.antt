@@ -1,6 +1,7 @@
 -- From a run of the machine to a frame.
 --   After, Done     what is left of a frame, by where the machine is
 --   run_frames      tokens on which the machine runs to `behind` have a frame
+use Rattle.std.specs.Prelude.{if◌then◌else◌}
 use mathlib.Core.Path.{◌≡◌, refl, ap}
 use mathlib.Core.Bool.{Bool, true, false}
 use mathlib.Core.Logic.{◌⊎◌, inl, inr}
@@ -8,7 +9,6 @@ use mathlib.Core.List.{List, [], ◌∷◌, ◌++◌}
 use Prim.Native.Nat.{ℕ, zero, suc}
 use lib.Dec.{eqb}
 use borrow.Author.Tests.{eqb-true}
-use Rattle.basics.specs.Words.{if◌then◌else◌}
 use Rattle.tokens.specs.Texts.{Token}
 use Rattle.descriptions.specs.Signs.{AT, OPEN, SHUT, IS}
 use Rattle.descriptions.specs.Frames as frames

@@ -3,6 +3,7 @@
 --   SignByte, sign_byte_lem   a byte that is a sign begins no token of a plain text
 --   plain_taken           a token that is taken in a plain text is taken here
 --   RightWord, word_right     the step, made of the plain step, takes the longest token, or stops where none is
+use Rattle.std.specs.Prelude.{if◌then◌else◌}
 use mathlib.Core.Path.{◌≡◌, refl, sym, ap, ◌∙◌}
 use mathlib.Core.Bool.{Bool, true, false, ◌&&◌, not}
 use mathlib.Core.List.{List, [], ◌∷◌, ◌++◌}
@@ -11,7 +12,6 @@ use native.Mathlib.Omega.{arith}
 use lib.Dec.{eqb, ltb}
 use lib.ListN.{length, take, drop}
 use borrow.Author.Tests.{eqb-true, eqb-false, ltb-true}
-use Rattle.basics.specs.Words.{if◌then◌else◌}
 use Rattle.alf.specs.Names.{starts_name, is_letter}
 use Rattle.alf.specs.States.{among}
 use Rattle.basics.proofs.Bools.{and_left, and_right}

@@ -10,8 +10,8 @@
 -- an output: the numbers that the list of input names with the output names behind it gives.
 -- A row is the function from a name's number to its state; `rows` are the inputs' rows. `ρ` is the rules of evaluation
 -- (document 02, [9] and [2]).
-use Rattle.std.specs.Prelude.{ℕ, zero, suc, ◌-◌, ◌*◌, ◌/◌, ◌%◌, List, [], ◌∷◌, ◌++◌, eqb, ltb, take, drop, get_or}
-use Rattle.basics.specs.Words.{if◌then◌else◌, listed}
+use Rattle.std.specs.Prelude.{ℕ, zero, suc, ◌-◌, ◌*◌, ◌/◌, ◌%◌, List, [], ◌∷◌, ◌++◌, eqb, ltb, take, drop, get_or, if◌then◌else◌}
+use Rattle.basics.specs.Words.{listed}
 use Rattle.alf.specs.declared.Rules.{Rules}
 use Rattle.alf.specs.States.{X, U}
 use Rattle.alf.specs.Expressions.{Boolean, Expression, boolean, vector}

@@ -1,9 +1,8 @@
 -- For the functions inside: one token step in a description, and the frame as a machine that takes token by token. That
 -- the step takes the longest token is shown in proofs/Signs.antt; that the machine's runs are the frames, and that it
 -- breaks exactly where no frame goes on, in proofs/Machine.antt.
-use Rattle.std.specs.Prelude.{ℕ, zero, suc, ◌+◌, List, [], ◌∷◌, Bool, true, false, eqb, length, drop}
+use Rattle.std.specs.Prelude.{ℕ, zero, suc, ◌+◌, List, [], ◌∷◌, Bool, true, false, eqb, length, drop, if◌then◌else◌}
 use Rattle.token_steps.specs.Classes.{is_blank_lem}
-use Rattle.basics.specs.Words.{if◌then◌else◌}
 use Rattle.tokens.specs.Texts.{Token, token_at}
 use Rattle.descriptions.specs.Signs.{AT, OPEN, SHUT, IS, END}
 use Rattle.descriptions.specs.Frames.{is_inner}

@@ -4,8 +4,8 @@
 --   has, distinct, output_names            the outputs: each name at the left where it stands first
 --   output_slots, names_for                 the list of their names; the list of names that an expression may name
 --   Some                                  something of some piece
-use Rattle.std.specs.Prelude.{ℕ, Bool, false, ◌||◌, List, [], ◌∷◌, ◌++◌, map}
-use Rattle.basics.specs.Words.{if◌then◌else◌, same}
+use Rattle.std.specs.Prelude.{ℕ, Bool, false, ◌||◌, List, [], ◌∷◌, ◌++◌, map, if◌then◌else◌}
+use Rattle.basics.specs.Words.{same}
 use Rattle.basics.specs.Text.{joined}
 use Rattle.alf.specs.Names.{slot_of}
 use Rattle.sorting.specs.Lookup.{word}

@@ -6,8 +6,7 @@
 --   Moves, Steps                       what a word comes to
 --   Plainly, Keyed, Stepped            whatever is declared; and has happened
 --   StepDue, StepIn, ValueDue, ChangeDue, CodeDue     what the functions ask
-use Rattle.std.specs.Prelude.{ℕ, ◌+◌, ◌<◌, ◌≤◌, ◌≡◌, Bool, true, false, not, ◌||◌, List, ◌∷◌, eqb, ltb, length}
-use Rattle.basics.specs.Words.{if◌then◌else◌}
+use Rattle.std.specs.Prelude.{ℕ, ◌+◌, ◌<◌, ◌≤◌, ◌≡◌, Bool, true, false, not, ◌||◌, List, ◌∷◌, eqb, ltb, length, if◌then◌else◌}
 use Rattle.basics.specs.Text.{bytes}
 use Rattle.alf.specs.Refusals.{Bare}
 use Rattle.dumps.specs.Words.{one_of, sections, is_end_lem, is_time, is_change_lem}

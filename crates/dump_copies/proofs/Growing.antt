@@ -1,6 +1,7 @@
 -- No word takes away a time point: times and states grow.
 --   Grows, grows_same, grows_then     what has happened later
 --   grows-next, grows_after           behind a word, behind some words
+use Rattle.std.specs.Prelude.{if◌then◌else◌}
 use Prim.Native.Nat.{ℕ, ◌≤◌}
 use native.Mathlib.Omega.{arith}
 use mathlib.Core.Path.{◌≡◌, refl}
@@ -8,7 +9,6 @@ use mathlib.Core.Bool.{Bool, true, false}
 use mathlib.Core.List.{List, [], ◌∷◌}
 use lib.Dec.{eqb}
 use lib.ListN.{length, set, length-append, length-set}
-use Rattle.basics.specs.Words.{if◌then◌else◌}
 use Rattle.basics.specs.Text.{bytes}
 use Rattle.trace_texts.specs.Words.{Word}
 use Rattle.dumps.specs.Words.{is, one_of, sections, is_end_lem, first, rest, number_of, is_time, state_of, is_wide}

@@ -3,6 +3,7 @@
 --   row_there                          the latest row stands before the place behind all
 --   opened_none, opened_row            no row more, one row more
 --   pin_unset, pin_set                 a pin of the latest row
+use Rattle.std.specs.Prelude.{if◌then◌else◌}
 use Prim.Native.Nat.{ℕ, suc, ◌+◌, ◌-◌, ◌<◌, ◌≤◌}
 use native.Mathlib.Omega.{arith}
 use mathlib.Core.Path.{◌≡◌, refl, sym, ap, ◌∙◌}
@@ -12,7 +13,7 @@ use lib.Dec.{eqb}
 use lib.ListN.{length, take, drop, set, replicate, length-set, length-append, length-drop, length-replicate}
 use lib.Seq.{sets, length-sets, set-append_left, drop_at, take_at, length-take-le}
 use borrow.Author.Tests.{eqb-false, eq-eqb, ne_eqb, lt-ltb, le-ltb}
-use Rattle.basics.specs.Words.{if◌then◌else◌, All, none, more}
+use Rattle.basics.specs.Words.{All, none, more}
 use Rattle.basics.specs.Memory.{Put}
 use Rattle.basics.proofs.Bools.{never}
 use Rattle.basics.proofs.Stores.{sets_append, sets_next, sets_front}

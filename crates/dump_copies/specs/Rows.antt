@@ -3,9 +3,9 @@
 --   Written                                the time points so far stand at the front of two lists
 --   RepeatDue, RowDue, DrawDue, PinDue     what the functions ask
 --   RowPut, Opened, PinSet, Drawn          what they do
-use Rattle.std.specs.Prelude.{ℕ, ◌+◌, ◌-◌, ◌<◌, ◌≤◌, ◌≡◌, true, List, eqb, length, take, drop, set, replicate}
+use Rattle.std.specs.Prelude.{ℕ, ◌+◌, ◌-◌, ◌<◌, ◌≤◌, ◌≡◌, true, List, eqb, length, take, drop, set, replicate, if◌then◌else◌}
 use Rattle.std.proofs.lemmas.List.Edits.{sets}
-use Rattle.basics.specs.Words.{if◌then◌else◌, All}
+use Rattle.basics.specs.Words.{All}
 use Rattle.basics.specs.Memory.{Put}
 use Rattle.alf.specs.States.{U}
 use Rattle.dumps.specs.Known.{Point}

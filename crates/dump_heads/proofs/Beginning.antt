@@ -1,6 +1,7 @@
 -- A word where a definition is due, by its number among those that begin one.
 --   Numbered, numbered           the word's tests, by its number
 --   begun_tests, begun_moves     what is refused, and what is due then
+use Rattle.std.specs.Prelude.{if◌then◌else◌}
 use Prim.Native.Nat.{ℕ, suc, ◌-◌, ◌<◌, ◌≤◌}
 use native.Mathlib.Omega.{arith}
 use mathlib.Core.Path.{◌≡◌, refl, sym, ap, ◌∙◌}
@@ -10,7 +11,7 @@ use mathlib.Core.Logic.{◌⊎◌, inl, inr}
 use lib.Dec.{eqb, ltb, leb}
 use lib.ListN.{length}
 use borrow.Author.Tests.{ne_eqb, lt-ltb, le-ltb, le-leb, lt-leb}
-use Rattle.basics.specs.Words.{if◌then◌else◌, same}
+use Rattle.basics.specs.Words.{same}
 use Rattle.basics.specs.Text.{bytes}
 use Rattle.basics.proofs.Entries.{same_sound}
 use Rattle.dumps.specs.Words.{is, one_of, remarks, nonempty}

@@ -4,6 +4,7 @@
 --   var_scoped, var_full, var_some   `$var`
 --   end_some, end_whole, end_met, end_unmet     `$enddefinitions`
 --   scope_begun, remark_begun, none_begun, by_kind     the others
+use Rattle.std.specs.Prelude.{if◌then◌else◌}
 use Prim.Native.Nat.{ℕ, zero, suc, ◌-◌, ◌<◌, ◌≤◌, min}
 use native.Mathlib.Omega.{arith}
 use mathlib.Core.Path.{◌≡◌, refl, sym, ap, ◌∙◌}
@@ -13,7 +14,6 @@ use mathlib.Core.Logic.{◌⊎◌, inl, inr}
 use lib.Dec.{eqb, ltb, leb}
 use lib.ListN.{length}
 use borrow.Author.Tests.{ne_eqb, lt-ltb, le-ltb, le-leb, lt-leb}
-use Rattle.basics.specs.Words.{if◌then◌else◌}
 use Rattle.basics.specs.Refusing.{refusal}
 use Rattle.dumps.specs.Words.{nonempty}
 use Rattle.dumps.specs.Known.{definitions, Declared, Pin, knows, no_past}

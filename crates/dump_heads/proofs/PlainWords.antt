@@ -1,9 +1,9 @@
 -- What the other words of the first part come to, return by return: the kind of a scope, `$end`, words up to `$end`.
+use Rattle.std.specs.Prelude.{if◌then◌else◌}
 use Prim.Native.Nat.{ℕ}
 use mathlib.Core.Path.{◌≡◌, refl, sym, ◌∙◌}
 use mathlib.Core.Bool.{Bool, true, false, not}
 use mathlib.Core.List.{List, [], ◌∷◌}
-use Rattle.basics.specs.Words.{if◌then◌else◌}
 use Rattle.basics.specs.Refusing.{refusal}
 use Rattle.dumps.specs.Words.{one_of, is_end_lem, scope_kinds}
 use Rattle.dumps.specs.Known.{Mode, definitions, changes, scope_kind, scope_name, end_then, words_then, Declared, knows}

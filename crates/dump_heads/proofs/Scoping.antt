@@ -1,12 +1,13 @@
 -- Scopes that agree with the parts of a path.
 --   closed_matches                 one scope less
+use Rattle.std.specs.Prelude.{if◌then◌else◌}
 use Prim.Native.Nat.{ℕ, suc, ◌-◌, min}
 use native.Mathlib.Omega.{arith}
 use mathlib.Core.Path.{◌≡◌}
 use mathlib.Core.Bool.{Bool, true, false}
 use mathlib.Core.List.{List, [], ◌∷◌, ◌++◌}
 use lib.ListN.{length}
-use Rattle.basics.specs.Words.{if◌then◌else◌, same}
+use Rattle.basics.specs.Words.{same}
 use Rattle.dumps.specs.Steps.{inner}
 use Rattle.dump_names.proofs.JoinedNames.{outermost_length}
 use Rattle.dump_names.specs.Scopes.{outermost, parts_of, agree, Matches}

@@ -1,6 +1,7 @@
 -- What the size of a variable comes to, return by return.
 --   only_told, told_varied          nothing but the variable changes
 --   size_refused, size_vector, size_passed, size-real, size_unasked, size_full, size_pin
+use Rattle.std.specs.Prelude.{if◌then◌else◌}
 use Prim.Native.Nat.{ℕ, ◌-◌, ◌<◌, ◌≤◌}
 use native.Mathlib.Omega.{arith}
 use mathlib.Core.Path.{◌≡◌, refl, sym, ◌∙◌}
@@ -10,7 +11,6 @@ use mathlib.Core.Logic.{inl}
 use lib.Dec.{eqb}
 use lib.ListN.{length}
 use borrow.Author.Tests.{le-leb, lt-leb}
-use Rattle.basics.specs.Words.{if◌then◌else◌}
 use Rattle.basics.specs.Refusing.{refusal}
 use Rattle.dumps.specs.Words.{is_number, number_of}
 use Rattle.dumps.specs.Known.{Mode, var_size, Declared}

@@ -1,5 +1,6 @@
 -- The kinds of variables by their number: which are known, and which are real.
 --   kind_known, kind_real_is, kind_plain_is
+use Rattle.std.specs.Prelude.{if◌then◌else◌}
 use Prim.Native.Nat.{ℕ, suc, ◌+◌, ◌-◌, ◌<◌, ◌≤◌}
 use native.Mathlib.Omega.{arith}
 use mathlib.Core.Path.{◌≡◌, refl, sym, ap, ◌∙◌}
@@ -8,7 +9,7 @@ use mathlib.Core.List.{List, [], ◌∷◌, ◌++◌}
 use lib.Dec.{ltb}
 use lib.ListN.{length}
 use borrow.Author.Tests.{lt-ltb}
-use Rattle.basics.specs.Words.{if◌then◌else◌, same}
+use Rattle.basics.specs.Words.{same}
 use Rattle.basics.specs.Text.{bytes}
 use Rattle.basics.proofs.Bools.{never}
 use Rattle.basics.proofs.Entries.{same_sound}

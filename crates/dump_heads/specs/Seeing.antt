@@ -5,8 +5,7 @@
 --   Tells                        what is declared, as a struct
 --   GoesTo, Steps, Stepped, AnyStepped, Begun, AnyBegun     what a word comes to, whatever is declared
 --   AskedStepped, CodeDue, CodeStepped, OtherStepped        a variable's size, its code, its name
-use Rattle.std.specs.Prelude.{ℕ, ◌+◌, ◌-◌, ◌<◌, ◌≤◌, min, ◌≡◌, Bool, true, false, not, ◌⊎◌, List, eqb, length}
-use Rattle.basics.specs.Words.{if◌then◌else◌}
+use Rattle.std.specs.Prelude.{ℕ, ◌+◌, ◌-◌, ◌<◌, ◌≤◌, min, ◌≡◌, Bool, true, false, not, ◌⊎◌, List, eqb, length, if◌then◌else◌}
 use Rattle.alf.specs.Refusals.{Bare}
 use Rattle.dumps.specs.Known.{Mode, definitions, scope_kind, scope_name, var_kind_lem, var_size, var_code, var_name}
 use Rattle.dumps.specs.Known.{pin_end, passed_end, changes, end_then, words_then, Declared, knows, no_past}

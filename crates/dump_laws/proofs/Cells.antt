@@ -2,6 +2,7 @@
 --   cells, mixed            from a rule; from two rules, the one before a pin and the other from it on
 --   mixed_first, mixed_set, mixed_same, mixed_last
 --   same_cells              of a list of equal entries
+use Rattle.std.specs.Prelude.{if◌then◌else◌}
 use Prim.Native.Nat.{ℕ, zero, suc, ◌+◌, ◌<◌, ◌≤◌}
 use native.Mathlib.Omega.{arith}
 use mathlib.Core.Path.{◌≡◌, refl, sym, ap, ◌∙◌}
@@ -11,7 +12,7 @@ use mathlib.Core.List.{List, ◌∷◌}
 use lib.Dec.{eqb, ltb}
 use lib.ListN.{set, replicate}
 use borrow.Author.Tests.{ne_eqb, eq-eqb, lt-ltb, le-ltb}
-use Rattle.basics.specs.Words.{if◌then◌else◌, listed}
+use Rattle.basics.specs.Words.{listed}
 use Rattle.basics.proofs.Bools.{equal?, below?}
 use Rattle.trace_text_laws.proofs.Chunks.{listed_same}
 

@@ -1,13 +1,14 @@
 -- How long the dump of a trace can be: 32 lines of 52 bytes for the names, 21 bytes, 133 bytes for row 0 and 118 for
 -- each of the other 65,534 rows.
 -- Main name: dump_fits. So a buffer of 7,734,830 bytes suffices for every trace.
+use Rattle.std.specs.Prelude.{if◌then◌else◌}
 use Prim.Native.Nat.{ℕ, zero, suc, ◌+◌, ◌*◌, ◌<◌, ◌≤◌}
 use native.Mathlib.Omega.{arith}
 use mathlib.Core.Path.{◌≡◌, refl, ap}
 use mathlib.Core.Bool.{Bool, true, false}
 use mathlib.Core.List.{List, [], ◌∷◌, ◌++◌}
 use lib.ListN.{length, get_or, length-append}
-use Rattle.basics.specs.Words.{if◌then◌else◌, listed}
+use Rattle.basics.specs.Words.{listed}
 use Rattle.basics.specs.Text.{bytes, joined}
 use Rattle.alf.specs.Names.{names_in, name_at}
 use Rattle.figures.specs.Numbers.{decimal}

@@ -2,6 +2,7 @@
 --   changes_read     whatever the row before is read as, if the pins that are not told stand there as they are now
 --   quiet_later, all_told      behind row 0 they do; at row 0 all are told
 --   first_words_lem, later_words   the lines of a row, word by word
+use Rattle.std.specs.Prelude.{if◌then◌else◌}
 use Prim.Native.Nat.{ℕ, suc, ◌<◌, ◌≤◌}
 use native.Mathlib.Omega.{arith}
 use native.Mathlib.Nat.{zero-add}
@@ -10,7 +11,6 @@ use mathlib.Core.Bool.{Bool, true, false, not}
 use mathlib.Core.List.{List, [], ◌∷◌, ◌++◌}
 use lib.Dec.{eqb}
 use borrow.Author.Tests.{eqb-true}
-use Rattle.basics.specs.Words.{if◌then◌else◌}
 use Rattle.basics.specs.Text.{bytes, joined}
 use Rattle.basics.proofs.Bools.{never}
 use Rattle.alf.specs.Values.{row_of}

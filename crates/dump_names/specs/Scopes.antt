@@ -4,8 +4,8 @@
 --   agree        how many of the first entries of two lists are the same
 --   Matches      how many of the outermost scopes are the first parts of the path
 --   Stacked      the names of the open scopes, as spans of the file
-use Rattle.std.specs.Prelude.{ℕ, suc, ◌<◌, ◌≡◌, Bool, true, false, List, [], ◌∷◌, ◌++◌, eqb, length, get_or}
-use Rattle.basics.specs.Words.{if◌then◌else◌, same}
+use Rattle.std.specs.Prelude.{ℕ, suc, ◌<◌, ◌≡◌, Bool, true, false, List, [], ◌∷◌, ◌++◌, eqb, length, get_or, if◌then◌else◌}
+use Rattle.basics.specs.Words.{same}
 use Rattle.dump_changes.specs.Codes.{cut}
 
 unfoldable pub outermost : List (List ℕ) → List (List ℕ)

@@ -2,6 +2,7 @@
 --   end_open, end_unmet, end_none, end_done          the file's end
 --   Standing, Passing                                what is known at a word
 --   passing_first, step_due, passing_next, passing_refused, passing_end
+use Rattle.std.specs.Prelude.{if◌then◌else◌}
 use Prim.Native.Nat.{ℕ, ◌-◌, ◌<◌, ◌≤◌}
 use native.Mathlib.Omega.{arith}
 use mathlib.Core.Path.{◌≡◌, refl, sym, ap, ◌∙◌}
@@ -14,7 +15,6 @@ use borrow.Author.Tests.{ne_eqb}
 use Rattle.basics.specs.declared.Refusal.{Refusal}
 use Rattle.basics.specs.declared.Outcome.{Outcome}
 use Rattle.basics.specs.declared.Outcome.TheVariants.{Done, Refused}
-use Rattle.basics.specs.Words.{if◌then◌else◌}
 use Rattle.basics.specs.Refusing.{refusal}
 use Rattle.dumps.specs.Words.{nonempty}
 use Rattle.dumps.specs.Known.{Mode, changes, section, code_then, words_then, Declared, Point, Past, no_past, Known}

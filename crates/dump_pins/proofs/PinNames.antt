@@ -1,6 +1,7 @@
 -- What the name of a pin comes to, return by return.
 --   pin_naming                              what `put_name` asks
 --   name_end_lem, name_deep, name_bad, name_taken     `$end`; below too many scopes; no name or a pin has it; a new pin
+use Rattle.std.specs.Prelude.{if◌then◌else◌}
 use Prim.Native.Nat.{ℕ, ◌+◌, ◌<◌, ◌≤◌, min}
 use native.Mathlib.Omega.{arith}
 use mathlib.Core.Path.{◌≡◌, refl, sym, ap, ◌∙◌}
@@ -8,7 +9,6 @@ use mathlib.Core.Bool.{Bool, true, false, not, ◌||◌}
 use mathlib.Core.List.{List, []}
 use lib.ListN.{length}
 use borrow.Author.Tests.{not-false}
-use Rattle.basics.specs.Words.{if◌then◌else◌}
 use Rattle.basics.specs.Refusing.{refusal}
 use Rattle.basics.proofs.Bools.{or_left}
 use Rattle.alf.specs.Names.{is_name}

@@ -4,8 +4,7 @@
 --   Around                 how many scopes stand in front of a name
 --   SpanDue, SpanAdded     room for a code; it is added
 --   added                  one pin more is known
-use Rattle.std.specs.Prelude.{ℕ, ◌+◌, ◌-◌, ◌*◌, ◌<◌, ◌≤◌, ◌≡◌, Bool, true, not, ◌||◌, List, ◌++◌, length, get_or, set, replicate}
-use Rattle.basics.specs.Words.{if◌then◌else◌}
+use Rattle.std.specs.Prelude.{ℕ, ◌+◌, ◌-◌, ◌*◌, ◌<◌, ◌≤◌, ◌≡◌, Bool, true, not, ◌||◌, List, ◌++◌, length, get_or, set, replicate, if◌then◌else◌}
 use Rattle.alf.specs.Names.{is_name, slot_of}
 use Rattle.dumps.specs.Known.{Pin}
 use Rattle.dumps.specs.Steps.{has_name, slots_of}

@@ -1,6 +1,7 @@
 -- Scopes that agree with the parts of a path, where one more is opened.
 --   opened_matches     how many agree then
 --   agree_all          all agree exactly if they are the parts
+use Rattle.std.specs.Prelude.{if◌then◌else◌}
 use Prim.Native.Nat.{ℕ, suc, ◌+◌}
 use native.Mathlib.Omega.{arith}
 use mathlib.Core.Path.{◌≡◌, refl, sym, ap, ◌∙◌}
@@ -10,7 +11,7 @@ use mathlib.Core.List.{List, [], ◌∷◌, ◌++◌}
 use lib.Dec.{eqb}
 use lib.ListN.{length}
 use borrow.Author.Tests.{eq-eqb, ne_eqb}
-use Rattle.basics.specs.Words.{if◌then◌else◌, same}
+use Rattle.basics.specs.Words.{same}
 use Rattle.basics.proofs.Bools.{equal?}
 use Rattle.basics.proofs.Entries.{same_sound, same_refl}
 use Rattle.dump_names.proofs.JoinedNames.{outermost_length}

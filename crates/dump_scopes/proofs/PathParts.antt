@@ -2,6 +2,7 @@
 --   Counting, counting_first, counting_next, counting_end          its dots are counted
 --   Ending, ending_first, ending_next, ended_here, ended_last      the end of a part is looked for
 --   Parting, parting_first, parting_next, parting_short, parting_end     the part with a number is looked for
+use Rattle.std.specs.Prelude.{if◌then◌else◌}
 use Prim.Native.Nat.{ℕ, zero, suc, ◌+◌, ◌-◌, ◌<◌, ◌≤◌}
 use native.Mathlib.Omega.{arith}
 use mathlib.Core.Path.{◌≡◌, refl, sym, ap, ◌∙◌}
@@ -12,7 +13,7 @@ use lib.Dec.{eqb}
 use lib.ListN.{length, get_or, take, drop, length-drop, drop_of_length-le}
 use lib.Seq.{take-suc, drop-cons, get_or-drop}
 use borrow.Author.Tests.{ne_eqb, eq-eqb}
-use Rattle.basics.specs.Words.{if◌then◌else◌, same}
+use Rattle.basics.specs.Words.{same}
 use Rattle.basics.proofs.Bools.{below?}
 use Rattle.dump_changes.specs.Codes.{cut}
 use Rattle.dump_names.specs.Scopes.{on_first, parts_of}

@@ -3,6 +3,7 @@
 --   parts_same         two paths with the same parts are one
 --   parts_dotless      no part holds a dot
 --   chosen-is          the innermost scope is the chosen one exactly if the scopes are the parts of the path
+use Rattle.std.specs.Prelude.{if◌then◌else◌}
 use Prim.Native.Nat.{ℕ, ◌<◌}
 use native.Mathlib.Omega.{arith}
 use mathlib.Core.Path.{◌≡◌, refl, sym, ap, ◌∙◌}
@@ -11,7 +12,7 @@ use mathlib.Core.List.{List, [], ◌∷◌, ◌++◌, append_assoc}
 use lib.Dec.{eqb}
 use lib.ListN.{length}
 use borrow.Author.Tests.{ne_eqb, eq-eqb, eqb-true}
-use Rattle.basics.specs.Words.{if◌then◌else◌, all, same}
+use Rattle.basics.specs.Words.{all, same}
 use Rattle.basics.proofs.Bools.{never, and_left, and_right}
 use Rattle.basics.proofs.Entries.{same_sound, same_true}
 use Rattle.alf.specs.States.{among}

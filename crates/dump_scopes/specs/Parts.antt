@@ -2,8 +2,8 @@
 --   is_nth        a word is the entry of some words with a number
 --   PartTo       the part of a path that begins at a byte ends at another
 --   one_more      how many scopes agree with the path, with one more open
-use Rattle.std.specs.Prelude.{ℕ, zero, suc, ◌+◌, ◌<◌, ◌≤◌, ◌≡◌, Bool, false, ◌&&◌, List, [], ◌∷◌, eqb, length, drop}
-use Rattle.basics.specs.Words.{if◌then◌else◌, same}
+use Rattle.std.specs.Prelude.{ℕ, zero, suc, ◌+◌, ◌<◌, ◌≤◌, ◌≡◌, Bool, false, ◌&&◌, List, [], ◌∷◌, eqb, length, drop, if◌then◌else◌}
+use Rattle.basics.specs.Words.{same}
 use Rattle.dump_changes.specs.Codes.{cut}
 use Rattle.dump_names.specs.Scopes.{parts_of}
 

@@ -1,6 +1,5 @@
 // The parts of a path, between its dots.
-ghost use Rattle.std.specs.Prelude.{◌≡◌, ◌+◌, ◌≤◌, eqb, length};
-ghost use Rattle.basics.specs.Words.{if◌then◌else◌};
+ghost use Rattle.std.specs.Prelude.{◌≡◌, ◌+◌, ◌≤◌, eqb, length, if◌then◌else◌};
 ghost use Rattle.dump_names.specs.Scopes.{parts_of};
 ghost use Rattle.dump_scopes.specs.Parts.{is_nth, PartTo};
 

@@ -14,8 +14,8 @@
 --   told, change_line, change_lines      whether a pin is told at a row; its line there, and those of the first pins
 --   at_first, row_text, row_texts    a word that stands at row 0 alone; the lines of a row, and of the first rows
 --   text_with, dump_text            the whole
-use Rattle.std.specs.Prelude.{ℕ, zero, suc, ◌+◌, Bool, true, List, [], ◌∷◌, get_or}
-use Rattle.basics.specs.Words.{if◌then◌else◌, listed}
+use Rattle.std.specs.Prelude.{ℕ, zero, suc, ◌+◌, Bool, true, List, [], ◌∷◌, get_or, if◌then◌else◌}
+use Rattle.basics.specs.Words.{listed}
 use Rattle.basics.specs.Text.{bytes, joined}
 use Rattle.alf.specs.Names.{names_in, name_at}
 use Rattle.alf.specs.Traces.{differ_at}

@@ -2,6 +2,7 @@
 --   rest_part                       the bytes behind the first, as a part
 --   Passing, passing_first, passing_next, pass_stop, pass_end     each byte so far passes a test
 --   code-..., change-..., wide-..., stamp-...     what is returned
+use Rattle.std.specs.Prelude.{if◌then◌else◌}
 use types.Run.{OneOf}
 use Prim.Native.Nat.{ℕ, suc, ◌+◌, ◌-◌, ◌^◌, ◌<◌, ◌≤◌}
 use native.Mathlib.Omega.{arith}
@@ -12,7 +13,7 @@ use mathlib.Core.Logic.{◌⊎◌, inl, inr}
 use lib.Dec.{eqb, ltb, leb}
 use lib.ListN.{length, get_or, take, drop}
 use borrow.Author.Tests.{lt-ltb, le-ltb, eq-eqb, ne_eqb, eqb-true}
-use Rattle.basics.specs.Words.{if◌then◌else◌, all}
+use Rattle.basics.specs.Words.{all}
 use Rattle.basics.proofs.Bools.{never}
 use Rattle.alf.specs.States.{X, Z, among}
 use Rattle.alf.specs.Names.{between, is_decimal}

@@ -2,6 +2,7 @@
 --   one_of_index            it is one of them if its number is below their count
 --   below_one_of            the same of a number that is told
 --   short_section           no section has less than seven bytes
+use Rattle.std.specs.Prelude.{if◌then◌else◌}
 use Prim.Native.Nat.{ℕ, suc, ◌<◌, ◌≤◌}
 use native.Mathlib.Omega.{arith}
 use mathlib.Core.Path.{◌≡◌, refl, sym, ap, ◌∙◌}
@@ -11,7 +12,7 @@ use mathlib.Core.List.{List, [], ◌∷◌}
 use lib.Dec.{ltb}
 use lib.ListN.{length}
 use borrow.Author.Tests.{lt-ltb, le-ltb}
-use Rattle.basics.specs.Words.{if◌then◌else◌, All, none, more, same}
+use Rattle.basics.specs.Words.{All, none, more, same}
 use Rattle.basics.proofs.Bools.{below?}
 use Rattle.basics.proofs.Entries.{same_false}
 use Rattle.basics.specs.Text.{bytes}

@@ -1,12 +1,13 @@
 -- A word is looked for in a list, word by word.
 --   Searching, searching_first, searching_next, search_found, search_none
+use Rattle.std.specs.Prelude.{if◌then◌else◌}
 use Prim.Native.Nat.{ℕ, suc, ◌+◌, ◌-◌, ◌<◌, ◌≤◌}
 use native.Mathlib.Omega.{arith}
 use mathlib.Core.Path.{◌≡◌, refl, sym, ap, ◌∙◌}
 use mathlib.Core.Bool.{Bool, true, false}
 use mathlib.Core.List.{List, [], ◌∷◌}
 use lib.ListN.{length, take, drop}
-use Rattle.basics.specs.Words.{if◌then◌else◌, same}
+use Rattle.basics.specs.Words.{same}
 use Rattle.basics.proofs.Entries.{same_true, same_false}
 use Rattle.basics.proofs.Bools.{never}
 use Rattle.trace_texts.specs.Words.{Word, word}

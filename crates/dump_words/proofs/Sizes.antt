@@ -1,6 +1,7 @@
 -- A size, digit by digit.
 --   Sizing, sizing_first, sizing_next         the digits before the i-th are read
 --   size_none, size_stop, size_one, size_other     what is returned
+use Rattle.std.specs.Prelude.{if◌then◌else◌}
 use Prim.Native.Nat.{ℕ, suc, ◌+◌, ◌-◌, ◌*◌, ◌<◌, ◌≤◌, min}
 use native.Mathlib.Omega.{arith}
 use native.Mathlib.Numerals.{add-one}
@@ -12,7 +13,7 @@ use lib.Dec.{eqb, leb}
 use lib.ListN.{length, get_or, drop, drop_of_length-le}
 use lib.Seq.{drop-cons}
 use borrow.Author.Tests.{eq-eqb, ne_eqb, le-leb, lt-leb}
-use Rattle.basics.specs.Words.{if◌then◌else◌, all}
+use Rattle.basics.specs.Words.{all}
 use Rattle.alf.specs.Names.{is_decimal}
 use Rattle.names.proofs.Names.{all_end, all_more, all-stop}
 use Rattle.figures.specs.Numbers.{reading}

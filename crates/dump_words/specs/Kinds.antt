@@ -4,8 +4,8 @@
 --   value_of, all_values     the state of a value; bytes that are values
 --   size_of            the number 1, another number, or none
 --   ReadsStamp        whether a word is a time in eight bytes, and which
-use Rattle.std.specs.Prelude.{ℕ, suc, ◌^◌, ◌≡◌, Bool, true, ◌&&◌, List, [], ◌∷◌, eqb, ltb}
-use Rattle.basics.specs.Words.{if◌then◌else◌, all}
+use Rattle.std.specs.Prelude.{ℕ, suc, ◌^◌, ◌≡◌, Bool, true, ◌&&◌, List, [], ◌∷◌, eqb, ltb, if◌then◌else◌}
+use Rattle.basics.specs.Words.{all}
 use Rattle.basics.specs.Text.{bytes}
 use Rattle.alf.specs.States.{among}
 use Rattle.dumps.specs.Words.{is, remarks, rest, is_number, number_of, is_time, values, state_of}

@@ -1,4 +1,5 @@
 -- What an accepted dump means is a trace, for every scope chosen. Main name: accepted_trace.
+use Rattle.std.specs.Prelude.{if◌then◌else◌}
 use Prim.Native.Nat.{ℕ, zero, suc, ◌-◌, ◌<◌, ◌≤◌}
 use native.Mathlib.Omega.{arith}
 use mathlib.Core.Path.{◌≡◌, refl, sym}
@@ -6,7 +7,6 @@ use mathlib.Core.Bool.{Bool, true, false, not, ◌&&◌, ◌||◌}
 use mathlib.Core.List.{List, [], ◌∷◌}
 use lib.ListN.{length, get_or}
 use borrow.Author.Tests.{not-false}
-use Rattle.basics.specs.Words.{if◌then◌else◌}
 use Rattle.alf.specs.Names.{names_in}
 use Rattle.basics.proofs.Bools.{never}
 use Rattle.basics.proofs.AllEntries.{All, none, more}

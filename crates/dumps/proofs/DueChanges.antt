@@ -1,13 +1,14 @@
 -- A word of the second part of a dump in the grammar is refused for what it means alone, or leads on.
 --   due_change     where a change is due
 --   due_value      in a section
+use Rattle.std.specs.Prelude.{if◌then◌else◌}
 use Prim.Native.Nat.{ℕ, ◌^◌}
 use mathlib.Core.Path.{◌≡◌, refl, sym, ap, ◌∙◌}
 use mathlib.Core.Bool.{Bool, true, false, not, ◌&&◌, ◌||◌, or-true}
 use mathlib.Core.List.{List, [], ◌∷◌}
 use lib.Dec.{leb, eqb}
 use lib.ListN.{length}
-use Rattle.basics.specs.Words.{if◌then◌else◌, all, same}
+use Rattle.basics.specs.Words.{all, same}
 use Rattle.basics.specs.Text.{bytes}
 use Rattle.basics.proofs.Bools.{never, or_yes, or_left, or_right}
 use Rattle.dumps.specs.Words.{is, one_of, sections, first, rest, is_end_lem, number_of, is_code, is_time, is_change_lem, is_wide}

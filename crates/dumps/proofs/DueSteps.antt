@@ -1,6 +1,7 @@
 -- A word of a dump in the grammar is refused for what it means alone, or leads on to what is due then.
 --   due_definition, due_change, due-section, due-ended     where a definition, a change, the end of a variable is due
 --   due_step                                               in each mode
+use Rattle.std.specs.Prelude.{if◌then◌else◌}
 use Prim.Native.Nat.{ℕ, suc, ◌^◌}
 use native.Mathlib.Omega.{arith}
 use mathlib.Core.Path.{◌≡◌, refl, sym, ap, ◌∙◌}
@@ -8,7 +9,7 @@ use mathlib.Core.Bool.{Bool, true, false, not, ◌&&◌, ◌||◌}
 use mathlib.Core.List.{List, [], ◌∷◌}
 use lib.Dec.{leb, eqb}
 use lib.ListN.{length}
-use Rattle.basics.specs.Words.{if◌then◌else◌, all, same}
+use Rattle.basics.specs.Words.{all, same}
 use Rattle.basics.specs.Text.{bytes}
 use Rattle.basics.proofs.Bools.{never, or_yes}
 use Rattle.basics.proofs.Entries.{same_refl}

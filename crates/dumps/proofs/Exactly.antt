@@ -2,13 +2,14 @@
 --   due_step            a word of a dump in the grammar, in each mode
 --   grammar_meaning     the first fault of a dump in the grammar is not one of the grammar
 --   accepted_exactly    accepted if and only if in the grammar, and what it means is not refused
+use Rattle.std.specs.Prelude.{if◌then◌else◌}
 use Prim.Native.Nat.{ℕ, suc}
 use native.Mathlib.Omega.{arith}
 use mathlib.Core.Path.{◌≡◌, refl, sym, ap, ◌∙◌}
 use mathlib.Core.Bool.{Bool, true, false, not}
 use mathlib.Core.List.{List, [], ◌∷◌}
 use lib.ListN.{length}
-use Rattle.basics.specs.Words.{if◌then◌else◌, same}
+use Rattle.basics.specs.Words.{same}
 use Rattle.basics.specs.Text.{bytes}
 use Rattle.trace_texts.specs.Words.{Word}
 use Rattle.dumps.specs.Words.{words_of, one_of, is_number, is_code, is_end_lem, scope_kinds, var_kinds}

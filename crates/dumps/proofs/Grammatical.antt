@@ -1,11 +1,11 @@
 -- What is accepted is a dump by IEEE 1364's grammar. Main name: accepted_grammar.
+use Rattle.std.specs.Prelude.{if◌then◌else◌}
 use Prim.Native.Nat.{ℕ, suc}
 use mathlib.Core.Path.{◌≡◌, refl, sym, ◌∙◌}
 use mathlib.Core.Bool.{Bool, true, false, not, ◌&&◌, ◌||◌}
 use mathlib.Core.List.{List, [], ◌∷◌}
 use lib.ListN.{length}
 use borrow.Author.Tests.{not-false}
-use Rattle.basics.specs.Words.{if◌then◌else◌}
 use Rattle.basics.proofs.Bools.{never, or_left}
 use Rattle.basics.specs.Text.{bytes}
 use Rattle.trace_texts.specs.Words.{Word}

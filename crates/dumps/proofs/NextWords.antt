@@ -2,6 +2,7 @@
 --   words_ahead, dense_first     where the first word starts; a word and those behind it
 --   no_words, gap_step           at the end there are none; a blank is passed
 --   word_at                      a word that runs from a byte to another, and those behind it
+use Rattle.std.specs.Prelude.{if◌then◌else◌}
 use Prim.Native.Nat.{ℕ, ◌+◌, ◌-◌, ◌<◌, ◌≤◌}
 use native.Mathlib.Omega.{arith}
 use native.Mathlib.Numerals.{add-one}
@@ -11,7 +12,6 @@ use mathlib.Core.Logic.{◌⊎◌, inl, inr}
 use mathlib.Core.List.{List, [], ◌∷◌, ◌++◌}
 use lib.ListN.{length, get_or, take, drop, drop_of_length-le}
 use lib.Seq.{drop-cons}
-use Rattle.basics.specs.Words.{if◌then◌else◌}
 use Rattle.basics.proofs.Bools.{below?}
 use Rattle.trace_texts.specs.Words.{Word, word, joins}
 use Rattle.trace_texts.specs.Finding.{is_solid_lem, Runs}

@@ -2,13 +2,14 @@
 --   word_here, scanned     the run that started at a place, as a word; the words of some bytes behind a run
 --   scanned_is            they are the words of the file
 --   blank_off, blank_next     no word starts at a blank; the words behind it
+use Rattle.std.specs.Prelude.{if◌then◌else◌}
 use Prim.Native.Nat.{ℕ, ◌+◌}
 use native.Mathlib.Omega.{arith}
 use mathlib.Core.Path.{◌≡◌, refl, sym, ap, ◌∙◌}
 use mathlib.Core.Bool.{Bool, true, false}
 use mathlib.Core.List.{List, [], ◌∷◌, ◌++◌, append_assoc, append-nil}
 use lib.ListN.{length}
-use Rattle.basics.specs.Words.{if◌then◌else◌, All, none, more}
+use Rattle.basics.specs.Words.{All, none, more}
 use Rattle.basics.proofs.AllEntries.{all_append}
 use Rattle.trace_texts.specs.Words.{Word, word}
 use Rattle.trace_texts.specs.Finding.{is_solid_lem}

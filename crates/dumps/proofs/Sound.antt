@@ -3,6 +3,7 @@
 --   Grown, Points, Fits, Sound      pins, time points, a mode, what is known
 --   pass_so, pass_rest              tests that find nothing
 --   wider, point_now_lem, changed_points     time points, one more, one changed
+use Rattle.std.specs.Prelude.{if◌then◌else◌}
 use Prim.Native.Nat.{ℕ, zero, suc, ◌+◌, ◌-◌, ◌^◌, ◌<◌, ◌≤◌}
 use native.Mathlib.Omega.{arith}
 use mathlib.Core.Path.{◌≡◌, refl, ◌∙◌}
@@ -11,7 +12,6 @@ use mathlib.Core.List.{List, [], ◌∷◌, ◌++◌}
 use lib.Dec.{eqb, leb}
 use lib.ListN.{length, set, replicate, length-set, length-replicate}
 use borrow.Author.Tests.{leb-false, eqb-false}
-use Rattle.basics.specs.Words.{if◌then◌else◌}
 use Rattle.alf.specs.States.{U}
 use Rattle.alf.specs.Names.{is_name}
 use Rattle.basics.proofs.Bools.{never}

@@ -1,4 +1,5 @@
 -- A word that is not refused keeps what is known sound, for every scope chosen. Main name: sound_step.
+use Rattle.std.specs.Prelude.{if◌then◌else◌}
 use Prim.Native.Nat.{ℕ, suc, ◌-◌, ◌^◌, ◌≤◌}
 use native.Mathlib.Omega.{arith}
 use mathlib.Core.Path.{◌≡◌, refl, sym, ◌∙◌}
@@ -7,7 +8,6 @@ use mathlib.Core.List.{List}
 use lib.Dec.{eqb, ltb, leb}
 use lib.ListN.{length}
 use borrow.Author.Tests.{leb-false, ltb-false}
-use Rattle.basics.specs.Words.{if◌then◌else◌}
 use Rattle.alf.specs.Names.{is_name}
 use Rattle.basics.proofs.Bools.{never}
 use Rattle.basics.specs.Text.{bytes}

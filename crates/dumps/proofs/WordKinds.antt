@@ -1,6 +1,7 @@
 -- Kinds of words that exclude each other, and the states of values.
 --   state_low                   a value is a state
 --   wide_no_change              a vector's or a real's value is no scalar's change
+use Rattle.std.specs.Prelude.{if◌then◌else◌}
 use Prim.Native.Nat.{ℕ, ◌≤◌}
 use native.Mathlib.Omega.{arith}
 use mathlib.Core.Path.{◌≡◌, refl}
@@ -9,7 +10,7 @@ use mathlib.Core.List.{List, [], ◌∷◌}
 use mathlib.Core.Logic.{◌⊎◌, inl, inr}
 use lib.Dec.{eqb}
 use borrow.Author.Tests.{eqb-true}
-use Rattle.basics.specs.Words.{if◌then◌else◌, all}
+use Rattle.basics.specs.Words.{all}
 use Rattle.basics.proofs.Bools.{never, and_left, and_right}
 use Rattle.alf.specs.States.{X, Z, among}
 use Rattle.dumps.specs.Words.{first, rest, nonempty, values, state_of, is_change_lem, is_wide}

@@ -9,8 +9,7 @@
 --   change_tests, tests, fault              of a word
 --   is_changes, end_fault                    at the file's end
 --   first_fault, file_fault                  of some words, of a file
-use Rattle.std.specs.Prelude.{ℕ, ◌+◌, ◌^◌, Bool, true, false, not, ◌&&◌, ◌||◌, List, [], ◌∷◌, eqb, ltb, leb, length}
-use Rattle.basics.specs.Words.{if◌then◌else◌}
+use Rattle.std.specs.Prelude.{ℕ, ◌+◌, ◌^◌, Bool, true, false, not, ◌&&◌, ◌||◌, List, [], ◌∷◌, eqb, ltb, leb, length, if◌then◌else◌}
 use Rattle.basics.specs.Text.{bytes}
 use Rattle.alf.specs.Names.{is_name}
 use Rattle.trace_texts.specs.Words.{Word}

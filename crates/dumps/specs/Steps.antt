@@ -6,8 +6,8 @@
 --   point_now, changed, timed, happened                   time points
 --   next, after, meant                                   one word, some words, a file
 --   trace_names, trace_times, trace_states                  the trace that is meant
-use Rattle.std.specs.Prelude.{ℕ, zero, suc, ◌+◌, Bool, true, false, not, ◌&&◌, ◌||◌, List, [], ◌∷◌, ◌++◌, eqb, length, replicate, set}
-use Rattle.basics.specs.Words.{if◌then◌else◌, all}
+use Rattle.std.specs.Prelude.{ℕ, zero, suc, ◌+◌, Bool, true, false, not, ◌&&◌, ◌||◌, List, [], ◌∷◌, ◌++◌, eqb, length, replicate, set, if◌then◌else◌}
+use Rattle.basics.specs.Words.{all}
 use Rattle.basics.specs.Text.{bytes}
 use Rattle.alf.specs.States.{U, among}
 use Rattle.alf.specs.Names.{slot_of}

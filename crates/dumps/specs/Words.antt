@@ -7,8 +7,8 @@
 --   is_number, number_of, is_code         decimal digits, and their number; an identifier code
 --   is_time, is_change_lem, state_of, is_wide  a time; a scalar's change, and its state; a vector's or a real's value
 --   is_index_lem                            a variable's index
-use Rattle.std.specs.Prelude.{ℕ, ◌+◌, Bool, true, false, ◌&&◌, ◌||◌, List, [], ◌∷◌, eqb, drop}
-use Rattle.basics.specs.Words.{if◌then◌else◌, all, same}
+use Rattle.std.specs.Prelude.{ℕ, ◌+◌, Bool, true, false, ◌&&◌, ◌||◌, List, [], ◌∷◌, eqb, drop, if◌then◌else◌}
+use Rattle.basics.specs.Words.{all, same}
 use Rattle.basics.specs.Text.{bytes}
 use Rattle.alf.specs.States.{X, Z, among}
 use Rattle.alf.specs.Names.{is_decimal, between}

@@ -1,6 +1,7 @@
 -- What a word adds to what is declared.
 --   Grows, grows     a scope at most, and a variable passed over at most
 --   roomy            where a pin's code or name is due, fewer than 32 pins are declared
+use Rattle.std.specs.Prelude.{if◌then◌else◌}
 use Prim.Native.Nat.{ℕ, ◌+◌, ◌≤◌}
 use native.Mathlib.Omega.{arith}
 use mathlib.Core.Path.{◌≡◌, refl, sym, ap, ◌∙◌}
@@ -8,7 +9,6 @@ use mathlib.Core.Bool.{Bool, true, false, not, ◌&&◌}
 use mathlib.Core.List.{List, [], ◌∷◌}
 use lib.Dec.{eqb}
 use lib.ListN.{length}
-use Rattle.basics.specs.Words.{if◌then◌else◌}
 use Rattle.basics.specs.Text.{bytes}
 use Rattle.basics.proofs.Bools.{never}
 use Rattle.dumps.specs.Words.{is, one_of, sections, is_end_lem, is_number, is_time, is_wide, number_of}

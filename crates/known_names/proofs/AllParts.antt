@@ -2,6 +2,7 @@
 --   six_bounded                   6 is given at places of the part
 --   part_there, part_told         part i, and what is told of it
 --   Seeking, seeking_first, seeking_next, seeking_given, seeking_end     the loop
+use Rattle.std.specs.Prelude.{if◌then◌else◌}
 use mathlib.Core.Path.{◌≡◌, refl, sym, ap, ◌∙◌, subst}
 use mathlib.Core.Bool.{Bool, true, false}
 use mathlib.Core.Logic.{◌⊎◌, inl, inr}
@@ -11,7 +12,7 @@ use native.Mathlib.Omega.{arith}
 use lib.Dec.{eqb}
 use lib.ListN.{length, take, drop, get_or, drop_of_length-le}
 use borrow.Author.Tests.{eq-eqb, ne_eqb}
-use Rattle.basics.specs.Words.{if◌then◌else◌, All, more}
+use Rattle.basics.specs.Words.{All, more}
 use Rattle.basics.proofs.Bools.{equal?, never}
 use Rattle.alf.specs.Refusals.{First}
 use Rattle.alf.proofs.Orders.{none_first}

@@ -1,11 +1,12 @@
 -- The names at the left of a frame, and each where it stands first.
 --   left_append, lefts_places      of some items and others; of all items: the names of all clauses
 --   distinct_next                  one name more
+use Rattle.std.specs.Prelude.{if◌then◌else◌}
 use mathlib.Core.Path.{◌≡◌, refl, sym, ap, ◌∙◌}
 use mathlib.Core.Bool.{Bool, true, false, ◌||◌}
 use mathlib.Core.List.{List, [], ◌∷◌, ◌++◌, map, append_assoc, append-nil}
 use Prim.Native.Nat.{ℕ}
-use Rattle.basics.specs.Words.{if◌then◌else◌, same}
+use Rattle.basics.specs.Words.{same}
 use Rattle.basics.specs.Text.{joined}
 use Rattle.descriptions.specs.Frames.{Left, Framed, Frame}
 use Rattle.descriptions.specs.Items.{Item, asks, gives, clause_items, block_items, items}

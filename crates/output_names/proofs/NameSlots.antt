@@ -4,6 +4,7 @@
 --   words_alike                          the name at a place of a text, where it has at most 32 bytes
 --   name_there                           the name in slot k
 --   known_there, known_none              whether a name is among them, by the number of its slot
+use Rattle.std.specs.Prelude.{if◌then◌else◌}
 use mathlib.Core.Path.{◌≡◌, refl, sym, ap, ◌∙◌, subst}
 use mathlib.Core.Bool.{Bool, true, false, ◌&&◌, ◌||◌}
 use mathlib.Core.Logic.{◌⊎◌, inl, inr}
@@ -15,7 +16,7 @@ use lib.ListN.{length, take, drop, get_or, replicate, length-take, length-append
 use lib.ListN.{get_or-append, get_or-eq_default}
 use lib.Seq.{length-take-le, get_or-take, get_or-drop, get_or-append-add, take-append-le, drop-append-add, take_at}
 use borrow.Author.Tests.{ne_eqb}
-use Rattle.basics.specs.Words.{if◌then◌else◌, all, same, All, none, more}
+use Rattle.basics.specs.Words.{all, same, All, none, more}
 use Rattle.basics.specs.Text.{joined}
 use Rattle.basics.proofs.Bools.{below?, and_left, and_right, or_yes}
 use Rattle.basics.proofs.Entries.{same_true, same_false}

@@ -5,9 +5,9 @@
 --   SlotByte, SlotRoom, SlotPut     one slot
 --   Adding, Added              one name
 --   PartAdding, PartAdded      one part
-use Rattle.std.specs.Prelude.{ℕ, ◌+◌, ◌-◌, ◌*◌, ◌<◌, ◌≤◌, ◌≡◌, true, List, [], ◌∷◌, ◌++◌, map, length, drop, get_or}
+use Rattle.std.specs.Prelude.{ℕ, ◌+◌, ◌-◌, ◌*◌, ◌<◌, ◌≤◌, ◌≡◌, true, List, [], ◌∷◌, ◌++◌, map, length, drop, get_or, if◌then◌else◌}
 use Rattle.std.proofs.lemmas.List.Edits.{sets}
-use Rattle.basics.specs.Words.{if◌then◌else◌, all, All}
+use Rattle.basics.specs.Words.{all, All}
 use Rattle.basics.specs.Text.{joined}
 use Rattle.alf.specs.Names.{slot_of, goes_on_name}
 use Rattle.token_steps.specs.Taking.{name_bytes}

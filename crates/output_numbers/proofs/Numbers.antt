@@ -2,6 +2,7 @@
 --   names_alike      the outputs' names fit into slots
 --   left_number      each name at the left has a number among the outputs
 --   few_outputs      where 21 is given nowhere there are at most 32 outputs
+use Rattle.std.specs.Prelude.{if◌then◌else◌}
 use mathlib.Core.Path.{◌≡◌, refl, sym, ap, ◌∙◌, subst}
 use mathlib.Core.Bool.{Bool, true, false, ◌||◌}
 use mathlib.Core.Logic.{◌⊎◌, inl, inr}
@@ -9,7 +10,7 @@ use mathlib.Core.List.{List, [], ◌∷◌, ◌++◌, map, append_assoc, append-
 use Prim.Native.Nat.{ℕ, ◌<◌, ◌≤◌}
 use native.Mathlib.Omega.{arith}
 use lib.ListN.{length}
-use Rattle.basics.specs.Words.{if◌then◌else◌, same, All, none, more}
+use Rattle.basics.specs.Words.{same, All, none, more}
 use Rattle.basics.specs.Text.{joined}
 use Rattle.basics.proofs.Bools.{below?, never, or_yes}
 use Rattle.basics.proofs.Entries.{same_sound, same_true}

@@ -3,6 +3,7 @@
 --   frame_words          those of the expressions are among them
 --   parts_few            at most 256
 --   sum_drop, sum_part   some of the expressions; one of them
+use Rattle.std.specs.Prelude.{if◌then◌else◌}
 use mathlib.Core.Path.{◌≡◌, refl, sym, ap, ◌∙◌}
 use mathlib.Core.Bool.{Bool, true, false}
 use mathlib.Core.Logic.{◌⊎◌, inl, inr}
@@ -12,7 +13,7 @@ use native.Mathlib.Omega.{arith}
 use lib.Dec.{eqb, ltb}
 use lib.ListN.{length, drop}
 use borrow.Author.Tests.{ltb-true, le-ltb, le-leb}
-use Rattle.basics.specs.Words.{if◌then◌else◌, sum_of}
+use Rattle.basics.specs.Words.{sum_of}
 use Rattle.basics.proofs.Bools.{below?, and_left}
 use Rattle.basics.proofs.AllEntries.{All, none, more, all_weaken}
 use Rattle.alf.specs.Refusals.{Passed}

@@ -2,6 +2,7 @@
 --   piece_in, pieces_items     the expressions of a frame are those of its items
 --   parts_pieces              the expressions are the parts
 --   item_next, piece_next     the item, and the expression, that is part i, and those behind it
+use Rattle.std.specs.Prelude.{if◌then◌else◌}
 use mathlib.Core.Path.{◌≡◌, refl, sym, ap, ◌∙◌}
 use mathlib.Core.Bool.{Bool, true, false}
 use mathlib.Core.List.{List, [], ◌∷◌, ◌++◌, map, map-append}
@@ -11,7 +12,6 @@ use native.Mathlib.Numerals.{add-one}
 use lib.Dec.{eqb}
 use lib.ListN.{length, get_or, drop, length-map, get_or-map}
 use lib.Seq.{drop-cons}
-use Rattle.basics.specs.Words.{if◌then◌else◌}
 use Rattle.tokens.specs.Texts.{Token}
 use Rattle.descriptions.specs.Frames.{Part, Left, Framed, Frame, HasFrame}
 use Rattle.descriptions.specs.Items.{Item, asks, gives, clause_items, block_items, items}

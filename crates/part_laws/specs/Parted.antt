@@ -5,8 +5,7 @@
 --   weight_of               how many tokens of an expression are counted
 --   Clear                  what the functions ask: the lists of a description that 1 to 4 and 20 let through
 --   Cuttable               the tokens of one part can be parsed
-use Rattle.std.specs.Prelude.{ℕ, ◌-◌, ◌≤◌, ◌<◌, List, eqb, length, get_or, drop}
-use Rattle.basics.specs.Words.{if◌then◌else◌}
+use Rattle.std.specs.Prelude.{ℕ, ◌-◌, ◌≤◌, ◌<◌, List, eqb, length, get_or, drop, if◌then◌else◌}
 use Rattle.alf.specs.Refusals.{Passed}
 use Rattle.tokens.specs.Texts.{Token}
 use Rattle.grammar.specs.declared.Token as node

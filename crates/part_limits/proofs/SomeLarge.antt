@@ -1,6 +1,7 @@
 -- Limit 8 of a description's triggers, one expression after the other.
 --   part_limited      part i can be asked
 --   Larging, larging_first, larging_found, larging_next, larging_end     the loop: none over the limits so far
+use Rattle.std.specs.Prelude.{if◌then◌else◌}
 use mathlib.Core.Path.{◌≡◌, refl, sym, ap, ◌∙◌}
 use mathlib.Core.Bool.{Bool, true, false, ◌||◌}
 use mathlib.Core.List.{List, [], ◌∷◌}
@@ -9,7 +10,6 @@ use native.Mathlib.Omega.{arith}
 use native.Mathlib.Numerals.{add-one}
 use lib.Dec.{eqb}
 use lib.ListN.{length, drop, get_or, drop_of_length-le}
-use Rattle.basics.specs.Words.{if◌then◌else◌}
 use Rattle.basics.proofs.Bools.{never}
 use Rattle.alf.specs.declared.Rules.{Rules}
 use Rattle.grammar.specs.Grammar.{Tree}

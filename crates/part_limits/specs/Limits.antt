@@ -3,8 +3,8 @@
 --   Limited                   what 8 is asked of: a description with trees and no unknown name
 --   PartLimited               for the functions inside: one expression, whose names are known if it is a trigger
 --   large_as, LargeTold        whether it is a vector trigger over the limits
-use Rattle.std.specs.Prelude.{ℕ, ◌<◌, ◌≡◌, Bool, true, false, List, eqb}
-use Rattle.basics.specs.Words.{if◌then◌else◌, All}
+use Rattle.std.specs.Prelude.{ℕ, ◌<◌, ◌≡◌, Bool, true, false, List, eqb, if◌then◌else◌}
+use Rattle.basics.specs.Words.{All}
 use Rattle.alf.specs.declared.Rules.{Rules}
 use Rattle.alf.specs.Names.{names_in}
 use Rattle.alf.specs.Refusals.{Row, At}

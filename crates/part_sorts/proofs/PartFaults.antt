@@ -1,6 +1,7 @@
 -- The faults of a description's expressions, one expression after the other.
 --   part_agree           what one expression is sorted as is its first fault, whatever list numbers its names
 --   Faulting, faulting_first, faulting_found, faulting_next, faulting_end     the loop: no fault so far
+use Rattle.std.specs.Prelude.{if◌then◌else◌}
 use mathlib.Core.Path.{◌≡◌, refl, sym, ap, subst, ◌∙◌}
 use mathlib.Core.Bool.{Bool, true, false}
 use mathlib.Core.List.{List, [], ◌∷◌, ◌++◌}
@@ -9,7 +10,6 @@ use native.Mathlib.Omega.{arith}
 use native.Mathlib.Numerals.{add-one}
 use lib.Dec.{eqb}
 use lib.ListN.{length, drop, get_or, drop_of_length-le}
-use Rattle.basics.specs.Words.{if◌then◌else◌}
 use Rattle.basics.proofs.Bools.{never}
 use Rattle.alf.specs.declared.Sort.TheVariants as the-sort
 use Rattle.alf.specs.Expressions.{literal, boolean}

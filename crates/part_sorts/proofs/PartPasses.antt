@@ -2,6 +2,7 @@
 --   part_grown, part_pass          what the pass asks, and what it shows
 --   top_is, is_going, stopped_at_lem   what the pass shows of a sort, of going on, of a fault
 --   told_stopped, told_trigger, told_right     what is told: a fault, none, the sort asked of a right side
+use Rattle.std.specs.Prelude.{if◌then◌else◌}
 use mathlib.Core.Path.{◌≡◌, refl, sym, ap, subst, ◌∙◌}
 use mathlib.Core.Bool.{Bool, true, false}
 use mathlib.Core.List.{List, [], ◌∷◌}
@@ -10,7 +11,6 @@ use native.Mathlib.Omega.{arith}
 use lib.Dec.{eqb}
 use lib.ListN.{length, get_or}
 use borrow.Author.Tests.{eq-eqb, ne_eqb}
-use Rattle.basics.specs.Words.{if◌then◌else◌}
 use Rattle.basics.proofs.Bools.{never}
 use Rattle.alf.specs.declared.Sort.TheVariants as the-sort
 use Rattle.alf.specs.Expressions.{Expression, boolean, vector}

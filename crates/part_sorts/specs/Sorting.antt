@@ -3,8 +3,8 @@
 --   Sortable                    what 7 is asked of: the lists of a description whose expressions have trees
 --   PartSortable, PartSorted    for the functions inside: one expression, and the pass over its nodes
 --   sorted_as, Tells, PartTold   what it is sorted as, a right side asked to be boolean; and what is told
-use Rattle.std.specs.Prelude.{ℕ, ◌≤◌, ◌≡◌, true, false, List, [], eqb, length, get_or}
-use Rattle.basics.specs.Words.{if◌then◌else◌, All}
+use Rattle.std.specs.Prelude.{ℕ, ◌≤◌, ◌≡◌, true, false, List, [], eqb, length, get_or, if◌then◌else◌}
+use Rattle.basics.specs.Words.{All}
 use Rattle.alf.specs.declared.Sort.TheVariants as the-sort
 use Rattle.alf.specs.Names.{names_in}
 use Rattle.alf.specs.Expressions.{Expression}

@@ -2,6 +2,7 @@
 --   Stretch, put_stretch     a list stands in another from a place on
 --   right_at                 the bytes of a tree that is sorted as a boolean expression
 --   right_kept               what is written behind a right side leaves it as it is
+use Rattle.std.specs.Prelude.{if◌then◌else◌}
 use mathlib.Core.Path.{◌≡◌, refl, sym, ap, subst, ◌∙◌}
 use mathlib.Core.Bool.{Bool, true, false}
 use mathlib.Core.Logic.{◌⊎◌, inl, inr}
@@ -12,7 +13,6 @@ use lib.Dec.{eqb, ltb, leb}
 use lib.ListN.{length, get_or, length-map, length-append, get_or-append}
 use lib.Seq.{get_or-append-add}
 use borrow.Author.Tests.{eqb-true, ne_eqb, ltb-true, leb-true}
-use Rattle.basics.specs.Words.{if◌then◌else◌}
 use Rattle.basics.specs.Memory.{Put, Room}
 use Rattle.basics.proofs.Bools.{never, equal?}
 use Rattle.basics.proofs.Stores.{sets_inside}

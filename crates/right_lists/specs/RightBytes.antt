@@ -2,8 +2,8 @@
 --   node_byte, right_bytes          a node's byte; all bytes of a tree
 --   RightPut, RightStands         what the function asks, and what it writes
 --   Byted, NodesPut, NodesStand   for the functions inside: one node, some nodes
-use Rattle.std.specs.Prelude.{ℕ, ◌+◌, ◌≤◌, List, map, eqb, length}
-use Rattle.basics.specs.Words.{if◌then◌else◌, All}
+use Rattle.std.specs.Prelude.{ℕ, ◌+◌, ◌≤◌, List, map, eqb, length, if◌then◌else◌}
+use Rattle.basics.specs.Words.{All}
 use Rattle.basics.specs.Memory.{Put}
 use Rattle.alf.specs.Names.{names_in}
 use Rattle.grammar.specs.declared.Token.{Token}

@@ -6,8 +6,7 @@
 --   reads                      the state of each name: inputs at a row of a trace, outputs behind them
 --   CellOf, Plain, Named       state and value of an expression, and where its bytes start
 --   RightEnds, Evaluable, Evaluated     what the function asks, and what it promises
-use Rattle.std.specs.Prelude.{ℕ, ◌+◌, ◌-◌, ◌<◌, ◌≤◌, ◌≡◌, List, ltb, length, get_or}
-use Rattle.basics.specs.Words.{if◌then◌else◌}
+use Rattle.std.specs.Prelude.{ℕ, ◌+◌, ◌-◌, ◌<◌, ◌≤◌, ◌≡◌, List, ltb, length, get_or, if◌then◌else◌}
 use Rattle.alf.specs.declared.Rules.{Rules}
 use Rattle.alf.specs.States.{reduce}
 use Rattle.alf.specs.Expressions.{Boolean, name, literal, negated, binary, choice, Binary, Over}

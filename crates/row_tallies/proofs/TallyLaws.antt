@@ -5,6 +5,7 @@
 --   tally_as                               of other answers that agree
 --   tries_few, row_fits                    at most 64 are tried at a row; one row more fits 32 bits
 --   Going, going_first, -next, -end        the rows before i
+use Rattle.std.specs.Prelude.{if◌then◌else◌}
 use mathlib.Core.Path.{◌≡◌, refl, ap, ◌∙◌}
 use mathlib.Core.List.{List}
 use Prim.Native.Nat.{ℕ, zero, suc, ◌+◌, ◌*◌, ◌<◌, ◌≤◌}
@@ -12,7 +13,7 @@ use native.Mathlib.Numerals.{add-one}
 use native.Mathlib.Omega.{arith}
 use lib.Dec.{eqb}
 use lib.ListN.{length}
-use Rattle.basics.specs.Words.{if◌then◌else◌, count}
+use Rattle.basics.specs.Words.{count}
 use Rattle.basics.proofs.Counts.{count_next, count_small, count_same}
 use Rattle.columns.proofs.Tallies.{count_add}
 use Rattle.alf.specs.declared.Answer.{Answer}

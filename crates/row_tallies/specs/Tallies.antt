@@ -2,8 +2,8 @@
 --   added              f 0 + f 1 + .. up to, not including, f n
 --   TallyOf            the tally of n rows with the answers f and the numbers g
 --   RowFits, Grown     one row more
-use Rattle.std.specs.Prelude.{ℕ, zero, suc, ◌+◌, ◌^◌, ◌<◌, ◌≤◌, ◌≡◌, eqb}
-use Rattle.basics.specs.Words.{if◌then◌else◌, count}
+use Rattle.std.specs.Prelude.{ℕ, zero, suc, ◌+◌, ◌^◌, ◌<◌, ◌≤◌, ◌≡◌, eqb, if◌then◌else◌}
+use Rattle.basics.specs.Words.{count}
 
 -- f 0 + f 1 + .. up to, not including, f n
 unfoldable pub added : ℕ → (ℕ → ℕ) → ℕ

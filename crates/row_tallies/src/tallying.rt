@@ -1,6 +1,5 @@
 // A tally: how many rows answer yes, no and unknown, and the numbers tried added up.
-ghost use Rattle.std.specs.Prelude.{◌≡◌, ◌≤◌, eqb};
-ghost use Rattle.basics.specs.Words.{if◌then◌else◌};
+ghost use Rattle.std.specs.Prelude.{◌≡◌, ◌≤◌, eqb, if◌then◌else◌};
 ghost use Rattle.alf.specs.Values.{state_at};
 ghost use Rattle.alf.specs.Alternatives.{answer_of, tries};
 ghost use Rattle.alternatives.specs.InMemory.{alternatives_of_lem};

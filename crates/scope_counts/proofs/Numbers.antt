@@ -1,12 +1,13 @@
 -- The number of a definition's first word.
 --   number_scope, number_upscope, number_var, number_end, number_other
+use Rattle.std.specs.Prelude.{if◌then◌else◌}
 use Prim.Native.Nat.{ℕ, suc, ◌≤◌}
 use native.Mathlib.Omega.{arith}
 use mathlib.Core.Path.{◌≡◌, refl, sym}
 use mathlib.Core.Bool.{Bool, true, false, ◌||◌}
 use mathlib.Core.List.{List, [], ◌∷◌, ◌++◌}
 use lib.ListN.{length}
-use Rattle.basics.specs.Words.{if◌then◌else◌, same}
+use Rattle.basics.specs.Words.{same}
 use Rattle.basics.specs.Text.{bytes}
 use Rattle.basics.proofs.Bools.{never}
 use Rattle.basics.proofs.Entries.{same_sound}

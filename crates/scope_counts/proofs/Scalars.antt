@@ -1,5 +1,6 @@
 -- The kind and the size of a variable, from a place on.
 --   told_real, told_plain     what is told of them
+use Rattle.std.specs.Prelude.{if◌then◌else◌}
 use Prim.Native.Nat.{ℕ, suc, ◌-◌, ◌<◌, ◌≤◌}
 use native.Mathlib.Omega.{arith}
 use mathlib.Core.Path.{◌≡◌, refl, sym, ap, ◌∙◌}
@@ -9,7 +10,6 @@ use mathlib.Core.List.{List, [], ◌∷◌}
 use lib.Dec.{eqb, ltb}
 use lib.ListN.{length, take, drop}
 use borrow.Author.Tests.{ltb-true, eq-eqb, ne_eqb}
-use Rattle.basics.specs.Words.{if◌then◌else◌}
 use Rattle.basics.proofs.Bools.{never, below?}
 use Rattle.dumps.specs.Words.{one_of, real_kinds, var_kinds, is_number, number_of}
 use Rattle.dumps.specs.Grammar.{Texts}
