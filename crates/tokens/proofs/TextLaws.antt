@@ -105,6 +105,7 @@ stuck_unique (here h n) (token-then k u r) = absurd (taken_not_none u n)
 stuck_unique (here {p = p} h n) (here k m) = ap (λ (x : ℕ). p + x) (no_token_unique n m)
 
 pub reads_not_stuck : {p q : ℕ} {bs : List ℕ} {ts : List Token} → Reads p bs ts → Stuck p bs q → ⊥
+reads_not_stuck {q = q} (done {p = p}) s = elim s [ ]
 reads_not_stuck (blank h r) (blank-then k s) = reads_not_stuck r s
 reads_not_stuck (blank h r) (token-then k u s) = contrary h k
 reads_not_stuck (blank h r) (here k n) = contrary h k
