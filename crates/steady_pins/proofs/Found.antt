@@ -11,7 +11,6 @@ use lib.ListN.{replicate, length-replicate}
 use Rattle.alf.specs.declared.Rules.{Rules}
 use Rattle.alf.specs.Expressions.{Vector}
 use Rattle.alf.specs.Steady.{meant, filled}
-use Rattle.steady_laws.specs.Beside as filling
 use Rattle.steady_laws.proofs.Besides.{filled_beside_lem}
 use Rattle.trees.specs.Parts.{EndsBoolean, vector_at, boolean_at}
 use Rattle.trees.proofs.Starts.{of_boolean, ends_pos}
