@@ -1,17 +1,17 @@
 -- `list_values` meets its contract: 18, 15, or what writing answers.
 use lib.ListN.{length}
-use Rattle.basics.proofs.Deciding.{decided_no, decided_yes}
+use Rattle.basics.proofs.Deciding.{told, not_told}
 use Rattle.listing.specs.Listing.{Lists}
 use Rattle.column_listings.proofs.ListOrder.{refused_18, refused_15, listable, listed}
 use Rattle.column_listings.proofs.listings.list_values.Goals as goal
 
 fitting : (c : goal.After-first_bad_code-bad)
     → Lists (length c.args.times.now) (length c.args.values.now)
-fitting c = decided_yes _ c.lists_fit.ensures c.if-not-lists_fit.false
+fitting c = told _ c.lists_fit.ensures c.if-not-lists_fit.false
 
 pub returns-then-not-lists_fit : goal.returns-then-not-lists_fit
 returns-then-not-lists_fit c =
-    refused_18 (decided_no _ c.lists_fit.ensures c.if-not-lists_fit.true) c.refuse.ensures
+    refused_18 (not_told _ c.lists_fit.ensures c.if-not-lists_fit.true) c.refuse.ensures
 
 pub returns-then-bad-values : goal.returns-then-bad-values
 returns-then-bad-values c =
