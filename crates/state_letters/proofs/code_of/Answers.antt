@@ -56,4 +56,4 @@ returns-in-85 c = keyed state_of 7 (85 ∷ 117 ∷ []) _ refl c.in-85.is
 pub returns-in_default : goal.returns-in_default
 unfolding state_of among bytes
 returns-in_default c =
-    ranged state_of 8 0 256 single refl _ c.in_default-own.rest (omega arith) (omega arith)
+    ranged state_of 8 0 256 single refl _ c.in_default.in_default-own.rest (omega arith) (omega arith)
