@@ -4,9 +4,10 @@ use mathlib.Core.Path.{◌≡◌}
 use Prim.Native.Nat.{◌+◌, ◌≤◌}
 use Rattle.trace_writer.proofs.Putting.{size_none, size_grow}
 use Rattle.trace_writer.proofs.write.rows_size.Goals as goal
+use Rattle.trace_writer.proofs.write.rows_size.Goals.{After-width_of}
 
 -- with one row more the size is small
-small : (c : goal.After-width_of →
+small : (c : After-width_of) →
     c.loop-r.size +
     (2 + c.width_of.result + c.args.k)
     ≤ 2752470
