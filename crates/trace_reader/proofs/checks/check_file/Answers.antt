@@ -22,18 +22,18 @@ check_record-requires c = c.pass_rows-s.ensures.stands
 pub returns-in-Refused : goal.returns-in-Refused
 returns-in-Refused c =
     file_refused c.pass_rows-s.result c.check_record.ensures
-    (passed (goal.at.returns-in-Refused c).After-pass_rows-s) c.type_inv.file
+    (passed (goal.at.returns-in-Refused c).After-pass_rows-s) c.in-Refused.is
 
 pub returns-then-kind-eq3 : goal.returns-then-kind-eq3
 returns-then-kind-eq3 c =
     file_accepted c.pass_rows-s.result
     c.check_record.ensures
-    (passed (goal.at.returns-then-kind-eq3 c).After-pass_rows-s) c.type_inv.file c.if-kind-eq3.true
+    (passed (goal.at.returns-then-kind-eq3 c).After-pass_rows-s) c.in-Done.is c.if-kind-eq3.true
 
 pub pass-s-requires : goal.pass-s-requires
 pass-s-requires c =
     goes_on _ c.check_record.ensures
-    c.pass_rows-s.ensures.stands c.type_inv.file c.if-kind-eq3.false
+    c.pass_rows-s.ensures.stands c.in-Done.is c.if-kind-eq3.false
 
 pub loop-r-smaller : goal.loop-r-smaller
 loop-r-smaller c =
