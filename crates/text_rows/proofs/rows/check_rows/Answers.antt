@@ -15,7 +15,7 @@ check_row-requires c = row_in c.loop-at.invariant c.loop-at-test.true c.requires
 pub returns-in-Refused : goal.returns-in-Refused
 returns-in-Refused c =
     rowing_refused c.loop-at.invariant c.loop-at-test.true c.check_row.ensures _
-    c.type_inv.text
+    c.in-Refused.is
 
 pub row_time-t-requires : goal.row_time-t-requires
 row_time-t-requires c =
