@@ -3,7 +3,7 @@
 --   row-agrees               the entries of a step agree with `held`
 --   step_found               so a step with its pins is the filled step
 <<<<<<< HEAD
-use Rattle.std.specs.Prelude.{if◌then◌else◌}
+use Rattle.std.specs.Prelude.{if◌then◌else◌, if◌then◌else◌}
 use Prim.Native.Nat.{ℕ, zero, suc, ◌+◌, ◌-◌, ◌*◌, ◌<◌, ◌≤◌}
 =======
 use Prim.Native.Nat.{ℕ, zero, suc, ◌-◌, ◌*◌, ◌<◌, ◌≤◌}
@@ -22,7 +22,6 @@ use borrow.Author.Tests.{eq-eqb, ne_eqb}
 use Rattle.basics.specs.Words.{listed}
 use Rattle.basics.proofs.Bools.{never, equal?}
 =======
-use Rattle.basics.specs.Words.{if◌then◌else◌}
 use Rattle.basics.proofs.Bools.{equal?}
 >>>>>>> afa02eb4e9171fd35c215400ff586a5501b62985
 use Rattle.basics.proofs.Listed.{listed_at}
