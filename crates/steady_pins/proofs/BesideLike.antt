@@ -2,12 +2,8 @@
 --   Like                     places of operands that are the names of a test, none for the others
 --   LikeBeside               the same of what is beside a part, and whether it changes
 --   own_like, stepped_like, front_like, back_like
-<<<<<<< HEAD
 use Rattle.std.specs.Prelude.{if◌then◌else◌}
-use Prim.Native.Nat.{ℕ, zero, suc, ◌+◌, ◌-◌, ◌*◌, ◌<◌, ◌≤◌}
-=======
 use Prim.Native.Nat.{ℕ, zero, suc, ◌<◌}
->>>>>>> afa02eb4e9171fd35c215400ff586a5501b62985
 use native.Mathlib.Omega.{arith}
 use mathlib.Core.Path.{◌≡◌, refl, ap, sym, ◌∙◌}
 use mathlib.Core.Bool.{Bool, true, false, ◌&&◌, ◌||◌, or_assoc}

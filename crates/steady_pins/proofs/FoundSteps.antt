@@ -2,12 +2,8 @@
 --   agrees_kept              where each entry agrees with a test, the tests of the pins are those of the names
 --   row-agrees               the entries of a step agree with `held`
 --   step_found               so a step with its pins is the filled step
-<<<<<<< HEAD
-use Rattle.std.specs.Prelude.{if◌then◌else◌, if◌then◌else◌}
-use Prim.Native.Nat.{ℕ, zero, suc, ◌+◌, ◌-◌, ◌*◌, ◌<◌, ◌≤◌}
-=======
+use Rattle.std.specs.Prelude.{if◌then◌else◌}
 use Prim.Native.Nat.{ℕ, zero, suc, ◌-◌, ◌*◌, ◌<◌, ◌≤◌}
->>>>>>> afa02eb4e9171fd35c215400ff586a5501b62985
 use native.Mathlib.Omega.{arith}
 use mathlib.Core.Path.{◌≡◌, refl}
 use mathlib.Core.Bool.{Bool, true, false, not, ◌&&◌, ◌||◌}
@@ -18,12 +14,7 @@ use lib.ListN.{length, get_or, replicate}
 use lib.Seq.{sets}
 use native.Mathlib.Nat.{zero-add}
 use borrow.Author.Tests.{eq-eqb, ne_eqb}
-<<<<<<< HEAD
-use Rattle.basics.specs.Words.{listed}
-use Rattle.basics.proofs.Bools.{never, equal?}
-=======
 use Rattle.basics.proofs.Bools.{equal?}
->>>>>>> afa02eb4e9171fd35c215400ff586a5501b62985
 use Rattle.basics.proofs.Listed.{listed_at}
 use Rattle.basics.proofs.Stores.{sets_inside}
 use Rattle.alf.specs.Expressions.{Boolean, name, Vector, edge, join, with, stays}

@@ -2,12 +2,8 @@
 --   Entries                  each entry of a list that is not 0 is so
 --   zeros_entries, set_entries, sets_entries, listed_entries     lists made of such entries
 --   own_entries, front_entries, back_entries, marked_entries     what is beside a part; the pins
-<<<<<<< HEAD
 use Rattle.std.specs.Prelude.{if◌then◌else◌}
-use Prim.Native.Nat.{ℕ, zero, suc, ◌+◌, ◌-◌, ◌*◌, ◌<◌, ◌≤◌}
-=======
 use Prim.Native.Nat.{ℕ, suc, ◌-◌, ◌*◌, ◌<◌, ◌≤◌}
->>>>>>> afa02eb4e9171fd35c215400ff586a5501b62985
 use native.Mathlib.Omega.{arith}
 use native.Mathlib.Nat.{zero-add}
 use mathlib.Core.Path.{◌≡◌, ap, ◌∙◌}
