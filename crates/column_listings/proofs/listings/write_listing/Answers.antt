@@ -39,14 +39,14 @@ begun c =
     c.count_answers-tally.ensures c.args.out.now (measured c)
 
 headed : (c : After-put-p)
-    → Left c.before.before.before.before.before
+    → Left c.before.before.before.before.before.before
     (lines Answers c.args.times.now c.args.answers.now ∷ last c.before.before.before.before.before ∷ [])
     c.put-p.new.out c.put-p.result
 unfolding bytes
-headed c = going_on (begun c.before.before.before.before.before c.if-out-size.false) c.put-p.ensures
+headed c = going_on (begun c.before.before.before.before.before.before c.if-out-size.false) c.put-p.ensures
 
 lined : (c : After-put_lines-q)
-    → Left c.before.before.before.before.before.before.before.before.before (last c.before.before.before.before.before.before.before.before.before ∷ []) c.put_lines-q.new.out
+    → Left c.before.before.before.before.before.before.before.before.before.before (last c.before.before.before.before.before.before.before.before.before.before ∷ []) c.put_lines-q.new.out
     c.put_lines-q.result
 lined c = going_on (headed c.before.before.before.before) c.put_lines-q.ensures
 

@@ -28,10 +28,10 @@ begun c =
     values_start c.args.times.now c.args.values.now c.args.out.now (measured c)
 
 headed : (c : After-put-p)
-    → Going c.args.out.now 0 (text c.before.before.before.before.before) (rows c.before.before.before.before.before ∷ []) c.put-p.new.out
+    → Going c.args.out.now 0 (text c.before.before.before.before.before.before) (rows c.before.before.before.before.before.before ∷ []) c.put-p.new.out
     c.put-p.result
 unfolding bytes
-headed c = going_on (begun c.before.before.before.before.before c.if-out-size.false) c.put-p.ensures
+headed c = going_on (begun c.before.before.before.before.before.before c.if-out-size.false) c.put-p.ensures
 
 pub lines_size-size-requires : goal.lines_size-size-requires
 unfolding highest

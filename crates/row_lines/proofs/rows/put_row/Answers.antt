@@ -36,26 +36,26 @@ begun : (c : After-of_row-c)
 begun c = row_start _ _ c.of_row-c.ensures c.requires.room
 
 timed : (c : After-put_decimal-timed)
-    → Left c.before.before (states c.before.before) c.put_decimal-timed.new.out c.put_decimal-timed.result
-timed c = going_on (begun c.before.before) c.put_decimal-timed.ensures
+    → Left c.before.before.before (states c.before.before.before) c.put_decimal-timed.new.out c.put_decimal-timed.result
+timed c = going_on (begun c.before.before.before) c.put_decimal-timed.ensures
 
 lettered : (c : After-put_letters-lettered)
-    → Left c.before.before.before.before.before.before (bytes " " ∷ many c.before.before.before.before.before.before) c.put_letters-lettered.new.out
+    → Left c.before.before.before.before.before.before.before (bytes " " ∷ many c.before.before.before.before.before.before.before) c.put_letters-lettered.new.out
     c.put_letters-lettered.result
 lettered c = going_on (timed c.before.before.before.before) c.put_letters-lettered.ensures
 
 parted : (c : After-push-parted)
-    → Left c.before.before.before.before.before.before.before.before.before.before (many c.before.before.before.before.before.before.before.before.before.before) c.push-parted.new.out c.push-parted.result
+    → Left c.before.before.before.before.before.before.before.before.before.before.before (many c.before.before.before.before.before.before.before.before.before.before.before) c.push-parted.new.out c.push-parted.result
 unfolding bytes
 parted c = going_on (lettered c.before.before.before.before) c.push-parted.ensures
 
 counted : (c : After-put_decimal-counted)
-    → Left c.before.before.before.before.before.before.before.before.before.before.before.before.before.before (which c.before.before.before.before.before.before.before.before.before.before.before.before.before.before) c.put_decimal-counted.new.out
+    → Left c.before.before.before.before.before.before.before.before.before.before.before.before.before.before.before (which c.before.before.before.before.before.before.before.before.before.before.before.before.before.before.before) c.put_decimal-counted.new.out
     c.put_decimal-counted.result
 counted c = going_on (parted c.before.before.before.before) c.put_decimal-counted.ensures
 
 told : (c : After-put_members-told)
-    → Left c.before.before.before.before.before.before.before.before.before.before.before.before.before.before.before.before.before.before (bytes "\n" ∷ []) c.put_members-told.new.out
+    → Left c.before.before.before.before.before.before.before.before.before.before.before.before.before.before.before.before.before.before.before (bytes "\n" ∷ []) c.put_members-told.new.out
     c.put_members-told.result
 told c = going_on (counted c.before.before.before.before) c.put_members-told.ensures
 
