@@ -6,15 +6,17 @@ use std::io::{Error, Stderr, Stdout};
 use text_parts::parts::{find, front};
 
 // EBADF: the descriptor is closed.
-const CLOSED: i32 = 9;
+pub const CLOSED: i32 = 9;
 
-// Where the program writes, whether it complained, and whether standard output took not all.
+// Where the program writes, whether it complained, whether standard output took not all, and whether standard input was
+// asked for.
 #[derive(Drop)]
 pub struct Console {
     out: Stdout,
     err: Stderr,
     complained: Cell<bool>,
     lost: Cell<bool>,
+    asked: Cell<bool>,
 }
 
 impl Console {
@@ -24,12 +26,18 @@ impl Console {
             err,
             complained: Cell::new(false),
             lost: Cell::new(false),
+            asked: Cell::new(false),
         }
     }
 
     // Whether something was complained of: the program's exit status says so.
     pub fn has_complained(&self) -> bool {
         self.complained.get()
+    }
+
+    // Whether this is the first time that standard input is asked for. It is read once, to its end.
+    pub fn takes_input(&self) -> bool {
+        !self.asked.replace(true)
     }
 
     pub fn out(&self) -> Stdout {
@@ -55,13 +63,13 @@ pub fn say(console: &Console, text: &[u8]) {
 // Standard output took not all. That is complained of once, and not at all where it is closed.
 fn lost(console: &Console, e: &Error) {
     console.lost.set(true);
-    if !is_closed(e) {
+    if !is_of_closed(e) {
         failed(console, b"standard output", e);
     }
 }
 
 // Whether an error says that the descriptor is closed.
-pub fn is_closed(e: &Error) -> bool {
+pub fn is_of_closed(e: &Error) -> bool {
     match e.raw_os_error() {
         Some(code) => code == CLOSED,
         None => false,
