@@ -3,6 +3,7 @@
 --   no_token_unique, taken_not_none   or none is, at one place
 --   reads_unique, stuck_unique, reads_not_stuck   the same of texts
 --   reads_or_stuck  every text has the one or the other
+use Rattle.std.specs.Prelude.{if◌then◌else◌}
 use mathlib.Core.Path.{◌≡◌, refl, sym, ap, ◌∙◌}
 use mathlib.Core.Bool.{Bool, true, false, ◌&&◌}
 use mathlib.Core.Logic.{◌⊎◌, inl, inr}
@@ -13,7 +14,6 @@ use lib.Dec.{eqb}
 use lib.ListN.{length, take, drop, length-append}
 use lib.Seq.{take-append_seam, drop-append_seam}
 use borrow.Author.Tests.{eq-eqb, ne_eqb, eqb-true, eqb-false}
-use Rattle.basics.specs.Words.{if◌then◌else◌}
 use Rattle.token_steps.specs.Classes.{is_blank_lem}
 use Rattle.token_steps.specs.Taking.{byte_at, is_half, Barred, Taken, NoToken}
 use Rattle.token_steps.specs.Taking.Barred.{together, overlong, loose, lone, bad_half}

@@ -15,15 +15,15 @@ check_row-requires c = row_in c.loop-at.invariant c.loop-at-test.true c.requires
 pub returns-in-Refused : goal.returns-in-Refused
 returns-in-Refused c =
     rowing_refused c.loop-at.invariant c.loop-at-test.true c.check_row.ensures _
-    c.type_inv.text
+    c.in-Refused.is
 
 pub row_time-t-requires : goal.row_time-t-requires
 row_time-t-requires c =
-    (row_in c.loop-at.inv c.loop-at-test.taken
+    (row_in c.loop-at.invariant c.loop-at-test.true
     c.requires).timed
 
 pub behind_line-behind-requires : goal.behind_line-behind-requires
-behind_line-behind-requires c = c.loop-at.inv.next.within
+behind_line-behind-requires c = c.loop-at.invariant.next.within
 
 pub next_line-at-requires-in-Done : goal.next_line-at-requires-in-Done
 next_line-at-requires-in-Done c = c.behind_line-behind.ensures.within
@@ -41,8 +41,8 @@ pub loop-at-smaller : goal.loop-at-smaller
 loop-at-smaller c =
     omega (
       arith,
-      c.loop-at-test.taken,
-      c.behind_line-behind.ensures.on c.loop-at-test.taken,
+      c.loop-at-test.true,
+      c.behind_line-behind.ensures.on c.loop-at-test.true,
       c.next_line-at-in-Done.ensures.low,
     )
 
