@@ -54,12 +54,14 @@ push-parted-requires c = going_byte (going_on (going_on (begun (goal.at.push-par
     c.put_letters-lettered.ensures)
 
 pub put_decimal-counted-requires : goal.put_decimal-counted-requires
+unfolding bytes
 put_decimal-counted-requires c = going_room (going_on (going_on (going_on (begun (goal.at.put_decimal-counted-requires c).After-of_row-c)
     c.put_decimal-timed.ensures)
     c.put_letters-lettered.ensures)
     c.push-parted.ensures)
 
 pub put_members-told-requires : goal.put_members-told-requires
+unfolding bytes
 put_members-told-requires c =
     record {
       slots = c.requires.row.slots;
