@@ -6,12 +6,13 @@ use mathlib.Core.List.{List, [], ◌∷◌}
 use lib.ListN.{length}
 use Rattle.basics.proofs.PartByPart.{Going, going_room, going_on, going_end}
 use Rattle.basics.specs.Text.{bytes}
+use Rattle.basics.specs.Memory.{Put}
 use Rattle.figures.proofs.Delivering.{short, delivered}
 use Rattle.listing.specs.declared.lines.Column.TheVariants.{Values}
 use Rattle.listing.specs.Listing.{highest, lines, values_listing}
 use Rattle.column_listings.proofs.WholeListings.{values_size, values_start}
 use Rattle.column_listings.proofs.listings.write_values.Goals as goal
-use Rattle.column_listings.proofs.listings.write_values.Goals.{After-lines_size-size, After-put-p}
+use Rattle.column_listings.proofs.listings.write_values.Goals.{After-lines_size-size}
 
 abbrev text : After-lines_size-size → List ℕ
 text c = values_listing c.args.times.now c.args.values.now
@@ -27,11 +28,10 @@ begun : (c : After-lines_size-size) → c.lines_size-size.result + 11 ≤ length
 begun c =
     values_start c.args.times.now c.args.values.now c.args.out.now (measured c)
 
-headed : (c : After-put-p)
-    → Going c.args.out.now 0 (text c.before.before.before.before.before.before) (rows c.before.before.before.before.before.before ∷ []) c.put-p.new.out
-    c.put-p.result
-unfolding bytes
-headed c = going_on (begun c.before.before.before.before.before.before c.if-out-size.false) c.put-p.ensures
+headed : (c : After-lines_size-size) → c.lines_size-size.result + 11 ≤ length c.args.out.now
+    → {out : List ℕ} {p : ℕ} → Put c.args.out.now 0 (bytes "time value\n") out p
+    → Going c.args.out.now 0 (text c) (rows c ∷ []) out p
+headed c fits h = going_on (begun c fits) h
 
 pub lines_size-size-requires : goal.lines_size-size-requires
 unfolding highest
@@ -48,11 +48,12 @@ unfolding bytes
 put-p-requires c = going_room (begun (goal.at.put-p-requires c).After-lines_size-size c.if-out-size.false)
 
 pub put_lines-requires : goal.put_lines-requires
-unfolding highest
+unfolding highest bytes
 put_lines-requires c =
-    record { listable = c.requires; room = going_room (headed (goal.at.put_lines-requires c).After-put-p) }
+    record { listable = c.requires; room = going_room (headed (goal.at.put_lines-requires c).After-lines_size-size c.if-out-size.false c.put-p.ensures) }
 
 pub returns : goal.returns
+unfolding bytes
 returns c =
     let fits = c.if-out-size.false in
-    delivered (measured (goal.at.returns c).After-lines_size-size) fits (going_end (going_on (headed (goal.at.returns c).After-put-p) c.put_lines.ensures))
+    delivered (measured (goal.at.returns c).After-lines_size-size) fits (going_end (going_on (headed (goal.at.returns c).After-lines_size-size c.if-out-size.false c.put-p.ensures) c.put_lines.ensures))
