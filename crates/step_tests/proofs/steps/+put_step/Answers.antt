@@ -1,31 +1,23 @@
-use native.Mathlib.Omega.{arith}
+-- `steps::put_step` meets its contract, by recursion on the bytes before `end`: case by case of the last byte.
+use Rattle.std.proofs.Common.{arith}
 use Rattle.steady_pins.proofs.TreeInduction.{last_ends}
-use Rattle.acceptance.proofs.Chosen.{join_picking}
+use Rattle.acceptance.proofs.Chosen.{join_picking, right_chosen}
 use Rattle.acceptance.proofs.NotedParts.{starts_part, counts_part}
-use Rattle.step_tests.proofs.Puts.{put_lengths, beyond}
-use Rattle.step_tests.proofs.StepCases.{placing_pos, edge_room, edge_pins_room, before_held}
-use Rattle.step_tests.proofs.StepCases.{condition_held, held_stepping, held_room, joined}
-use Rattle.acceptance.proofs.Chosen.{right_chosen}
 use Rattle.acceptance.proofs.Shapes.{part_by, only_part}
+use Rattle.step_tests.proofs.Puts.{beyond}
 use Rattle.step_tests.proofs.JoinTests.{left_asked, left_stepping, right_stepping, last_pins, only_stepping}
-use Rattle.step_tests.proofs.JoinTests.{only_pins}
-use Rattle.step_tests.proofs.StepCases.{placing_pos, placing_shaping, joined}
-use Rattle.acceptance.proofs.Shapes.{only_part}
-use Rattle.step_tests.proofs.JoinTests.{only_put, join_put}
-use Rattle.step_tests.proofs.StepCases.{placing_shaping, edge_written, before_held, condition_held, held_written}
-use Rattle.step_tests.proofs.StepCases.{joined}
+use Rattle.step_tests.proofs.JoinTests.{only_pins, only_put, join_put}
+use Rattle.step_tests.proofs.StepCases.{placing_pos, placing_shaping, edge_room, edge_pins_room, edge_written}
+use Rattle.step_tests.proofs.StepCases.{before_held, condition_held, held_stepping, held_room, held_written, joined}
 use Rattle.step_tests.proofs.steps.+put_step.Goals as goal
 
 pub returns-then-steps-j : goal.returns-then-steps-j
 returns-then-steps-j t c =
-    let h = c.requires.placing in
-    let z = c.requires.counted in
-    beyond h z c.if-steps-j.true
+    beyond c.requires.placing c.requires.counted c.if-steps-j.true
 
 pub overflow_sub-at : goal.overflow_sub-at
 overflow_sub-at t c =
-    let h = c.requires.placing in
-    omega (arith, placing_pos h)
+    omega (arith, placing_pos c.requires.placing)
 
 pub bounds-tree-at : goal.bounds-tree-at
 bounds-tree-at t c =
@@ -42,35 +34,19 @@ pub put_noted-requires : goal.put_noted-requires
 put_noted-requires t c =
     let h = c.requires.placing in
     let z = c.requires.counted in
-    let n = c.requires.noted in (
-      edge_pins_room h z c.if-steps-j.false c.if-b-ge64.true
-          c.put_test-next.ensures,
-      n.pinned,
-    )
+    (edge_pins_room h z c.if-steps-j.false c.if-b-ge64.true c.put_test-next.ensures, c.requires.noted.pinned)
 
--- one test, and the pins
 pub returns-then-b-ge64 : goal.returns-then-b-ge64
 returns-then-b-ge64 t c =
     let h = c.requires.placing in
     let z = c.requires.counted in
     edge_written h z c.if-steps-j.false c.if-b-ge64.true c.put_test-next.ensures c.put_noted.ensures
 
-pub shape_of-edges-then-b-ge64 : goal.shape_of-edges-then-b-ge64
-shape_of-edges-then-b-ge64 t c =
-    (put_lengths (returns-then-b-ge64 t c)).0
-
-pub shape_of-operands-then-b-ge64 : goal.shape_of-operands-then-b-ge64
-shape_of-operands-then-b-ge64 t c =
-    (put_lengths (returns-then-b-ge64 t c)).1
-
 pub start_at-left-requires : goal.start_at-left-requires
-start_at-left-requires t c =
-    let h = c.requires.placing in
-    let n = c.requires.noted in (
-      starts_part (omega arith) n.starts,
-      last_ends _ _ _ h.chosen.ends
-          c.if-b-ge64.false,
-    )
+start_at-left-requires t c = (
+  starts_part (omega arith) c.requires.noted.starts,
+  last_ends _ _ _ c.requires.placing.chosen.ends c.if-b-ge64.false,
+)
 
 pub put_step-next-requires : goal.put_step-next-requires
 put_step-next-requires t c =
@@ -89,7 +65,6 @@ put_test-requires t c =
     let e = before_held h z c.if-steps-j.false s c.if-b-eq57.true in
     held_room e c.put_step-next.ensures
 
--- c & P: the step of P, and a test
 pub returns-then-b-eq57 : goal.returns-then-b-eq57
 returns-then-b-eq57 t c =
     let h = c.requires.placing in
@@ -97,14 +72,6 @@ returns-then-b-eq57 t c =
     let s = c.start_at-left.ensures in
     let e = before_held h z c.if-steps-j.false s c.if-b-eq57.true in
     held_written e c.put_step-next.ensures c.put_test.ensures
-
-pub shape_of-edges-then-b-eq57 : goal.shape_of-edges-then-b-eq57
-shape_of-edges-then-b-eq57 t c =
-    (put_lengths (returns-then-b-eq57 t c)).0
-
-pub shape_of-operands-then-b-eq57 : goal.shape_of-operands-then-b-eq57
-shape_of-operands-then-b-eq57 t c =
-    (put_lengths (returns-then-b-eq57 t c)).1
 
 pub put_step-next-requires-then-b-eq56 : goal.put_step-next-requires-then-b-eq56
 put_step-next-requires-then-b-eq56 t c =
@@ -123,7 +90,6 @@ put_test-requires-then-b-eq56 t c =
     let e = condition_held h z c.if-steps-j.false s c.if-b-eq56.true in
     held_room e c.put_step-next-then-b-eq56.ensures
 
--- P & c: likewise
 pub returns-then-b-eq56 : goal.returns-then-b-eq56
 returns-then-b-eq56 t c =
     let h = c.requires.placing in
@@ -131,14 +97,6 @@ returns-then-b-eq56 t c =
     let s = c.start_at-left.ensures in
     let e = condition_held h z c.if-steps-j.false s c.if-b-eq56.true in
     held_written e c.put_step-next-then-b-eq56.ensures c.put_test-then-b-eq56.ensures
-
-pub shape_of-edges-then-b-eq56 : goal.shape_of-edges-then-b-eq56
-shape_of-edges-then-b-eq56 t c =
-    (put_lengths (returns-then-b-eq56 t c)).0
-
-pub shape_of-operands-then-b-eq56 : goal.shape_of-operands-then-b-eq56
-shape_of-operands-then-b-eq56 t c =
-    (put_lengths (returns-then-b-eq56 t c)).1
 
 pub count_at-n-requires : goal.count_at-n-requires
 count_at-n-requires t c =
@@ -148,7 +106,6 @@ count_at-n-requires t c =
     let g = joined h s c.if-b-ge64.false c.if-b-eq57.false c.if-b-eq56.false in
     (counts_part (omega (arith, s.before)) n.counts, g.left)
 
--- P | Q: a step of the one that the alternative is from
 pub put_step-next-requires-then-b-eq55 : goal.put_step-next-requires-then-b-eq55
 put_step-next-requires-then-b-eq55 t c =
     let h = c.requires.placing in
@@ -156,14 +113,10 @@ put_step-next-requires-then-b-eq55 t c =
     let n = c.requires.noted in
     let s = c.start_at-left.ensures in
     let g = joined h s c.if-b-ge64.false c.if-b-eq57.false c.if-b-eq56.false in
-    let o = only_part (placing_shaping h) g s c.if-b-eq55.true c.count_at-n.ensures c.part_at-q.ensures in
+    let o =
+    only_part (placing_shaping h) g s c.if-b-eq55.true c.count_at-n.ensures c.part_at-q.ensures in
     (omega (arith, c.decreases, o.shorter), only_stepping h z s g o n)
 
-pub entries_at-requires : goal.entries_at-requires
-entries_at-requires t c =
-    c.if-steps-j.false
-
--- and its pins
 pub put_noted-requires-then-b-eq55 : goal.put_noted-requires-then-b-eq55
 put_noted-requires-then-b-eq55 t c =
     let h = c.requires.placing in
@@ -171,28 +124,22 @@ put_noted-requires-then-b-eq55 t c =
     let n = c.requires.noted in
     let s = c.start_at-left.ensures in
     let g = joined h s c.if-b-ge64.false c.if-b-eq57.false c.if-b-eq56.false in
-    let o = only_part (placing_shaping h) g s c.if-b-eq55.true c.count_at-n.ensures
-    c.part_at-q.ensures in
-    (rw c.entries_at.ensures (only_pins h z s g o c.put_step-next-then-b-eq55.ensures), n.pinned)
+    let o =
+    only_part (placing_shaping h) g s c.if-b-eq55.true c.count_at-n.ensures c.part_at-q.ensures in (
+      rw c.entries_at.ensures (only_pins h z s g o c.put_step-next-then-b-eq55.ensures),
+      n.pinned,
+    )
 
--- P | Q: the step of one of them, and at the last step the pins
 pub returns-then-b-eq55 : goal.returns-then-b-eq55
 returns-then-b-eq55 t c =
     let h = c.requires.placing in
     let z = c.requires.counted in
     let s = c.start_at-left.ensures in
     let g = joined h s c.if-b-ge64.false c.if-b-eq57.false c.if-b-eq56.false in
-    let o = only_part (placing_shaping h) g s c.if-b-eq55.true c.count_at-n.ensures
-    c.part_at-q.ensures in
-    only_put h z s g o c.put_step-next-then-b-eq55.ensures (rw c.entries_at.ensures at c.put_noted-then-b-eq55.ensures)
-
-pub shape_of-edges-then-b-eq55 : goal.shape_of-edges-then-b-eq55
-shape_of-edges-then-b-eq55 t c =
-    (put_lengths (returns-then-b-eq55 t c)).0
-
-pub shape_of-operands-then-b-eq55 : goal.shape_of-operands-then-b-eq55
-shape_of-operands-then-b-eq55 t c =
-    (put_lengths (returns-then-b-eq55 t c)).1
+    let o =
+    only_part (placing_shaping h) g s c.if-b-eq55.true c.count_at-n.ensures c.part_at-q.ensures in
+    only_put h z s g o c.put_step-next-then-b-eq55.ensures
+    (rw c.entries_at.ensures at c.put_noted-then-b-eq55.ensures)
 
 pub count_at-m-requires : goal.count_at-m-requires
 count_at-m-requires t c =
@@ -209,15 +156,14 @@ find-p-requires t c =
     let g = joined h s c.if-b-ge64.false c.if-b-eq57.false c.if-b-eq56.false in
     join_picking _ _ _ _ h.chosen g c.count_at-n.ensures c.count_at-m.ensures
 
--- P j Q: how many steps the two have
 pub shape_of-y-requires : goal.shape_of-y-requires
 shape_of-y-requires t c =
     let h = c.requires.placing in
     let n = c.requires.noted in
     let s = c.start_at-left.ensures in
     let g = joined h s c.if-b-ge64.false c.if-b-eq57.false c.if-b-eq56.false in
-    part_by (placing_shaping h) n (omega (arith, placing_pos h)) (right_chosen _ _ _ _ h.chosen g
-    c.count_at-n.ensures c.count_at-m.ensures c.find-p.ensures)
+    part_by (placing_shaping h) n (omega (arith, placing_pos h))
+    (right_chosen _ _ _ _ h.chosen g c.count_at-n.ensures c.count_at-m.ensures c.find-p.ensures)
 
 pub left_steps-x-requires : goal.left_steps-x-requires
 left_steps-x-requires t c =
@@ -226,10 +172,8 @@ left_steps-x-requires t c =
     let n = c.requires.noted in
     let s = c.start_at-left.ensures in
     let g = joined h s c.if-b-ge64.false c.if-b-eq57.false c.if-b-eq56.false in
-    left_asked h z s g c.count_at-n.ensures c.count_at-m.ensures c.find-p.ensures n
-    c.shape_of-y.ensures
+    left_asked h z s g c.count_at-n.ensures c.count_at-m.ensures c.find-p.ensures n c.shape_of-y.ensures
 
--- their steps
 pub put_step-next-requires-2 : goal.put_step-next-requires-2
 put_step-next-requires-2 t c =
     let h = c.requires.placing in
@@ -238,9 +182,8 @@ put_step-next-requires-2 t c =
     let s = c.start_at-left.ensures in
     let g = joined h s c.if-b-ge64.false c.if-b-eq57.false c.if-b-eq56.false in (
       omega (arith, c.decreases, s.before, placing_pos h),
-      left_stepping h z s g c.count_at-n.ensures
-          c.count_at-m.ensures c.find-p.ensures c.left_steps-x.ensures c.shape_of-y.ensures
-          c.split-s.ensures n,
+      left_stepping h z s g c.count_at-n.ensures c.count_at-m.ensures c.find-p.ensures c.left_steps-x.ensures
+          c.shape_of-y.ensures c.split-s.ensures n,
     )
 
 pub put_step-last-requires : goal.put_step-last-requires
@@ -251,16 +194,10 @@ put_step-last-requires t c =
     let s = c.start_at-left.ensures in
     let g = joined h s c.if-b-ge64.false c.if-b-eq57.false c.if-b-eq56.false in (
       omega (arith, c.decreases, placing_pos h),
-      right_stepping h z s g c.count_at-n.ensures
-          c.count_at-m.ensures c.find-p.ensures c.left_steps-x.ensures c.shape_of-y.ensures
-          c.split-s.ensures c.put_step-next-2.ensures n,
+      right_stepping h z s g c.count_at-n.ensures c.count_at-m.ensures c.find-p.ensures c.left_steps-x.ensures
+          c.shape_of-y.ensures c.split-s.ensures c.put_step-next-2.ensures n,
     )
 
-pub entries_at-requires-2 : goal.entries_at-requires-2
-entries_at-requires-2 t c =
-    c.if-steps-j.false
-
--- and the pins
 pub put_noted-requires-2 : goal.put_noted-requires-2
 put_noted-requires-2 t c =
     let h = c.requires.placing in
@@ -268,27 +205,18 @@ put_noted-requires-2 t c =
     let n = c.requires.noted in
     let s = c.start_at-left.ensures in
     let g = joined h s c.if-b-ge64.false c.if-b-eq57.false c.if-b-eq56.false in (
-      rw c.entries_at-2.ensures (last_pins h z s g c.count_at-n.ensures c.count_at-m.ensures
-          c.find-p.ensures c.left_steps-x.ensures c.shape_of-y.ensures c.split-s.ensures
-          c.put_step-next-2.ensures c.put_step-last.ensures),
+      rw c.entries_at-2.ensures
+          (last_pins h z s g c.count_at-n.ensures c.count_at-m.ensures c.find-p.ensures c.left_steps-x.ensures
+          c.shape_of-y.ensures c.split-s.ensures c.put_step-next-2.ensures c.put_step-last.ensures),
       n.pinned,
     )
 
--- P j Q: the step of P, the step of Q, and at the last step the pins
 pub returns : goal.returns
 returns t c =
     let h = c.requires.placing in
     let z = c.requires.counted in
     let s = c.start_at-left.ensures in
     let g = joined h s c.if-b-ge64.false c.if-b-eq57.false c.if-b-eq56.false in
-    join_put h z s g c.count_at-n.ensures c.count_at-m.ensures c.find-p.ensures
-    c.left_steps-x.ensures c.shape_of-y.ensures c.split-s.ensures c.put_step-next-2.ensures
-    c.put_step-last.ensures (rw c.entries_at-2.ensures at c.put_noted-2.ensures)
-
-pub shape_of-edges : goal.shape_of-edges
-shape_of-edges t c =
-    (put_lengths (returns t c)).0
-
-pub shape_of-operands : goal.shape_of-operands
-shape_of-operands t c =
-    (put_lengths (returns t c)).1
+    join_put h z s g c.count_at-n.ensures c.count_at-m.ensures c.find-p.ensures c.left_steps-x.ensures
+    c.shape_of-y.ensures c.split-s.ensures c.put_step-next-2.ensures c.put_step-last.ensures
+    (rw c.entries_at-2.ensures at c.put_noted-2.ensures)

@@ -1,4 +1,4 @@
--- `steps::put_step` meets its contract, by recursion on the bytes before `end`.
+-- The recursion goes by the bytes before `end`.
 use Rattle.step_tests.proofs.steps.+put_step.Given as goal
 
 abbrev pub decreases-put_step : goal.decreases-put_step
