@@ -20,10 +20,10 @@ abbrev events : Start → List (List ℕ)
 events s = decimal s.args.s.events ∷ []
 
 abbrev patterns : Start → List (List ℕ)
-patterns s = decimal s.args.s.patterns ∷ bytes " events s ∷ events s
+patterns s = decimal s.args.s.patterns ∷ bytes " events " ∷ events s
 
 abbrev noes : Start → List (List ℕ)
-noes s = decimal s.args.s.no ∷ bytes "\ttotal patterns s ∷ patterns s
+noes s = decimal s.args.s.no ∷ bytes "\ttotal patterns " ∷ patterns s
 
 abbrev unknowns : Start → List (List ℕ)
 unknowns s = decimal s.args.s.unknown ∷ bytes "\t" ∷ noes s
