@@ -1,5 +1,4 @@
 -- `read_tokened` meets its contract.
-use borrow.Author.Rules.{rules}
 use borrow.Author.Tests.{not-true, not-false}
 use native.Mathlib.Omega.{arith}
 use Rattle.reader.proofs.TokenedTexts.{parse_asked, names_asked, count_small, short, five_inside}
