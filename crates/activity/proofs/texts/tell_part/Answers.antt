@@ -23,8 +23,7 @@ overflow_sub-to-in-Done c = omega (arith, c.if-to-from.false)
 
 pub write_part-requires : goal.write_part-requires
 write_part-requires c =
-    let rows = checked c.before.before in
-    checked_good c.requires (inside (goal.at.write_part-requires c).Else-n-to) rows.check-rows.ensures c.in-Done.is
+    checked_good c.requires (inside (goal.at.write_part-requires c).Else-n-to) c.check_rows.ensures c.in-Done.is
 
 pub returns-in-Refused : goal.returns-in-Refused
 returns-in-Refused c =
@@ -32,6 +31,5 @@ returns-in-Refused c =
 
 pub returns-in-Done : goal.returns-in-Done
 returns-in-Done c =
-    let rows = checked c.before.before.before.before.before in
-    part_delivered (inside (goal.at.returns-in-Done c).Else-n-to) rows.check-rows.ensures c.in-Done.is
+    part_delivered (inside (goal.at.returns-in-Done c).Else-n-to) c.check_rows.ensures c.in-Done.is
     c.write_part.ensures

@@ -11,7 +11,7 @@ use Rattle.row_lines.specs.Lines.{row_lines}
 use Rattle.activity.specs.Activity.{opening, part_text}
 use Rattle.activity.proofs.WholeText.{part_size, part_start}
 use Rattle.activity.proofs.texts.write_part.Goals as goal
-use Rattle.activity.proofs.texts.write_part.Goals.{After-rows_size, After-put_opening-p}
+use Rattle.activity.proofs.texts.write_part.Goals.{After-rows_size}
 
 abbrev text : After-rows_size → List ℕ
 text c =
@@ -35,11 +35,6 @@ headed c = opening c.args.names.now c.args.k c.args.first
 begun : (c : After-rows_size) → size c ≤ length c.args.out.now
     → Going c.args.out.now 0 (text c) (headed c ∷ rows c ∷ []) c.args.out.now 0
 begun c = part_start _ _ _ _ _ _ (measured c)
-
-at_rows : (c : After-put_opening-p)
-    → Going c.args.out.now 0 (text c.before.before.before) (rows c.before.before.before ∷ [])
-    c.put_opening-p.new.out c.put_opening-p.result
-at_rows c = going_on (begun c.before.before.before c.if-out-size.false) c.put_opening-p.ensures
 
 pub opening_size-requires : goal.opening_size-requires
 opening_size-requires c = c.requires.slots
@@ -65,9 +60,11 @@ put_opening-p-requires c =
     record { slots = c.requires.slots; room = going_room (begun (goal.at.put_opening-p-requires c).After-rows_size c.if-out-size.false) }
 
 pub put_rows-requires : goal.put_rows-requires
-put_rows-requires c = record { good = c.requires; room = going_room (at_rows (goal.at.put_rows-requires c).After-put_opening-p) }
+put_rows-requires c = record { good = c.requires; room = going_room (going_on (begun (goal.at.put_rows-requires c).After-rows_size c.if-out-size.false)
+    c.put_opening-p.ensures) }
 
 pub returns : goal.returns
 returns c =
     delivered (measured (goal.at.returns c).After-rows_size) c.if-out-size.false
-    (going_end (going_on (at_rows (goal.at.returns c).After-put_opening-p) c.put_rows.ensures))
+    (going_end (going_on (going_on (begun (goal.at.returns c).After-rows_size c.if-out-size.false)
+    c.put_opening-p.ensures) c.put_rows.ensures))

@@ -31,13 +31,13 @@ returns-in-Refused c =
 pub returns-in-Refused-check_rows : goal.returns-in-Refused-check_rows
 returns-in-Refused-check_rows c =
     rows_refused c.next_line-h.ensures c.if-h-text.false c.count_names-head.ensures
-    c.behind_line-behind.ensures c.check_head.ensures c.in-Refused-check_rows.is
+    c.behind_line-behind.ensures c.check_head.ensures c.in-Done.is
     c.check_rows.ensures
-    c.in-Refused.is
+    c.in-Refused-check_rows.is
 
 pub returns-in-Done-check_rows : goal.returns-in-Done-check_rows
 returns-in-Done-check_rows c =
     text_good c.next_line-h.ensures c.if-h-text.false c.count_names-head.ensures
-    c.behind_line-behind.ensures c.check_head.ensures c.in-Done-check_rows.is
+    c.behind_line-behind.ensures c.check_head.ensures c.in-Done.is
     c.check_rows.ensures
-    c.in-Done.is
+    c.in-Done-check_rows.is

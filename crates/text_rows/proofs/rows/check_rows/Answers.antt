@@ -30,10 +30,9 @@ next_line-at-requires-in-Done c = c.behind_line-behind.ensures.within
 
 pub overflow_add-r : goal.overflow_add-r
 overflow_add-r c =
-    let inside = entered c.before.before.before in
     omega (
       arith,
-      rowing_few inside.before.loop.inv inside.loop-test.taken c.check_row.ensures
+      rowing_few c.loop-at.invariant c.loop-at-test.true c.check_row.ensures
           c.in-Done.is,
     )
 
@@ -48,8 +47,7 @@ loop-at-smaller c =
 
 pub loop-at-preserved : goal.loop-at-preserved
 loop-at-preserved c =
-    let inside = entered c.before.before.before in
-    rowing_next inside.before.loop.inv inside.loop-test.taken c.check_row.ensures
+    rowing_next c.loop-at.invariant c.loop-at-test.true c.check_row.ensures
     c.in-Done.is c.row_time-t.ensures c.behind_line-behind.ensures c.next_line-at-in-Done.ensures
 
 pub returns-then-r-eq0 : goal.returns-then-r-eq0
