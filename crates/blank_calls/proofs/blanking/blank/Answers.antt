@@ -17,7 +17,7 @@ blank_rows-requires c =
 pub returns-in-Refused : goal.returns-in-Refused
 returns-in-Refused c =
     blank_15 (lists_good _ _ _ _ (decided_yes _ c.lists_fit-fits.ensures (ap not c.if-not-fits.false)))
-    c.judge_codes-v.ensures c.type_inv.kept
+    c.judge_codes-v.ensures c.in-Refused.is
 
 pub returns-in-Good : goal.returns-in-Good
 returns-in-Good c =
