@@ -5,6 +5,7 @@
 --   date_asked, dated  what is asked where a row is matched, and what is told then
 --   marks-asked, marked     the same of all rows
 --   dates_unique       two results that are allowed coincide
+use Rattle.std.specs.Prelude.{if◌then◌else◌}
 use Prim.Native.Nat.{ℕ, zero, suc, ◌-◌, ◌<◌, ◌≤◌}
 use native.Mathlib.Omega.{arith}
 use native.Mathlib.Nat.{zero-add}
@@ -15,7 +16,7 @@ use mathlib.Core.List.{List, [], ◌∷◌}
 use lib.Dec.{eqb}
 use lib.ListN.{length, get_or, length-map}
 use borrow.Author.Tests.{eq-eqb, ne_eqb}
-use Rattle.basics.specs.Words.{if◌then◌else◌, listed}
+use Rattle.basics.specs.Words.{listed}
 use Rattle.basics.proofs.Bools.{equal?}
 use Rattle.basics.proofs.Listed.{listed_at, listed_same}
 use Rattle.alf.specs.declared.Answer.{Answer}

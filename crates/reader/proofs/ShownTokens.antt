@@ -4,6 +4,7 @@
 --   stuck_place, unknown_place     what holds at each token's place, and at the end, holds where 5 and 6 are given
 --   Within, sorted_within, call_within   and where a faulty operator is
 --   within_at, stopped_within      .. by the place that is told
+use Rattle.std.specs.Prelude.{if◌then◌else◌}
 use mathlib.Core.Path.{◌≡◌, refl, sym, ap, ◌∙◌}
 use mathlib.Core.Bool.{Bool, true, false}
 use mathlib.Core.List.{List, [], ◌∷◌, ◌++◌}
@@ -13,7 +14,6 @@ use native.Mathlib.Numerals.{add-one}
 use lib.Dec.{eqb, ltb}
 use lib.ListN.{length, drop, drop_of_length-le}
 use lib.Seq.{drop-drop, drop-append_seam}
-use Rattle.basics.specs.Words.{if◌then◌else◌}
 use Rattle.basics.proofs.Bools.{never}
 use Rattle.basics.proofs.AllEntries.{All, none, more}
 use Rattle.alf.specs.declared.Sort.{Sort}

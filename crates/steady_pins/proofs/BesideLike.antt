@@ -2,7 +2,8 @@
 --   Like                     places of operands that are the names of a test, none for the others
 --   LikeBeside               the same of what is beside a part, and whether it changes
 --   own_like, stepped_like, front_like, back_like
-use Prim.Native.Nat.{ℕ, zero, suc, ◌+◌, ◌-◌, ◌*◌, ◌<◌, ◌≤◌}
+use Rattle.std.specs.Prelude.{if◌then◌else◌}
+use Prim.Native.Nat.{ℕ, zero, suc, ◌<◌}
 use native.Mathlib.Omega.{arith}
 use mathlib.Core.Path.{◌≡◌, refl, ap, sym, ◌∙◌}
 use mathlib.Core.Bool.{Bool, true, false, ◌&&◌, ◌||◌, or_assoc}
@@ -12,16 +13,15 @@ use lib.Dec.{eqb}
 use lib.ListN.{length, get_or, set, replicate, length-set}
 use lib.Seq.{get_or-set_same, get_or-set_other}
 use borrow.Author.Tests.{eq-eqb, ne_eqb}
-use Rattle.basics.specs.Words.{if◌then◌else◌}
 use Rattle.basics.proofs.Bools.{never, equal?, and_left, and_right}
 use Rattle.alf.specs.Expressions.{Boolean, name, literal, negated, binary, choice}
-use Rattle.alf.specs.Expressions.{Vector, edge, join, while, Join}
+use Rattle.alf.specs.Expressions.{Vector, join}
 use Rattle.alf.specs.Alternatives.{is_name}
 use Rattle.alf.specs.Steady.{is_then, is_with, is_step_lem, moves, has_edge_on}
 use Rattle.steady_laws.specs.Beside as filling
 use Rattle.steady_pins.specs.declared.finding.Beside.{Beside}
 use Rattle.steady_pins.specs.Finding.{named, own, alone, stepped, front, back}
-use Rattle.steady_pins.proofs.Placed.{size, Placed, on_edge, on_join, behind, ahead}
+use Rattle.steady_pins.proofs.Placed.{Placed, on_edge, on_join, behind, ahead}
 
 -- no places
 pub zeros : (n k : ℕ) → ◌≡◌ {A = ℕ} (get_or (replicate k 0) n 0) 0

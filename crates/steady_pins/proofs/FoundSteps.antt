@@ -2,9 +2,10 @@
 --   agrees_kept              where each entry agrees with a test, the tests of the pins are those of the names
 --   row-agrees               the entries of a step agree with `held`
 --   step_found               so a step with its pins is the filled step
-use Prim.Native.Nat.{ℕ, zero, suc, ◌+◌, ◌-◌, ◌*◌, ◌<◌, ◌≤◌}
+use Rattle.std.specs.Prelude.{if◌then◌else◌}
+use Prim.Native.Nat.{ℕ, zero, suc, ◌-◌, ◌*◌, ◌<◌, ◌≤◌}
 use native.Mathlib.Omega.{arith}
-use mathlib.Core.Path.{◌≡◌, refl, ap, sym, ◌∙◌}
+use mathlib.Core.Path.{◌≡◌, refl}
 use mathlib.Core.Bool.{Bool, true, false, not, ◌&&◌, ◌||◌}
 use mathlib.Core.List.{List}
 use mathlib.Core.Logic.{◌⊎◌, inl, inr}
@@ -13,8 +14,7 @@ use lib.ListN.{length, get_or, replicate}
 use lib.Seq.{sets}
 use native.Mathlib.Nat.{zero-add}
 use borrow.Author.Tests.{eq-eqb, ne_eqb}
-use Rattle.basics.specs.Words.{if◌then◌else◌, listed}
-use Rattle.basics.proofs.Bools.{never, equal?}
+use Rattle.basics.proofs.Bools.{equal?}
 use Rattle.basics.proofs.Listed.{listed_at}
 use Rattle.basics.proofs.Stores.{sets_inside}
 use Rattle.alf.specs.Expressions.{Boolean, name, Vector, edge, join, with, stays}
@@ -25,7 +25,7 @@ use Rattle.steady_pins.specs.Pinned.{pin_at, pinned}
 use Rattle.steady_pins.specs.Finding.{own, pin_entry, pin_row, step_marked}
 use Rattle.steady_pins.proofs.Placed.{Placed}
 use Rattle.steady_pins.proofs.PinRanges.{row_long}
-use Rattle.steady_pins.proofs.BesideLike.{Here, Entry, Like, LikeBeside, own_like, none_like}
+use Rattle.steady_pins.proofs.BesideLike.{Here, Entry, LikeBeside, own_like, none_like}
 
 module _ (operand : ℕ → Boolean) where
   pub agrees_kept : (pins : List ℕ) (f : ℕ → Bool) (end n : ℕ) (p : Vector)

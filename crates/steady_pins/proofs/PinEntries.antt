@@ -2,26 +2,27 @@
 --   Entries                  each entry of a list that is not 0 is so
 --   zeros_entries, set_entries, sets_entries, listed_entries     lists made of such entries
 --   own_entries, front_entries, back_entries, marked_entries     what is beside a part; the pins
-use Prim.Native.Nat.{ℕ, zero, suc, ◌+◌, ◌-◌, ◌*◌, ◌<◌, ◌≤◌}
+use Rattle.std.specs.Prelude.{if◌then◌else◌}
+use Prim.Native.Nat.{ℕ, suc, ◌-◌, ◌*◌, ◌<◌, ◌≤◌}
 use native.Mathlib.Omega.{arith}
 use native.Mathlib.Nat.{zero-add}
-use mathlib.Core.Path.{◌≡◌, refl, ap, sym, ◌∙◌, subst}
+use mathlib.Core.Path.{◌≡◌, ap, ◌∙◌}
 use mathlib.Core.Bool.{Bool, true, false, ◌&&◌}
 use mathlib.Core.List.{List, [], ◌∷◌}
 use mathlib.Core.Logic.{◌⊎◌, inl, inr}
 use lib.Dec.{eqb}
 use lib.ListN.{length, get_or, set, replicate, length-set, get_or-eq_default}
 use lib.Seq.{sets, get_or-set_same, get_or-set_other}
-use Rattle.basics.specs.Words.{if◌then◌else◌, listed}
+use Rattle.basics.specs.Words.{listed}
 use Rattle.basics.proofs.Bools.{equal?, below?}
 use Rattle.basics.proofs.Listed.{listed_at, listed_length}
 use Rattle.alf.specs.Expressions.{Boolean, name, literal, negated, binary, choice}
-use Rattle.alf.specs.Expressions.{Vector, edge, join, while}
+use Rattle.alf.specs.Expressions.{Vector, edge, join}
 use Rattle.alf.specs.Steady.{is_then, is_step_lem, moves}
 use Rattle.steady_pins.specs.declared.finding.Beside.{Beside}
 use Rattle.steady_pins.specs.Finding.{named, own, alone, stepped, front, back, pin_entry, pin_row}
 use Rattle.steady_pins.specs.Finding.{step_marked, marked}
-use Rattle.steady_pins.proofs.Placed.{size, Placed, on_edge, on_join, behind, ahead}
+use Rattle.steady_pins.proofs.Placed.{Placed, on_edge, on_join, behind, ahead}
 use Rattle.steady_pins.proofs.BesideLike.{zeros}
 
 pub record Entries (P : ℕ → Type 0) (l : List ℕ) : Type 0 where

@@ -3,26 +3,25 @@
 --   marked_outside           an entry of no part of the expression stays
 --   places_same              the same entries, the same expression
 --   places_none              no pins, the expression as it is
+use Rattle.std.specs.Prelude.{if◌then◌else◌}
 use Prim.Native.Nat.{ℕ, zero, suc, ◌+◌, ◌-◌, ◌*◌, ◌<◌, ◌≤◌}
 use native.Mathlib.Omega.{arith}
-use mathlib.Core.Path.{◌≡◌, refl, ap, sym, ◌∙◌}
+use mathlib.Core.Path.{◌≡◌, refl, ◌∙◌}
 use mathlib.Core.Bool.{Bool, true, false, ◌&&◌}
 use mathlib.Core.List.{List}
 use mathlib.Core.Logic.{◌⊎◌, inl, inr}
-use lib.Dec.{eqb}
 use lib.ListN.{length, get_or}
 use lib.Seq.{sets}
 use borrow.Author.Tests.{eq-eqb}
-use Rattle.basics.specs.Words.{if◌then◌else◌}
 use Rattle.basics.proofs.Listed.{listed_length}
 use Rattle.basics.proofs.Stores.{sets_before, sets_behind}
-use Rattle.alf.specs.Expressions.{Boolean, Vector, edge, join, while, Join, with, stays, on-right, on-left}
+use Rattle.alf.specs.Expressions.{Boolean, Vector, edge, join, Join}
 use Rattle.alf.specs.Steady.{is_then, is_step_lem, moves}
 use Rattle.steady_pins.specs.declared.finding.Beside.{Beside}
 use Rattle.steady_pins.specs.Pinned.{pin_at, pinned, by_places}
-use Rattle.steady_pins.specs.Finding.{alone, front, back, pin_row, step_marked, marked}
-use Rattle.steady_pins.proofs.Placed.{size, width, join_size, right_size, left_size, edge_size}
-use Rattle.steady_pins.proofs.Placed.{Placed, on_edge, on_join, behind, ahead, placed_fits}
+use Rattle.steady_pins.specs.Finding.{pin_row, step_marked, marked}
+use Rattle.steady_pins.proofs.Placed.{size, join_size, right_size, left_size, edge_size}
+use Rattle.steady_pins.proofs.Placed.{Placed, on_edge, on_join, behind, ahead}
 
 -- an entry of no part of an expression of n bytes that ends at `end`
 pub record Outside (end n i : ℕ) : Type 0 where

@@ -3,12 +3,12 @@
 --   Placed                   of each operand at its place something holds, and the bytes fit
 --   placed_fits, placed_map  a placed expression has no more bytes than there are; what follows of each operand
 --   tree_placed              a tree's expression is placed
-use Prim.Native.Nat.{ℕ, ◌+◌, ◌-◌, ◌<◌, ◌≤◌}
+use Prim.Native.Nat.{ℕ, ◌+◌, ◌-◌, ◌≤◌}
 use native.Mathlib.Omega.{arith}
 use mathlib.Core.Path.{◌≡◌, refl, ap}
 use mathlib.Core.List.{List, [], ◌∷◌, ◌++◌}
 use lib.ListN.{length, get_or, length-append}
-use Rattle.alf.specs.Expressions.{Boolean, Edge, Vector, edge, join, while, Join, Side, on-right, on-left}
+use Rattle.alf.specs.Expressions.{Boolean, Edge, Vector, edge, join, while, Join, on-right, on-left}
 use Rattle.alf.specs.Bytes.{edge_number, join_byte, boolean_bytes, vector_bytes}
 use Rattle.trees.specs.Parts.{EndsBoolean, EndsVector, vector_at, boolean_at, Start}
 use Rattle.alf.specs.Decoder.{top_boolean, under, stack_at}

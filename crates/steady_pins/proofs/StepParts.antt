@@ -4,18 +4,18 @@
 --   WithStep, with_step                the two steps that a step is joined of
 --   edge_moves, with_moves             whether a step changes
 --   name_own, other_own, with_own      the places of its plain names
+use Rattle.std.specs.Prelude.{if◌then◌else◌}
 use Prim.Native.Nat.{ℕ, zero, suc, ◌-◌, ◌/◌, ◌%◌, ◌<◌, ◌≤◌}
 use native.Mathlib.Omega.{arith}
 use mathlib.Core.Path.{◌≡◌, refl, ap, sym, ◌∙◌}
 use mathlib.Core.Bool.{Bool, true, false, not, ◌&&◌, ◌||◌}
 use mathlib.Core.Logic.{◌⊎◌, inl, inr}
-use Rattle.basics.specs.Words.{if◌then◌else◌}
 use mathlib.Core.List.{List}
-use lib.Dec.{eqb, ltb}
+use lib.Dec.{eqb}
 use lib.ListN.{get_or, length, set}
 use borrow.Author.Tests.{lt-ltb, le-ltb, eq-eqb, ne_eqb}
-use Rattle.alf.specs.Expressions.{name, literal, negated, binary, choice, pair, changes, stays, Edge}
-use Rattle.alf.specs.Expressions.{Vector, edge, join, while, with, any, the}
+use Rattle.alf.specs.Expressions.{pair, changes, stays}
+use Rattle.alf.specs.Expressions.{Vector, join, with}
 use Rattle.alf.specs.Bytes.{vector_bytes}
 use Rattle.alf.specs.Decoder.{Stack, half_at, edge_at, join_at, is_vector, is_boolean, top_vector, top_boolean, stack_at}
 use Rattle.alf.specs.Steady.{is_changing, is_with, is_step_lem, moves}
@@ -24,10 +24,10 @@ use Rattle.alf.proofs.Made.{Made, a_name, a_literal, a_negation, a_binary, a_cho
 use Rattle.alf.proofs.Made.{a_condition, a_condition_before, nothing}
 use Rattle.alf.proofs.Parts.{made_last}
 use Rattle.alf.proofs.StackTops.{edge_top, name_top}
-use Rattle.trees.specs.Parts.{Ends, EndsBoolean, EndsVector, vector_at, boolean_at, Start}
+use Rattle.trees.specs.Parts.{Ends, EndsBoolean, EndsVector, vector_at, Start}
 use Rattle.trees.proofs.Starts.{of_boolean, ends_pos}
 use Rattle.trees.proofs.Vectors.{Joined, vector_pos, right_ends, edge-is, join_is}
-use Rattle.steady_pins.specs.Finding.{Tree, StepAt, named, own}
+use Rattle.steady_pins.specs.Finding.{StepAt, named, own}
 use Rattle.steady_pins.proofs.Starting.{vector_start}
 
 -- an edge by its number

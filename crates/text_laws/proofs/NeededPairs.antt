@@ -2,6 +2,7 @@
 --   bare_written         a tree is written by the codes of its tokens
 --   fewer_other          tokens with fewer brackets are not that tree, whatever their places
 --   pair_left_out        nor are the written tokens with an opening and a closing bracket left out
+use Rattle.std.specs.Prelude.{if◌then◌else◌}
 use Prim.Native.Nat.{ℕ, pred, ◌+◌, ◌<◌}
 use native.Mathlib.Omega.{arith}
 use mathlib.Core.Path.{◌≡◌, refl, sym, ap, ◌∙◌}
@@ -9,7 +10,6 @@ use mathlib.Core.Bool.{Bool, true, false}
 use mathlib.Core.List.{List, [], ◌∷◌, ◌++◌, map, map-append, append_assoc}
 use lib.Dec.{leb}
 use lib.ListN.{length}
-use Rattle.basics.specs.Words.{if◌then◌else◌}
 use Rattle.grammar.specs.declared.Token.{Token}
 use Rattle.grammar.specs.Tokens.{opening, closing, kind_of}
 use Rattle.grammar.specs.Grammar.{Tree, leaf, one, two, three, nodes, Expression}

@@ -3,6 +3,7 @@
 --   Short                   the first rows are marked `RW`
 --   place_older, time_older, codes_older   then the record starts at the same place, and holds the same
 --   order_older             and is checked in the same way
+use Rattle.std.specs.Prelude.{if◌then◌else◌}
 use mathlib.Core.Path.{◌≡◌, refl, sym, ap, ◌∙◌}
 use mathlib.Core.Bool.{Bool, true, false, ◌&&◌}
 use mathlib.Core.List.{List, [], ◌∷◌}
@@ -13,7 +14,6 @@ use native.Mathlib.Numerals.{add-one}
 use native.Mathlib.Omega.{arith}
 use lib.Dec.{eqb}
 use lib.ListN.{length, get_or, take, drop}
-use Rattle.basics.specs.Words.{if◌then◌else◌}
 use Rattle.alf.specs.Refusals.{Order, check, First, wrong_mark, cut_short}
 use Rattle.trace_format.specs.declared.Mark.{Mark}
 use Rattle.trace_format.specs.declared.Mark.TheVariants.{Name, Row, End, Other}

@@ -3,6 +3,7 @@
 --   shorter       the writer's file of the trace is shorter by four bytes for each needless `RL`
 --   write_read    what was read from a file without a needless `RL`, written again, gives the same bytes
 --   write_short   what was read from any file, written again, gives the writer's file of the same trace
+use Rattle.std.specs.Prelude.{if◌then◌else◌}
 use mathlib.Core.Path.{◌≡◌, refl, sym, ap, ◌∙◌}
 use mathlib.Core.Bool.{Bool, true, false, ◌&&◌}
 use mathlib.Core.List.{List, ◌++◌}
@@ -13,7 +14,6 @@ use native.Mathlib.Numerals.{add-one}
 use lib.Dec.{eqb, ltb}
 use lib.ListN.{length, get_or, length-append}
 use borrow.Author.Tests.{lt-ltb, le-ltb}
-use Rattle.basics.specs.Words.{if◌then◌else◌}
 use Rattle.basics.specs.Memory.{front}
 use Rattle.basics.specs.declared.Outcome.{Outcome}
 use Rattle.basics.specs.declared.Outcome.TheVariants as Outcome

@@ -26,8 +26,8 @@ fill-requires c =
     (
       record {
         ready = c.requires.0;
-        steps_room = omega (arith, c.lengths_of-l.ensures.alternatives_are, c.if-steps-l.left);
-        tests_room = omega (arith, c.lengths_of-l.ensures.steps_are, c.if-tests-l.left);
+        steps_room = omega (arith, c.lengths_of-l.ensures.alternatives_are, c.if-steps-l.false);
+        tests_room = omega (arith, c.lengths_of-l.ensures.steps_are, c.if-tests-l.false);
         edges_room = omega (arith, c.lengths_of-l.ensures.tests_are, c.if-edges-l.false);
         operands_room = omega (arith, c.lengths_of-l.ensures.tests_are, c.if-operands-l.false);
       },

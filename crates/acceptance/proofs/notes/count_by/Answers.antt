@@ -63,7 +63,7 @@ returns-then-b-gt57 c =
 
 pub join_counts-requires : goal.join_counts-requires
 join_counts-requires c =
-    join_asked c.requires c.if-b-ge64.left c.if-b-eq57.left c.if-at-eq0.left
+    join_asked c.requires c.if-b-ge64.false c.if-b-eq57.false c.if-at-eq0.false
     c.if-left-eq0.false c.if-b-eq56.false c.if-b-lt50.false c.if-b-gt57.false
 
 pub returns : goal.returns

@@ -50,12 +50,11 @@ pub loop-e-smaller : goal.loop-e-smaller
 loop-e-smaller c = omega (arith, c.loop-e-test.true)
 
 pub loop-e-preserved : goal.loop-e-preserved
-loop-e-preserved c =
-    (
-      omega (arith, c.loop-e-test.true),
-      note_next c.requires c.loop-e-test.true c.loop-e.invariant.1 c.count_by-n.ensures
-          c.start_by-from.ensures c.pin_count-k.ensures,
-    )
+loop-e-preserved c = (
+  omega (arith, c.loop-e-test.true),
+  note_next c.requires c.loop-e-test.true c.loop-e.invariant.1 c.count_by-n.ensures
+      c.start_by-from.ensures c.pin_count-k.ensures,
+)
 
 pub returns : goal.returns
 returns c = noted_part c.loop-e-test.false c.loop-e.invariant.1

@@ -148,12 +148,11 @@ pub combine-requires : goal.combine-requires
 combine-requires t c = (shaped_small c.shape_of-x.ensures, shaped_small c.shape_of-y.ensures)
 
 pub pin-requires-2 : goal.pin-requires-2
-pin-requires-2 t c =
-    (
-      combined_small c.shape_of-x.ensures c.shape_of-y.ensures
-          c.combine.ensures,
-      c.pins_at-pinned.ensures.few,
-    )
+pin-requires-2 t c = (
+  combined_small c.shape_of-x.ensures c.shape_of-y.ensures
+      c.combine.ensures,
+  c.pins_at-pinned.ensures.few,
+)
 
 pub returns : goal.returns
 returns t c =

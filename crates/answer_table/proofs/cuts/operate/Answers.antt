@@ -1,54 +1,44 @@
 -- `cuts::operate` meets its contract: each operator by its byte.
---   Entry, left, right    the call's own terms, and what stands in the parts of the operands
---   Sequenced, Other      behind the call for P -> Q, and where the operator is neither -> nor <->
-use native.Mathlib.Omega.{arith}
-use Rattle.alf.specs.Windows.{Window}
+use Rattle.std.proofs.Common.{arith}
 use Rattle.answer_table.specs.Tables.{stored}
 use Rattle.answer_table.proofs.Joining.{condition_byte, or_else_byte, with_byte, followed_byte}
 use Rattle.answer_table.proofs.Joining.{either_order_byte, with_or_then_byte, any_order_byte, the_sixth}
 use Rattle.answer_table.proofs.cuts.operate.Goals as goal
 
-abbrev left : goal.Start → Window
-left s = stored s.args.table.now s.args.p
-
-abbrev right : goal.Start → Window
-right s = stored s.args.table.now s.args.q
-
 pub returns-then-k-ge56 : goal.returns-then-k-ge56
 returns-then-k-ge56 c =
-    condition_byte (left c.before.before.before.before) (right c.before.before.before.before) c.args.a c.args.b c.if-k-ge56.true c.read.ensures
-    c.read-then-k-ge56.ensures c.lesser.ensures
+    condition_byte (stored c.args.table.now c.args.p) (stored c.args.table.now c.args.q) c.args.a c.args.b
+    c.if-k-ge56.true c.read.ensures c.read-then-k-ge56.ensures c.lesser.ensures
 
 pub returns-then-k-eq55 : goal.returns-then-k-eq55
 returns-then-k-eq55 c =
-    or_else_byte (left c.before.before.before.before.before) (right c.before.before.before.before.before) c.args.a c.args.b c.if-k-eq55.true c.read-then-k-eq55.ensures
-    c.read-then-k-eq55-2.ensures c.greater.ensures
+    or_else_byte (stored c.args.table.now c.args.p) (stored c.args.table.now c.args.q) c.args.a c.args.b
+    c.if-k-eq55.true c.read-then-k-eq55.ensures c.read-then-k-eq55-2.ensures c.greater.ensures
 
 pub returns-then-k-eq54 : goal.returns-then-k-eq54
 returns-then-k-eq54 c =
-    with_byte (left c.before.before.before.before) (right c.before.before.before.before) c.args.a c.args.b c.if-k-eq54.true c.overlap.ensures
+    with_byte (stored c.args.table.now c.args.p) (stored c.args.table.now c.args.q) c.args.a c.args.b
+    c.if-k-eq54.true c.overlap.ensures
 
 pub returns-then-k-eq50 : goal.returns-then-k-eq50
 returns-then-k-eq50 c =
-    followed_byte (left c.before.before.before.before.before) (right c.before.before.before.before.before) c.args.a c.args.b c.if-k-eq50.true c.sequence-x.ensures
+    followed_byte (stored c.args.table.now c.args.p) (stored c.args.table.now c.args.q) c.args.a c.args.b
+    c.if-k-eq50.true c.sequence-x.ensures
 
 pub returns-then-k-eq51 : goal.returns-then-k-eq51
 returns-then-k-eq51 c =
-    let s = entry c.before.before.before.before in
-    either_order_byte (left c.before.before.before.before.before.before.before.before) (right c.before.before.before.before.before.before.before.before) s.args.a s.args.b c.sequence-x.ensures c.if-k-eq51.true
-    c.sequence.ensures c.greater-then-k-eq51.ensures
+    either_order_byte (stored c.args.table.now c.args.p) (stored c.args.table.now c.args.q) c.args.a c.args.b
+    c.sequence-x.ensures c.if-k-eq51.true c.sequence.ensures c.greater-then-k-eq51.ensures
 
 pub returns-then-k-eq52 : goal.returns-then-k-eq52
 returns-then-k-eq52 c =
-    let m = sequenced c.before.before in let s = entry m in
-    with_or_then_byte (left c.before.before.before.before.before.before.before.before.before) (right c.before.before.before.before.before.before.before.before.before) s.args.a s.args.b m.sequence.ensures c.if-k-eq52.true
-    c.overlap-y.ensures c.greater-then-k-eq52.ensures
+    with_or_then_byte (stored c.args.table.now c.args.p) (stored c.args.table.now c.args.q) c.args.a c.args.b
+    c.sequence-x.ensures c.if-k-eq52.true c.overlap-y.ensures c.greater-then-k-eq52.ensures
 
 pub returns : goal.returns
 returns c =
-    let m = sequenced c.before.before.before.before in let s = entry m in
-    let only = the_sixth s.pre.1 (omega (arith, m.before.before.before.if1.left))
-    m.before.before.if2.left m.before.if3.left c.if-k-eq50.false c.if-k-eq51.false
-    c.if-k-eq52.false in
-    any_order_byte (left c.before.before.before.before.before.before.before.before.before.before.before) (right c.before.before.before.before.before.before.before.before.before.before.before) s.args.a s.args.b m.sequence.ensures only c.overlap-y.ensures
-    c.sequence-2.ensures c.greater-2.ensures c.greater-3.ensures
+    let only =
+    the_sixth c.requires.operator_byte (omega (arith, c.if-k-ge56.false)) c.if-k-eq55.false c.if-k-eq54.false
+    c.if-k-eq50.false c.if-k-eq51.false c.if-k-eq52.false in
+    any_order_byte (stored c.args.table.now c.args.p) (stored c.args.table.now c.args.q) c.args.a c.args.b
+    c.sequence-x.ensures only c.overlap-y.ensures c.sequence-2.ensures c.greater-2.ensures c.greater-3.ensures

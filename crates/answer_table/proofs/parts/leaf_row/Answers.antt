@@ -19,15 +19,15 @@ overflow_add-j c = let s = c.requires.part in omega (arith, s.most)
 
 pub leaf_over-x-requires : goal.leaf_over-x-requires
 leaf_over-x-requires c =
-    let s = c.requires.part in (
-      record {
+    let s = c.requires.part in record {
+      cells = record {
         some = omega (arith, c.loop-j.invariant.0);
         last = omega (arith, s.most);
         codes = λ i l. s.codes i (omega arith);
         long = s.cells;
-      },
-      far_again c.loop-j.invariant.3,
-    )
+      };
+      so_far = far_again c.loop-j.invariant.3;
+    }
 
 pub overflow_mul-i : goal.overflow_mul-i
 overflow_mul-i c = let s = c.requires.part in omega (arith, s.most, s.room)

@@ -7,7 +7,7 @@ use Rattle.answer_table.proofs.Kept.{row_kept, operated_kept}
 use Rattle.answer_table.proofs.parts.operator_row.Goals as goal
 
 -- what the operator makes of the parts now is what it made of them at the start
-asked : (c : goal.After-operate-x
+asked : (c : goal.After-operate-x)
     → c.operate-x.result ≡ operated c.args.k
     (stored c.args.table.now c.args.p)
     (stored c.args.table.now c.args.q)
@@ -28,16 +28,16 @@ overflow_add-j c = let s = c.requires.part in omega (arith, s.most)
 pub operate-x-requires : goal.operate-x-requires
 operate-x-requires c =
     let l = c.loop-j.invariant in
-    let s = c.requires.part in (
-      record {
+    let s = c.requires.part in record {
+      operands = record {
         some = omega (arith, l.0);
         last = omega (arith, s.most);
         left = omega (arith, s.left, s.room);
         right = omega (arith, s.right, s.room);
         long = l.2.long;
-      },
-      s.byte,
-    )
+      };
+      operator_byte = s.byte;
+    }
 
 pub overflow_mul-i : goal.overflow_mul-i
 overflow_mul-i c = let s = c.requires.part in omega (arith, s.most, s.room)
@@ -55,7 +55,7 @@ pub loop-j-preserved : goal.loop-j-preserved
 loop-j-preserved c =
     let l = c.loop-j.invariant in
     let s = c.requires.part in
-    (omega arith, omega arith, row_next l.2 l.0 (omega (arith, s.most)) s.room (asked c.before))
+    (omega arith, omega arith, row_next l.2 l.0 (omega (arith, s.most)) s.room (asked (c.before)))
 
 pub returns : goal.returns
 returns c = row_last c.loop-j.invariant.2 c.loop-j-test.false

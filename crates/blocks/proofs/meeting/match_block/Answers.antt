@@ -16,14 +16,14 @@ pub take-requires : goal.take-requires
 take-requires c = take_asked c.requires c.loop-k.invariant c.loop-k-test.true c.meet_steps.ensures
 
 pub pass-t-requires : goal.pass-t-requires
-pass-t-requires c = passing c.requires c.loop-k.inv c.loop-k-test.taken (omega (arith, c.good))
+pass-t-requires c = passing c.requires c.loop-k.inv c.loop-k-test.true (omega (arith, c.good))
 
 pub overflow_add-s : goal.overflow_add-s
 overflow_add-s c =
     omega (
       arith,
       (alternative_asked c.requires c.loop-k.inv
-          c.loop-k-test.taken).there,
+          c.loop-k-test.true).there,
       c.good,
     )
 

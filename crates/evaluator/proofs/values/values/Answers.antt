@@ -7,10 +7,11 @@ pub loop-i-init : goal.loop-i-init
 loop-i-init c = writing_first
 
 pub value-requires : goal.value-requires
-value-requires c = (c.requires.0, c.requires.1.rows _ (omega arith))
+value-requires c =
+    record { ends_boolean = c.requires.ends_boolean; within = c.requires.filling.rows _ (omega arith) }
 
 pub bounds-out-i : goal.bounds-out-i
-bounds-out-i c = omega (arith, writing_length c.loop-i.invariant, c.requires.1.room)
+bounds-out-i c = omega (arith, writing_length c.loop-i.invariant, c.requires.filling.room)
 
 pub overflow_add-i : goal.overflow_add-i
 overflow_add-i c = let room = bounds-out-i c in omega arith
@@ -22,4 +23,4 @@ pub shape_of-out : goal.shape_of-out
 shape_of-out c = writing_length c.loop-i.invariant
 
 pub returns : goal.returns
-returns c = ruling_front _ c.loop-i.invariant c.loop-i-test.false c.requires.1.room
+returns c = ruling_front _ c.loop-i.invariant c.loop-i-test.false c.requires.filling.room

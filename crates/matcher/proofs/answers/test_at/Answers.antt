@@ -6,7 +6,10 @@ use Rattle.evaluator.proofs.Traces.{earlier_row}
 use Rattle.matcher.proofs.answers.test_at.Goals as goal
 
 pub state-before-requires : goal.state-before-requires
-state-before-requires c = (c.requires.ends, earlier_row _ (omega arith) c.requires.rows)
+state-before-requires c = record {
+  ends_boolean = c.requires.ends;
+  within = earlier_row _ (omega arith) c.requires.rows;
+}
 
 pub returns : goal.returns
 unfolding test_at

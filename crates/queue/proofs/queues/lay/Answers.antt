@@ -6,27 +6,30 @@ use Rattle.queue.proofs.Keeping.{rows_fit, held_length, put_held, put_row_lem, p
 use borrow.Author.Rules.{rules}
 use Rattle.queue.proofs.queues.lay.Goals as goal
 
-whole : (s : goal.Start) → length s.args.queue.states ≡ 512
-whole s = search rules
-
 pub overflow_mul-end : goal.overflow_mul-end
 overflow_mul-end c = omega (arith, rows_fit c.args.queue.kept.0 c.requires.kept c.requires.most)
 
 pub slice_bounds-held-end : goal.slice_bounds-held-end
 slice_bounds-held-end c =
-    omega (arith, whole c.before.before.before.before rows_fit c.args.queue.kept.0 c.requires.kept c.requires.most)
+    let whole : length c.args.queue.states ≡ 512 = search rules in
+    omega (arith, whole, rows_fit c.args.queue.kept.0 c.requires.kept c.requires.most)
 
 pub slice_bounds-put-end : goal.slice_bounds-put-end
 slice_bounds-put-end c =
-    sym (held_length c.args.queue c.requires.kept c.requires.most (whole c.before.before.before.before.before))
+    let whole : length c.args.queue.states ≡ 512 = search rules in
+    sym (held_length c.args.queue c.requires.kept c.requires.most whole)
 
 pub put-requires : goal.put-requires
-put-requires c = put_held c.requires (whole c.before.before.before.before.before.before)
+put-requires c =
+    let whole : length c.args.queue.states ≡ 512 = search rules in
+    put_held c.requires whole
 
 pub put-requires-2 : goal.put-requires-2
 put-requires-2 c =
-    put_row_lem c.requires (whole c.before.before.before.before.before.before.before.before.before) c.put.ensures
+    let whole : length c.args.queue.states ≡ 512 = search rules in
+    put_row_lem c.requires whole c.put.ensures
 
 pub returns : goal.returns
 returns c =
-    put_both c.requires (whole c.before.before.before.before.before.before.before.before.before.before.before) c.put.ensures c.put-2.ensures
+    let whole : length c.args.queue.states ≡ 512 = search rules in
+    put_both c.requires whole c.put.ensures c.put-2.ensures

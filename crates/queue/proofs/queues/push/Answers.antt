@@ -6,9 +6,6 @@ use Rattle.queue.proofs.Keeping.{end_fits, push_length, push_row, push_keep, pus
 use borrow.Author.Rules.{rules}
 use Rattle.queue.proofs.queues.push.Goals as goal
 
-whole : (s : goal.Start) → length s.args.queue.states ≡ 512
-whole s = search rules
-
 pub overflow_mul-end : goal.overflow_mul-end
 overflow_mul-end c = omega (arith, end_fits c.requires)
 
@@ -22,11 +19,13 @@ slice_bounds-work-end c =
 
 pub slice_bounds-match_row-end : goal.slice_bounds-match_row-end
 slice_bounds-match_row-end c =
-    push_length c.requires (whole c.before.before.before.before.before.before.before.before.before.before) c.lay-work.ensures
+    let whole : length c.args.queue.states ≡ 512 = search rules in
+    push_length c.requires whole c.lay-work.ensures
 
 pub match_row-m-requires : goal.match_row-m-requires
 match_row-m-requires c =
-    push_row c.requires (whole c.before.before.before.before.before.before.before.before.before.before) c.lay-work.ensures
+    let whole : length c.args.queue.states ≡ 512 = search rules in
+    push_row c.requires whole c.lay-work.ensures
 
 pub slice_bounds-work-end-2 : goal.slice_bounds-work-end-2
 slice_bounds-work-end-2 c =
@@ -35,13 +34,16 @@ slice_bounds-work-end-2 c =
 
 pub slice_bounds-keep-end : goal.slice_bounds-keep-end
 slice_bounds-keep-end c =
-    push_length c.requires (whole c.before.before.before.before.before.before.before.before.before.before.before.before) c.lay-work.ensures
+    let whole : length c.args.queue.states ≡ 512 = search rules in
+    push_length c.requires whole c.lay-work.ensures
 
 pub keep-next-requires : goal.keep-next-requires
 keep-next-requires c =
-    push_keep c.requires (whole c.before.before.before.before.before.before.before.before.before.before.before.before.before) c.lay-work.ensures c.longest.ensures
+    let whole : length c.args.queue.states ≡ 512 = search rules in
+    push_keep c.requires whole c.lay-work.ensures c.longest.ensures
 
 pub returns : goal.returns
 returns c =
-    pushes c.requires (whole c.before.before.before.before.before.before.before.before.before.before.before.before.before.before) c.lay-work.ensures c.longest.ensures
+    let whole : length c.args.queue.states ≡ 512 = search rules in
+    pushes c.requires whole c.lay-work.ensures c.longest.ensures
     c.match_row-m.ensures c.keep-next.ensures

@@ -11,6 +11,7 @@ use Rattle.record_copies.proofs.Copying.{
   codes_fit,
   states_put,
   states_length,
+}
 use Rattle.record_copies.proofs.copies.copy_states.Given as goal
 
 abbrev pub invariant-loop-r : goal.invariant-loop-r

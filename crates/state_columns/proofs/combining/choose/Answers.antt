@@ -29,13 +29,12 @@ bounds-parts-q c =
     (omega (arith, c.requires.behind))
 
 pub chosen_of-requires : goal.chosen_of-requires
-chosen_of-requires c =
-    (
-      read_code c.loop-i.invariant c.requires.first c.loop-i-test.true (omega arith),
-      read_code c.loop-i.invariant c.requires.second c.loop-i-test.true (omega (arith, c.requires.apart)),
-      read_code c.loop-i.invariant c.requires.third c.loop-i-test.true
-          (omega (arith, c.requires.behind)),
-    )
+chosen_of-requires c = (
+  read_code c.loop-i.invariant c.requires.first c.loop-i-test.true (omega arith),
+  read_code c.loop-i.invariant c.requires.second c.loop-i-test.true (omega (arith, c.requires.apart)),
+  read_code c.loop-i.invariant c.requires.third c.loop-i-test.true
+      (omega (arith, c.requires.behind)),
+)
 
 pub overflow_add-parts : goal.overflow_add-parts
 overflow_add-parts c = omega (arith, c.requires.first.room, c.well_formed)

@@ -6,7 +6,7 @@ pub loop-q-init : goal.loop-q-init
 loop-q-init c = stating_first
 
 pub bounds-table-q : goal.bounds-table-q
-bounds-table-q c = omega (arith, c.requires.1, stating_length c.loop-q.invariant)
+bounds-table-q c = omega (arith, c.requires.in_bounds, stating_length c.loop-q.invariant)
 
 pub loop-q-preserved : goal.loop-q-preserved
 loop-q-preserved c = stating_next_front c.loop-q.invariant c.loop-q-test.true c.operated.ensures

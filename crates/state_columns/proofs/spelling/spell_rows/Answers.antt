@@ -14,7 +14,10 @@ pub overflow_add-lo : goal.overflow_add-lo
 overflow_add-lo c = omega (arith, c.requires.few)
 
 pub state-requires : goal.state-requires
-state-requires c = (c.requires.ends, c.requires.rows c.loop-i.i c.loop-i-test.true)
+state-requires c = record {
+  ends_boolean = c.requires.ends;
+  within = c.requires.rows c.loop-i.i c.loop-i-test.true;
+}
 
 pub overflow_add-parts : goal.overflow_add-parts
 overflow_add-parts c = omega (arith, c.requires.room, c.requires.wide, c.well_formed)

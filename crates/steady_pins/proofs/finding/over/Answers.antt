@@ -24,11 +24,10 @@ pub loop-n-smaller : goal.loop-n-smaller
 loop-n-smaller c = omega (arith, c.loop-n-test.true)
 
 pub loop-n-preserved : goal.loop-n-preserved
-loop-n-preserved c =
-    (
-      omega (arith, c.loop-n-test.true),
-      ruling_next_front _ c.loop-n.invariant.1 c.loop-n-test.true c.over_entry.ensures,
-    )
+loop-n-preserved c = (
+  omega (arith, c.loop-n-test.true),
+  ruling_next_front _ c.loop-n.invariant.1 c.loop-n-test.true c.over_entry.ensures,
+)
 
 pub returns : goal.returns
 returns c =

@@ -3,7 +3,6 @@ use mathlib.Core.Path.{refl, ◌∙◌}
 use native.Mathlib.Nat.{zero-add}
 use Rattle.basics.proofs.Stores.{writing_first}
 use Rattle.basics.proofs.Listed.{ruling_next, ruling_end}
-use Rattle.steady_pins.specs.Finding.{pin_entry}
 use Rattle.steady_pins.proofs.settling.put_row.Goals as goal
 
 pub loop-n-init : goal.loop-n-init
@@ -28,12 +27,11 @@ pub loop-n-smaller : goal.loop-n-smaller
 loop-n-smaller c = omega (arith, c.loop-n-test.true)
 
 pub loop-n-preserved : goal.loop-n-preserved
-loop-n-preserved c =
-    (
-      omega (arith, c.loop-n-test.true),
-      ruling_next 0 _ c.loop-n.invariant.1 c.loop-n-test.true
-          (c.pin_entry.ensures ∙ rw zero-add refl),
-    )
+loop-n-preserved c = (
+  omega (arith, c.loop-n-test.true),
+  ruling_next 0 _ c.loop-n.invariant.1 c.loop-n-test.true
+      (c.pin_entry.ensures ∙ rw zero-add refl),
+)
 
 pub returns : goal.returns
 returns c = ruling_end 0 _ c.loop-n.invariant.1 (omega (arith, c.loop-n-test.false))

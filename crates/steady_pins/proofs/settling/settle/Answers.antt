@@ -27,11 +27,10 @@ pub loop-n-smaller : goal.loop-n-smaller
 loop-n-smaller c = omega (arith, c.loop-n-test.true)
 
 pub loop-n-preserved : goal.loop-n-preserved
-loop-n-preserved c =
-    (
-      omega (arith, c.loop-n-test.true),
-      settling_next c.loop-n.invariant.1 c.settle_name.ensures,
-    )
+loop-n-preserved c = (
+  omega (arith, c.loop-n-test.true),
+  settling_next c.loop-n.invariant.1 c.settle_name.ensures,
+)
 
 pub returns : goal.returns
 returns c =

@@ -1,9 +1,7 @@
 use native.Mathlib.Omega.{arith}
 use mathlib.Core.Path.{sym, ◌∙◌}
-use borrow.Fn.PlainCycle.{is}
 use Rattle.trees.proofs.Vectors.{vector_pos}
 use Rattle.steady_pins.proofs.StepParts.{edge_moves, with_step, step_right, first_moves, second_moves}
-use Rattle.steady_pins.proofs.steps.moves.Reads as moves
 use Rattle.steady_pins.proofs.steps.+moves.Goals as goal
 
 pub overflow_sub-at : goal.overflow_sub-at

@@ -4,12 +4,10 @@ use mathlib.Core.List.{List}
 use Rattle.trees.specs.Parts.{vector_at}
 use Rattle.steady_pins.specs.Finding as define
 use Prim.Native.Nat.{ℕ}
-use borrow.Fn.PlainCycle.{is}
 use Rattle.trees.proofs.Starts.{of_boolean, ends_pos}
 use Rattle.trees.proofs.Vectors.{vector_pos}
 use Rattle.steady_pins.proofs.StepParts.{with_step, step_right, operand_ends}
 use Rattle.steady_pins.proofs.StepParts.{name_own, other_own, with_own}
-use Rattle.steady_pins.proofs.steps.own.Reads as own
 use Rattle.steady_pins.proofs.steps.+own.Goals as goal
 
 pub overflow_sub-at : goal.overflow_sub-at

@@ -5,14 +5,17 @@ use borrow.Author.Rules.{rules}
 use Rattle.timed_queue.proofs.Keeping.{held_length, put_asked, laid}
 use Rattle.timed_queue.proofs.stamps.lay.Goals as goal
 
-whole : (s : goal.Start) → length s.args.t1 ≡ 16
-whole s = search rules
-
 pub slice_bounds-put-end : goal.slice_bounds-put-end
-slice_bounds-put-end c = sym (held_length c.args.t1 c.requires (whole c.before))
+slice_bounds-put-end c =
+    let whole : length c.args.times ≡ 16 = search rules in
+    sym (held_length c.args.times c.requires whole)
 
 pub put-requires : goal.put-requires
-put-requires c = put_asked c.args.t1 c.requires (whole c.before.before)
+put-requires c =
+    let whole : length c.args.times ≡ 16 = search rules in
+    put_asked c.args.times c.requires whole
 
 pub returns : goal.returns
-returns c = laid c.args.t1 c.requires (whole c.before.before.before.before) c.put.ensures
+returns c =
+    let whole : length c.args.times ≡ 16 = search rules in
+    laid c.args.times c.requires whole c.put.ensures
