@@ -27,16 +27,24 @@ pub put-p-requires : goal.put-p-requires
 put-p-requires c = going_room (begun (goal.at.put-p-requires c).Start c.if-out-size.false)
 
 pub put_plain-q-requires : goal.put_plain-q-requires
-put_plain-q-requires c = going_room (going_on (begun (goal.at.put_plain-q-requires c).Start c.if-out-size.false) c.put-p.ensures)
+put_plain-q-requires c =
+    let start = begun (goal.at.put_plain-q-requires c).Start c.if-out-size.false in
+    let at_pattern = going_on start c.put-p.ensures in
+    going_room at_pattern
 
 pub push-requires : goal.push-requires
 unfolding bytes
-push-requires c = going_byte (going_on (going_on (begun (goal.at.push-requires c).Start c.if-out-size.false) c.put-p.ensures)
-    c.put_plain-q.ensures)
+push-requires c =
+    let start = begun (goal.at.push-requires c).Start c.if-out-size.false in
+    let at_pattern = going_on start c.put-p.ensures in
+    let at-end = going_on at_pattern c.put_plain-q.ensures in
+    going_byte at-end
 
 pub returns : goal.returns
 unfolding bytes
 returns c =
+    let start = begun (goal.at.returns c).Start c.if-out-size.false in
+    let at_pattern = going_on start c.put-p.ensures in
+    let at-end = going_on at_pattern c.put_plain-q.ensures in
     delivered (ended_size c.args.columns.now c.args.pattern.now) c.if-out-size.false
-    (going_end (going_on (going_on (going_on (begun (goal.at.returns c).Start c.if-out-size.false) c.put-p.ensures)
-    c.put_plain-q.ensures) c.push.ensures))
+    (going_end (going_on at-end c.push.ensures))
