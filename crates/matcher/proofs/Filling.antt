@@ -2,7 +2,7 @@
 --   row_within, row_asked                  row i of n rows is there, and may be asked
 --   Filling, filling_first, -next, -end    the lists of answers and numbers tried
 --   Counting, counting_first, -next, -end  the totals
-use mathlib.Core.Path.{◌≡◌, refl, ap, ◌∙◌}
+use mathlib.Core.Path.{◌≡◌, refl, ◌∙◌}
 use mathlib.Core.List.{List}
 use Prim.Native.Nat.{ℕ, ◌+◌, ◌<◌, ◌≤◌}
 use native.Mathlib.Nat.{suc-mul, mul-le-mul_right}

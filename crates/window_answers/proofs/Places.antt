@@ -2,7 +2,7 @@
 --   edge_placed, join_placed        an edge, an operator of two vectors: no where a pin moves
 --   right_placed, left_placed       a condition behind the vector, and before it
 use Prim.Native.Nat.{ℕ, ◌-◌, min}
-use mathlib.Core.Path.{◌≡◌, refl, ◌∙◌}
+use mathlib.Core.Path.{◌≡◌, refl}
 use mathlib.Core.List.{List}
 use lib.ListN.{length}
 use Rattle.basics.specs.Words.{if◌then◌else◌}
