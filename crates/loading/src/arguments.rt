@@ -33,13 +33,20 @@ pub fn arg<R: Env>(rt: &R, i: usize, buf: &mut [u8]) -> usize
     }
 }
 
+// All of a text that is full.
+fn full(text: &[u8]) -> usize
+    ensures { (result ≤ length text.now) × (result ≡ length (take result text.now)) }
+{
+    text.len()
+}
+
 // Argument i; of one over 65,536 bytes the front, which is refused as the whole would be.
 pub fn take_argument<R: Env>(rt: &R, i: usize, text: &mut [u8; 65536]) -> usize
     ensures { (result ≤ length text.new) × (result ≡ length (take result text.new)) }
 {
     match rt.arg(i, text) {
         Ok(n) => n,
-        Err(FillError::TooLong) => 65536,
+        Err(FillError::TooLong) => full(text),
         Err(FillError::NotPresent) => 0,
     }
 }

@@ -6,12 +6,12 @@ use Rattle.columns.proofs.passes.number.Goals as goal
 
 pub returns-in-0 : goal.returns-in-0
 unfolding numbered
-returns-in-0 c = rw c.in-0.keys1 refl
+returns-in-0 c = rw c.in-0.is refl
 
 pub returns-in-1 : goal.returns-in-1
 unfolding numbered
-returns-in-1 c = rw c.in-1.keys2 refl
+returns-in-1 c = rw c.in-1.is refl
 
 pub returns-in_default : goal.returns-in_default
 unfolding numbered
-returns-in_default c = numbered_yes _ c.in_default.rest.0.1 c.in_default.rest.1
+returns-in_default c = numbered_yes _ c.in_default.in_default-own.rest.0.1 c.in_default.in_default-own.rest.1

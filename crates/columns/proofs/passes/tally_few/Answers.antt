@@ -43,13 +43,12 @@ loop-i-smaller c = omega arith
 
 pub loop-i-preserved : goal.loop-i-preserved
 unfolding count
-loop-i-preserved c =
-    (
-      omega arith,
-      rw (c.loop-i.invariant.1, c.same-c.ensures)
-          (sym (count_next c.loop-i.i
-          (λ j. eqb (get_or c.args.a.now (c.args.from + j) 0) c.args.v))),
-    )
+loop-i-preserved c = (
+  omega arith,
+  rw (c.loop-i.invariant.1, c.same-c.ensures)
+      (sym (count_next c.loop-i.i
+      (λ j. eqb (get_or c.args.a.now (c.args.from + j) 0) c.args.v))),
+)
 
 pub returns : goal.returns
 unfolding count

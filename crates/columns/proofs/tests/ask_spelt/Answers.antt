@@ -70,12 +70,11 @@ pub overflow_add-i : goal.overflow_add-i
 overflow_add-i c = omega (arith, c.requires.room, c.well_formed)
 
 pub loop-i-preserved : goal.loop-i-preserved
-loop-i-preserved c =
-    (
-      through_next c.requires c.loop-i.invariant.0 c.loop-i-test.true,
-      ruling_next 0 _ c.loop-i.invariant.1 c.loop-i-test.true
-          (through_looked c.requires c.loop-i.invariant.0 c.loop-i-test.true ∙ rw zero-add refl),
-    )
+loop-i-preserved c = (
+  through_next c.requires c.loop-i.invariant.0 c.loop-i-test.true,
+  ruling_next 0 _ c.loop-i.invariant.1 c.loop-i-test.true
+      (through_looked c.requires c.loop-i.invariant.0 c.loop-i-test.true ∙ rw zero-add refl),
+)
 
 pub shape_of-cols : goal.shape_of-cols
 shape_of-cols c = writing_length c.loop-i.invariant.1

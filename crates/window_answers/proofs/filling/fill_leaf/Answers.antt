@@ -3,7 +3,10 @@ use Rattle.window_answers.proofs.FilledParts.{leaf_filled}
 use Rattle.window_answers.proofs.filling.fill_leaf.Goals as goal
 
 pub column-list-requires : goal.column-list-requires
-column-list-requires c = let s = c.requires in (s.ends, s.rows)
+column-list-requires c = let s = c.requires in record {
+  ends_boolean = s.ends;
+  rows = s.rows;
+}
 
 pub leaf_part-requires : goal.leaf_part-requires
 leaf_part-requires c =

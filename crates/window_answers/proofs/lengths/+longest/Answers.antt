@@ -48,15 +48,21 @@ longest-y-requires t c =
 
 pub overflow_add-result : goal.overflow_add-result
 overflow_add-result t c =
-    let l = sum_fits _ _ _ (operands t c) c.longest-x.ensures c.longest-y.ensures
-    (entry t c).pre.1 c.if-b-lt54.true in
+    let l = sum_fits _ _ _
+    (join_is _ _ _ c.requires c.start_of-left.ensures c.if-b-ge64.false c.if-b-eq56.false c.if-b-eq57.false)
+    c.longest-x.ensures c.longest-y.ensures
+    c.requires c.if-b-lt54.true in
     omega arith
 
 pub returns-then-b-lt54 : goal.returns-then-b-lt54
 returns-then-b-lt54 t c =
-    sum_longest _ _ _ (operands t c) c.longest-x.ensures c.longest-y.ensures c.if-b-lt54.true
+    sum_longest _ _ _
+    (join_is _ _ _ c.requires c.start_of-left.ensures c.if-b-ge64.false c.if-b-eq56.false c.if-b-eq57.false)
+    c.longest-x.ensures c.longest-y.ensures c.if-b-lt54.true
 
 pub returns : goal.returns
 returns t c =
-    greater_longest _ _ _ (operands t c.before.before) c.longest-x.ensures c.longest-y.ensures
+    greater_longest _ _ _
+    (join_is _ _ _ c.requires c.start_of-left.ensures c.if-b-ge64.false c.if-b-eq56.false c.if-b-eq57.false)
+    c.longest-x.ensures c.longest-y.ensures
     c.if-b-lt54.false c.larger.ensures

@@ -23,14 +23,14 @@ pub fill-requires : goal.fill-requires
 fill-requires c =
     let e = c.longest.ensures in
     let l = c.if-longest-n.false in
-    pattern_fillable c.requires.0 c.requires.1.0 (omega arith) (omega arith) c.requires.1.1 c.blank-table.ensures
+    pattern_fillable c.requires.pattern c.requires.pins (omega arith) (omega arith) c.requires.within c.blank-table.ensures
 
 pub overflow_sub-end : goal.overflow_sub-end
-overflow_sub-end c = ends_pos (of_vector c.requires.0.ends)
+overflow_sub-end c = ends_pos (of_vector c.requires.pattern.ends)
 
 pub read-requires : goal.read-requires
 read-requires c =
-    let s = c.requires.0 in
+    let s = c.requires.pattern in
     let e = c.longest.ensures in
     let l = c.if-longest-n.false in
     let p = s.short in
@@ -39,5 +39,5 @@ read-requires c =
 
 pub returns : goal.returns
 returns c =
-    let s = c.requires.0 in
+    let s = c.requires.pattern in
     filled_answer s c.fill.ensures (omega arith) (omega arith) c.read.ensures

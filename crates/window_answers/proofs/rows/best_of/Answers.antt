@@ -16,12 +16,11 @@ pub overflow_add-a : goal.overflow_add-a
 overflow_add-a c = omega (arith, c.requires.most)
 
 pub loop-a-preserved : goal.loop-a-preserved
-loop-a-preserved c =
-    (
-      omega arith,
-      greatest_step _ c.loop-a.invariant.1 c.read.ensures
-          c.greater-best.ensures,
-    )
+loop-a-preserved c = (
+  omega arith,
+  greatest_step _ c.loop-a.invariant.1 c.read.ensures
+      c.greater-best.ensures,
+)
 
 pub returns : goal.returns
 returns c = all_passed greatest _ c.loop-a.invariant.0 c.loop-a-test.false c.loop-a.invariant.1

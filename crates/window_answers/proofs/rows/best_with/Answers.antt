@@ -12,14 +12,14 @@ fill-requires c =
     let s = c.requires in
     let e = c.longest.ensures in
     let l = c.smaller-n.ensures in
-    pattern_fillable s.0 s.1.0 (omega arith) (omega arith) s.1.1 c.blank-table.ensures
+    pattern_fillable s.pattern s.pins (omega arith) (omega arith) s.within c.blank-table.ensures
 
 pub overflow_sub-end : goal.overflow_sub-end
-overflow_sub-end c = ends_pos (of_vector c.requires.0.ends)
+overflow_sub-end c = ends_pos (of_vector c.requires.pattern.ends)
 
 pub returns : goal.returns
 returns c =
     let s = c.requires in
     let e = c.longest.ensures in
     let l = c.smaller-n.ensures in
-    filled_best s.0 c.fill.ensures (omega arith) (omega arith) c.best_of.ensures
+    filled_best s.pattern c.fill.ensures (omega arith) (omega arith) c.best_of.ensures
