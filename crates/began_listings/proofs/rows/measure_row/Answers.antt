@@ -17,8 +17,7 @@ add-requires c =
 
 pub returns : goal.returns
 returns c =
-    let s = entry c.before.before.before.before in
     let line = row_sized _ _ _ c.find-told.ensures c.stamp_of.ensures c.number_of-a.ensures
     c.line_size.ensures in
-    measured_next _ _ _ s.pre.measured (c.number_of-a.ensures ∙ c.find-told.ensures.matches.is) line
+    measured_next _ _ _ c.requires.measured (c.number_of-a.ensures ∙ c.find-told.ensures.matches.is) line
     c.add.ensures

@@ -7,9 +7,8 @@ find-told-requires c = row_asked c.args.row c.requires.rows c.requires.there
 
 pub put_line-requires : goal.put_line-requires
 put_line-requires c =
-    let s = entry c.before.before.before in
     row_wording _ _ _ c.find-told.ensures c.stamp_of.ensures c.number_of-a.ensures
-    s.args.out.now s.args.at s.pre.room
+    c.args.out.now c.args.at c.requires.room
 
 pub returns : goal.returns
 returns c =

@@ -6,26 +6,21 @@ use Rattle.text_laws.proofs.ReadTrees.{Found, read_found, found_within, found_co
 use Rattle.row_listings.proofs.TextListings.{sort_lists, sort_refused}
 use Rattle.row_listings.proofs.listings.list_given.Goals as goal
 
--- what is read, where it is not refused
-found : (c : goal.After-read_expression-read) → c.read_expression-read.result.refused ≡ false
-    → Found c.args.rules c.args.names.now c.args.text.now c.args.sort c.read_expression-read.result
-found c = read_found c.read_expression-read.ensures
-
 pub returns-then-no : goal.returns-then-no
 returns-then-no c =
     sort_refused _ c.args.sort c.args.times.now c.args.states.now c.args.out.now
     c.read_expression-read.ensures c.if-no.true
 
 pub slice_bounds-tree-end : goal.slice_bounds-tree-end
-slice_bounds-tree-end c = found_within (found c.before.before c.if-no.false)
+slice_bounds-tree-end c = found_within (read_found c.read_expression-read.ensures c.if-no.false)
 
 pub slice_bounds-list_tree-end : goal.slice_bounds-list_tree-end
-slice_bounds-list_tree-end c = found_count (found c.before.before.before c.if-no.false)
+slice_bounds-list_tree-end c = found_count (read_found c.read_expression-read.ensures c.if-no.false)
 
 pub list_tree-requires : goal.list_tree-requires
-list_tree-requires c = found_accepted (found c.before.before.before.before c.if-no.false)
+list_tree-requires c = found_accepted (read_found c.read_expression-read.ensures c.if-no.false)
 
 pub returns : goal.returns
 returns c =
-    sort_lists _ c.args.sort c.args.times.now c.args.states.now (found c.before.before.before.before.before.before.before c.if-no.false)
+    sort_lists _ c.args.sort c.args.times.now c.args.states.now (read_found c.read_expression-read.ensures c.if-no.false)
     c.list_tree.ensures
