@@ -7,20 +7,15 @@ use Rattle.text_laws.proofs.ReadTrees.{Found, read_found, found_within, found_co
 use Rattle.began_texts.proofs.TextBegan.{began_refused, began_lists}
 use Rattle.began_texts.proofs.listings.list_began_text.Goals as goal
 
--- what is read, where it is not refused
-found : (c : goal.After-read_expression-read) → c.read_expression-read.result.refused ≡ false
-    → Found c.args.rules c.args.names.now c.args.text.now sort.Vector c.read_expression-read.result
-found c = read_found c.read_expression-read.ensures
-
 pub returns-then-no : goal.returns-then-no
 returns-then-no c = began_refused _ _ _ _ _ c.read_expression-read.ensures c.if-no.true
 
 pub slice_bounds-tree-end : goal.slice_bounds-tree-end
-slice_bounds-tree-end c = found_within (found c.before.before c.if-no.false)
+slice_bounds-tree-end c = found_within (read_found c.read_expression-read.ensures c.if-no.false)
 
 pub slice_bounds-list_began-end : goal.slice_bounds-list_began-end
-slice_bounds-list_began-end c = found_count (found c.before.before.before c.if-no.false)
+slice_bounds-list_began-end c = found_count (read_found c.read_expression-read.ensures c.if-no.false)
 
 pub returns : goal.returns
 returns c =
-    began_lists _ _ _ _ _ (found c.before.before.before.before.before.before.before c.if-no.false) c.list_began.ensures
+    began_lists _ _ _ _ _ (read_found c.read_expression-read.ensures c.if-no.false) c.list_began.ensures
