@@ -5,8 +5,7 @@
 --   Shaped, ShapedAt                  its numbers of steps and tests
 --   Held, Combined, WithPins          those of one under a condition, of one that is put together of two, with pins
 --   measured, PinnedTree, MeasuredAt  the size, or that it is over; of a tree with its pins
-use Rattle.std.specs.Prelude.{ℕ, ◌+◌, ◌-◌, ◌<◌, ◌≤◌, min, ◌≡◌, List, [], length, get_or}
-use Rattle.basics.specs.Words.{if◌then◌else◌}
+use Rattle.std.specs.Prelude.{ℕ, ◌+◌, ◌-◌, ◌<◌, ◌≤◌, min, ◌≡◌, List, [], length, get_or, if◌then◌else◌}
 use Rattle.alf.specs.Expressions.{Boolean, Vector}
 use Rattle.alf.specs.Alternatives.{Alternative, conditioned, alternatives, tests}
 use Rattle.alf.specs.Alternatives.{number_of_alternatives, steps_of, tests_of, over_limit}

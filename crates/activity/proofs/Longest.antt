@@ -1,6 +1,7 @@
 -- How long the activity listing of a trace can be: 65,535 lines of 1,144 bytes, and a head of 1,069.
 -- Main names: activity_fits, part_fits. So a buffer of 74,973,109 bytes suffices for every trace, and one of 1,145,069
 -- for every part of 1,000 rows.
+use Rattle.std.specs.Prelude.{if◌then◌else◌}
 use Prim.Native.Nat.{ℕ, zero, suc, ◌+◌, ◌*◌, ◌^◌, ◌<◌, ◌≤◌}
 use native.Mathlib.Omega.{arith}
 use native.Mathlib.Nat.{suc-mul, mul-le-mul}
@@ -10,7 +11,7 @@ use mathlib.Core.Logic.{◌⊎◌, inl, inr}
 use mathlib.Core.List.{List, [], ◌∷◌, ◌++◌}
 use lib.Dec.{eqb}
 use lib.ListN.{length, get_or, length-append}
-use Rattle.basics.specs.Words.{if◌then◌else◌, listed}
+use Rattle.basics.specs.Words.{listed}
 use Rattle.basics.proofs.Bools.{never, below?}
 use Rattle.basics.proofs.Counts.{count_small}
 use Rattle.basics.proofs.PartByPart.{flat}

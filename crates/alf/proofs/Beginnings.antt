@@ -6,6 +6,7 @@
 --   first_tried                  it is the alternative whose position is the number tried
 --   began_tries, began_none      so a yes has the time of row i - k, k its steps; any other answer has none
 --   began_answers                the window from there to row i answers yes for the expression as written
+use Rattle.std.specs.Prelude.{if◌then◌else◌}
 use mathlib.Core.Path.{◌≡◌, refl, ap, sym, ◌∙◌, subst}
 use mathlib.Core.List.{List, [], ◌∷◌, map}
 use mathlib.Core.Logic.{◌⊎◌, inl, inr}
@@ -16,7 +17,7 @@ use lib.ListN.{length, get_or}
 use borrow.Author.Tests.{eq-eqb, ne_eqb}
 use Rattle.alf.specs.declared.Began.{Began}
 use Rattle.alf.specs.declared.Began.TheVariants.{At, Nowhere}
-use Rattle.basics.specs.Words.{if◌then◌else◌, greatest_of}
+use Rattle.basics.specs.Words.{greatest_of}
 use Rattle.alf.specs.Expressions.{Boolean, Vector}
 use Rattle.alf.specs.Windows.{YES, numbered, answer}
 use Rattle.alf.specs.Alternatives.{Alternative, alternatives, on_window, at_row, best_of, answer_of, tried, tries}

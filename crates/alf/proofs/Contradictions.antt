@@ -2,6 +2,7 @@
 --   contradictory_not_yes        from any row, whatever the states, if they are codes below 8
 --   contradictory_row_not_yes    so at no row
 -- That it may answer unknown is an example in Readings.antt.
+use Rattle.std.specs.Prelude.{if◌then◌else◌}
 use mathlib.Core.Path.{◌≡◌, refl, ap, sym, ◌∙◌}
 use mathlib.Core.Bool.{Bool, true, false, not, ◌||◌}
 use mathlib.Core.List.{List, [], ◌∷◌, ◌++◌}
@@ -12,7 +13,7 @@ use native.Mathlib.Omega.{arith}
 use lib.Dec.{eqb}
 use lib.ListN.{length, get_or}
 use borrow.Author.Tests.{eq-eqb, eqb-true}
-use Rattle.basics.specs.Words.{if◌then◌else◌, some, all, least_of}
+use Rattle.basics.specs.Words.{some, all, least_of}
 use Rattle.alf.specs.Expressions.{Boolean, name, literal, negated, binary, choice}
 use Rattle.alf.specs.Expressions.{Half, pair, changes, stays}
 use Rattle.alf.specs.Windows.{asked, edge_on}

@@ -5,6 +5,7 @@
 --   cut_followed, cut_either, cut_together, cut_held      the operators on windows
 --   run, cut_row      a row's answer, cut, is one Boolean run over the alternatives
 --   two_cuts          an answer is what its two cuts say
+use Rattle.std.specs.Prelude.{if◌then◌else◌}
 use mathlib.Core.Path.{◌≡◌, refl, ap, ◌∙◌}
 use mathlib.Core.Bool.{Bool, true, false, ◌&&◌, ◌||◌}
 use mathlib.Core.List.{List, [], ◌∷◌}
@@ -14,7 +15,7 @@ use native.Mathlib.Omega.{arith}
 use lib.Dec.{leb}
 use lib.ListN.{length}
 use borrow.Author.Tests.{le-leb, lt-leb}
-use Rattle.basics.specs.Words.{if◌then◌else◌, greatest, least, some, greatest_of, least_of, all}
+use Rattle.basics.specs.Words.{greatest, least, some, greatest_of, least_of, all}
 use Rattle.alf.specs.Expressions.{Boolean, Vector}
 use Rattle.alf.specs.Windows.{Window, followed_by, either, together, certainty, held, best}
 use Rattle.alf.specs.Alternatives.{Alternative, alternatives, test_at, step_at, steps_from, at_row}

@@ -3,6 +3,7 @@
 -- does.
 -- mask_ones: the number of ones is the number of members. mask_set, mask_keep: one place more. changes_ones,
 -- changes_first: of the variables that change at a row.
+use Rattle.std.specs.Prelude.{if◌then◌else◌}
 use mathlib.Core.Path.{◌≡◌, refl, ◌∙◌, sym, ap, ap₂}
 use mathlib.Core.Bool.{Bool, true, false}
 use mathlib.Core.Logic.{◌⊎◌, inl, inr}
@@ -16,7 +17,7 @@ use lib.Bits.{bit_or, or_shifted_r}
 use lib.Count.{ones, ones_cat}
 use lib.Dec.{lit<}
 use lib.Pow.{pow_pos, split, shr_mod, field, mod-mod-pow, high, low, shl_exact}
-use Rattle.basics.specs.Words.{if◌then◌else◌, count}
+use Rattle.basics.specs.Words.{count}
 use Rattle.alf.specs.Traces.{mask, changed, change_mask, change_count}
 
 -- 1 for a member, 0 for any other

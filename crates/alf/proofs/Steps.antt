@@ -4,6 +4,7 @@
 --   steps_overlaid      `&`: both end together
 --   steps_conditioned   `P & c`: the steps, and the condition at each row
 --   overlaid_length, conditioned_length, asked_one
+use Rattle.std.specs.Prelude.{if◌then◌else◌}
 use mathlib.Core.Path.{◌≡◌, refl, ap, ◌∙◌}
 use mathlib.Core.Bool.{Bool, true, false}
 use mathlib.Core.List.{[], ◌∷◌, ◌++◌}
@@ -12,7 +13,7 @@ use native.Mathlib.Nat.{add-zero}
 use native.Mathlib.Omega.{arith}
 use lib.ListN.{length, replicate, length-append, length-replicate, length-map}
 use lib.Dec.{eqb}
-use Rattle.basics.specs.Words.{if◌then◌else◌, least, least_of}
+use Rattle.basics.specs.Words.{least, least_of}
 use Rattle.alf.specs.States.{X, reduce}
 use Rattle.alf.specs.Expressions.{Boolean, Half, any, the, Edge, pair, changes, stays}
 use Rattle.alf.specs.Windows.{is_digit, asked, digit_asked, letter_asked, edge_on, certainty, held}

@@ -1,11 +1,12 @@
 -- Totals: yes, no and unknown together are n-1.
 --   three, one_of_three   an answer at an event is one of the three
 --   totals_sum    of a trace of n rows, n at least 1
+use Rattle.std.specs.Prelude.{if◌then◌else◌}
 use mathlib.Core.Path.{◌≡◌, refl}
 use Prim.Native.Nat.{ℕ, zero, suc, ◌+◌, ◌-◌, ◌<◌}
 use native.Mathlib.Omega.{arith}
 use lib.Dec.{eqb}
-use Rattle.basics.specs.Words.{if◌then◌else◌, count}
+use Rattle.basics.specs.Words.{count}
 use Rattle.alf.specs.Expressions.{Boolean, Vector}
 use Rattle.alf.specs.Windows.{best, numbered, row_answer}
 use Rattle.alf.specs.Traces.{total}

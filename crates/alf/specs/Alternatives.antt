@@ -8,8 +8,8 @@
 --   is_name, halves, first, second, literals_at        the literals asked of a name at a row of the window
 --   possible, contradictory   whether some state answers yes to all of them; for no state at some row
 --   number_of_alternatives, steps_of, tests, tests_of, over_limit     limit 8, and K
-use Rattle.std.specs.Prelude.{ℕ, zero, suc, ◌+◌, ◌-◌, min, Bool, false, not, ◌||◌, List, [], ◌∷◌, ◌++◌, map, eqb, ltb, leb, length, replicate, get_or}
-use Rattle.basics.specs.Words.{if◌then◌else◌, greatest_of, least_of, sum_of, some, all}
+use Rattle.std.specs.Prelude.{ℕ, zero, suc, ◌+◌, ◌-◌, min, Bool, false, not, ◌||◌, List, [], ◌∷◌, ◌++◌, map, eqb, ltb, leb, length, replicate, get_or, if◌then◌else◌}
+use Rattle.basics.specs.Words.{greatest_of, least_of, sum_of, some, all}
 use Rattle.alf.specs.Expressions.{Boolean, name, literal, negated, binary, choice}
 use Rattle.alf.specs.Expressions.{Half, the, Edge, pair, changes, stays, Vector, edge, join, while}
 use Rattle.alf.specs.Expressions.{Join, followed-by, either_order, with-or-then, any_order, with, or_else}

@@ -2,8 +2,7 @@
 -- order that answers yes".
 --   began_in, began       among some alternatives, at a row above 0; at a row
 --   is_given, time_of_lem      as lists have it: a flag, 1 where a time is given, and the time; 0 and 0 where none is
-use Rattle.std.specs.Prelude.{ℕ, zero, suc, ◌-◌, List, [], ◌∷◌, eqb, length, get_or}
-use Rattle.basics.specs.Words.{if◌then◌else◌}
+use Rattle.std.specs.Prelude.{ℕ, zero, suc, ◌-◌, List, [], ◌∷◌, eqb, length, get_or, if◌then◌else◌}
 use Rattle.alf.specs.declared.Began.{Began}
 use Rattle.alf.specs.declared.Began.TheVariants.{At, Nowhere}
 use Rattle.alf.specs.Expressions.{Boolean}

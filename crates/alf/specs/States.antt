@@ -6,8 +6,7 @@
 --   Answers, gives, Right, Cell, Line, table     the relation table as document 01 lays it out
 --   among, matches, in_cells, in_lines, relations  looking it up
 --   at_least, at_most                      >= and <=
-use Rattle.std.specs.Prelude.{ℕ, min, max, Bool, true, false, ◌||◌, List, [], ◌∷◌, eqb, get_or}
-use Rattle.basics.specs.Words.{if◌then◌else◌}
+use Rattle.std.specs.Prelude.{ℕ, min, max, Bool, true, false, ◌||◌, List, [], ◌∷◌, eqb, get_or, if◌then◌else◌}
 
 -- Eight states with codes 0 to 7: 0 1 X H L W Z U
 abbrev pub X : ℕ

@@ -3,8 +3,8 @@
 --   differ_at, changed, mask, change_mask, change_count     the changed variables of a row, as a set and how many
 --   total, Totals                                        how many rows have an answer
 --   corrected, last_rewritten   a trace with row r replaced; the last answer that is rewritten
-use Rattle.std.specs.Prelude.{ℕ, zero, suc, ◌+◌, ◌-◌, ◌*◌, ◌^◌, min, ◌≡◌, Bool, false, not, List, ◌++◌, eqb, take, drop}
-use Rattle.basics.specs.Words.{if◌then◌else◌, count}
+use Rattle.std.specs.Prelude.{ℕ, zero, suc, ◌+◌, ◌-◌, ◌*◌, ◌^◌, min, ◌≡◌, Bool, false, not, List, ◌++◌, eqb, take, drop, if◌then◌else◌}
+use Rattle.basics.specs.Words.{count}
 use Rattle.alf.specs.Expressions.{Boolean, Vector}
 use Rattle.alf.specs.Values.{row_of}
 use Rattle.alf.specs.Windows.{row_answer}

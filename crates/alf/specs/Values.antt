@@ -5,8 +5,7 @@
 --   operate, unresolved, chosen  an operator on two states; a ternary of an unknown choice; the ternary
 --   value, recorded_or, state     the value of an expression at a row; for a name the recorded state; its state
 --   row_of, value_at, state_at      a row of a trace; value and state there
-use Rattle.std.specs.Prelude.{ℕ, ◌+◌, ◌*◌, true, false, ◌&&◌, List, eqb, get_or}
-use Rattle.basics.specs.Words.{if◌then◌else◌}
+use Rattle.std.specs.Prelude.{ℕ, ◌+◌, ◌*◌, true, false, ◌&&◌, List, eqb, get_or, if◌then◌else◌}
 use Rattle.alf.specs.declared.Rules.{Rules}
 use Rattle.alf.specs.States.{X, reduce, not_of_lem, and_of, or_of, xor_of, xnor_of, relations, at_least, at_most}
 use Rattle.alf.specs.Expressions.{Boolean, name, literal, negated, binary, choice}

@@ -7,8 +7,8 @@
 --   certainty, held                                  a condition at every row
 --   answer, best      the answer on a window, the greatest of those that end at a row
 --   numbered, row_answer                              document 01's number of an answer; a row's answer, as its number
-use Rattle.std.specs.Prelude.{ℕ, zero, suc, ◌+◌, ◌-◌, min, max, Bool, [], ◌∷◌, eqb, ltb, get_or}
-use Rattle.basics.specs.Words.{if◌then◌else◌, greatest, least}
+use Rattle.std.specs.Prelude.{ℕ, zero, suc, ◌+◌, ◌-◌, min, max, Bool, [], ◌∷◌, eqb, ltb, get_or, if◌then◌else◌}
+use Rattle.basics.specs.Words.{greatest, least}
 use Rattle.alf.specs.States.{X, reduce}
 use Rattle.alf.specs.Expressions.{Boolean, Half, any, the, Edge, pair, changes, stays}
 use Rattle.alf.specs.Expressions.{Vector, edge, join, while}

@@ -1,7 +1,6 @@
 // What every crate of the project speaks of: answers, sorts, rows and times, and the rules of evaluation.
 #![tactic(auto)]
 
-
 // What a row answers.
 #[derive(Clone, Copy)]
 pub enum Answer {

@@ -1,6 +1,7 @@
 -- How many tests are shown as `...`, test by test, and of all alternatives together.
 --   told_few, CountSoFar, count_first, -asked, -next, -last      the tests of the lists, one by one
 --   counted_all      the lists' tests are those of all alternatives
+use Rattle.std.specs.Prelude.{if◌then◌else◌}
 use Prim.Native.Nat.{ℕ, ◌+◌, ◌<◌, ◌≤◌}
 use native.Mathlib.Omega.{arith}
 use native.Mathlib.Numerals.{add-one}
@@ -10,7 +11,7 @@ use mathlib.Core.List.{List, [], ◌∷◌, ◌++◌}
 use lib.ListN.{length, get_or, take, drop, drop_of_length-le}
 use lib.Seq.{drop-cons, take-add, take_all}
 use Rattle.alf.specs.Names.{names_in}
-use Rattle.basics.specs.Words.{if◌then◌else◌, sum_of}
+use Rattle.basics.specs.Words.{sum_of}
 use Rattle.alf.specs.Expressions.{Expression, stays, literal, vector, edge}
 use Rattle.alf.specs.Decoder.{edge_at}
 use Rattle.alf.specs.Alternatives.{Test, test}

@@ -4,8 +4,8 @@
 --   alternative_text    the steps of an alternative between ` -> `
 --   readable, expression_of, behind, missing     when a test's text can be read back, and its parts
 --   untold_test, untold how many tests of some alternatives are shown as `...`
-use Rattle.std.specs.Prelude.{ℕ, Bool, ◌&&◌, List, [], ◌∷◌, ◌++◌, map, leb, length}
-use Rattle.basics.specs.Words.{if◌then◌else◌, sum_of}
+use Rattle.std.specs.Prelude.{ℕ, Bool, ◌&&◌, List, [], ◌∷◌, ◌++◌, map, leb, length, if◌then◌else◌}
+use Rattle.basics.specs.Words.{sum_of}
 use Rattle.alf.specs.Expressions.{Expression, vector, edge}
 use Rattle.alf.specs.Bytes.{bytes_of}
 use Rattle.alf.specs.Alternatives.{Test, test, Step, Alternative}

@@ -8,8 +8,7 @@
 --   Inside, Operands, OperatorByte, Ending    a window of a part, of two parts; an operator; all that end at a row
 --   Row, Part                            the entries written: of the windows from a row on, and of all windows
 --   LeafRow, LeafPart, OperatorRow, OperatorPart    what is asked before they are written
-use Rattle.std.specs.Prelude.{ℕ, ◌+◌, ◌-◌, ◌*◌, ◌<◌, ◌≤◌, min, ◌≡◌, List, eqb, ltb, length, get_or}
-use Rattle.basics.specs.Words.{if◌then◌else◌}
+use Rattle.std.specs.Prelude.{ℕ, ◌+◌, ◌-◌, ◌*◌, ◌<◌, ◌≤◌, min, ◌≡◌, List, eqb, ltb, length, get_or, if◌then◌else◌}
 use Rattle.alf.specs.declared.Rules.{Rules}
 use Rattle.alf.specs.Expressions.{Edge}
 use Rattle.alf.specs.Windows.{Window, NO, edge_on, held, joined}

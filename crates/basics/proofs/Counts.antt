@@ -3,12 +3,13 @@
 --   count_next    one number more
 --   count_small   there are no more than numbers
 --   count_same    of two tests that agree below n
+use Rattle.std.specs.Prelude.{if◌then◌else◌}
 use mathlib.Core.Path.{◌≡◌, refl}
 use mathlib.Core.Bool.{Bool, true, false}
 use Prim.Native.Nat.{ℕ, zero, suc, ◌+◌, ◌<◌, ◌≤◌}
 use native.Mathlib.Numerals.{add-one}
 use native.Mathlib.Omega.{arith}
-use Rattle.basics.specs.Words.{if◌then◌else◌, count}
+use Rattle.basics.specs.Words.{count}
 
 pub one_small : (b : Bool) → (if b then 1 else 0) ≤ 1
 one_small true = omega arith

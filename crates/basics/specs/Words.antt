@@ -1,17 +1,11 @@
--- Words that every chapter uses: a choice, the greatest and the least of some answers, whether some or all pass a test,
+-- Words that every chapter uses: the greatest and the least of some answers, whether some or all pass a test,
 -- how many do, a list from a rule. The greatest over nothing is no (0), the least over nothing is yes (2).
---   if_then_else_                    a choice
 --   greatest, least, some, count     of f 0, f 1, .. up to a number
 --   greatest_of, least_of, all, sum_of  of f x for the x of a list
 --   listed                           a list from a rule
 --   All                              each entry of a list is so
 --   same                             two lists are the same, as a test
-use Rattle.std.specs.Prelude.{ℕ, zero, suc, ◌+◌, min, max, Bool, true, false, ◌&&◌, ◌||◌, List, [], ◌∷◌, eqb}
-
-infixr 20 if◌then◌else◌
-abbrev pub if◌then◌else◌ : {A : Type 0} → Bool → A → A → A
-if◌then◌else◌ true x y = x
-if◌then◌else◌ false x y = y
+use Rattle.std.specs.Prelude.{ℕ, zero, suc, ◌+◌, min, max, Bool, true, false, ◌&&◌, ◌||◌, List, [], ◌∷◌, eqb, if◌then◌else◌}
 
 -- of f 0, f 1, .. up to, not including, f n
 unfoldable pub greatest : ℕ → (ℕ → ℕ) → ℕ

@@ -2,6 +2,7 @@
 --   row_asked, find_date, find_dated     a row is matched, and dated
 --   number_small, row_line, row_sized, row_wording, row_put     its line
 --   measured_first, measured_asked, measured_next               one row more is measured
+use Rattle.std.specs.Prelude.{if◌then◌else◌}
 use Prim.Native.Nat.{ℕ, ◌+◌, ◌<◌, ◌≤◌}
 use native.Mathlib.Omega.{arith}
 use mathlib.Core.Path.{◌≡◌, refl, sym, ap, ◌∙◌}
@@ -10,7 +11,7 @@ use lib.Dec.{eqb}
 use lib.ListN.{length, get_or}
 use Rattle.basics.specs.Memory.{Put, Room}
 use Rattle.basics.specs.Text.{joined}
-use Rattle.basics.specs.Words.{if◌then◌else◌, count, listed}
+use Rattle.basics.specs.Words.{count, listed}
 use Rattle.basics.proofs.Counts.{count_next, count_small}
 use Rattle.alf.specs.declared.Answer.{Answer}
 use Rattle.alf.specs.declared.Answer.TheVariants.{No, Yes, Unknown, NoEvent}

@@ -4,10 +4,10 @@
 --   Adding, Adds                     one more row is measured
 --   Measured, MoreAsked              what is measured of the rows before one
 --   RowPut, RowsPut                  a row's line, all rows' lines have room
-use Rattle.std.specs.Prelude.{ℕ, ◌+◌, ◌*◌, ◌<◌, ◌≤◌, ◌≡◌, List, eqb, length, get_or}
+use Rattle.std.specs.Prelude.{ℕ, ◌+◌, ◌*◌, ◌<◌, ◌≤◌, ◌≡◌, List, eqb, length, get_or, if◌then◌else◌}
 use Rattle.basics.specs.Memory.{Room}
 use Rattle.basics.specs.Text.{joined}
-use Rattle.basics.specs.Words.{if◌then◌else◌, listed}
+use Rattle.basics.specs.Words.{listed}
 use Rattle.alf.specs.declared.Rules.{Rules}
 use Rattle.alf.specs.Expressions.{Boolean}
 use Rattle.alf.specs.Values.{state_at}

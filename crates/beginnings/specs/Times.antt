@@ -4,8 +4,8 @@
 --   Took                           there is such an alternative, and there are as many rows
 --   TimeAsked, BeganAsked, DateAsked, Dating     a row
 --   began_of, MarksAsked, Marks     all rows, from the lists of answers and numbers tried
-use Rattle.std.specs.Prelude.{ℕ, ◌-◌, ◌<◌, ◌≤◌, ◌≡◌, Bool, true, List, eqb, length, get_or}
-use Rattle.basics.specs.Words.{if◌then◌else◌, listed}
+use Rattle.std.specs.Prelude.{ℕ, ◌-◌, ◌<◌, ◌≤◌, ◌≡◌, Bool, true, List, eqb, length, get_or, if◌then◌else◌}
+use Rattle.basics.specs.Words.{listed}
 use Rattle.alf.specs.declared.Answer.{Answer}
 use Rattle.alf.specs.declared.Began.{Began}
 use Rattle.alf.specs.declared.Began.TheVariants.{At, Nowhere}

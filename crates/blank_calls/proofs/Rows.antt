@@ -2,6 +2,7 @@
 --   RowGoing, one_first, one_length, one_next, one_end                     the first i entries of a row
 --   Going, going_first, going_length, going_room, going_next, going_end    the first r rows
 --   row_length, blanked_length                                             a row's length, a trace's length
+use Rattle.std.specs.Prelude.{if◌then◌else◌}
 use Prim.Native.Nat.{ℕ, ◌+◌, ◌*◌, ◌<◌, ◌≤◌}
 use native.Mathlib.Nat.{zero-add, zero-mul, suc-mul, mul-le-mul_right}
 use native.Mathlib.Numerals.{add-one}
@@ -12,7 +13,7 @@ use mathlib.Core.List.{List}
 use lib.Dec.{eqb}
 use lib.ListN.{length, get_or, set, take}
 use lib.Seq.{sets, length-take-le}
-use Rattle.basics.specs.Words.{if◌then◌else◌, listed}
+use Rattle.basics.specs.Words.{listed}
 use Rattle.basics.proofs.Listed.{listed_length, listed_same, ruling_next, ruling_end}
 use Rattle.basics.proofs.Stores.{Writing, writing_first, writing_length}
 use Rattle.basics.proofs.Stores.{sets_append, sets_behind, sets_length, sets_whole}

@@ -3,11 +3,11 @@
 --                  among them
 --   Blanks         what the call comes to
 --   state_kept, BlanksRow, RowsAsked, BlanksRows     what the functions inside ask and give
-use Rattle.std.specs.Prelude.{ℕ, ◌+◌, ◌*◌, ◌≡◌, List, ◌∷◌, eqb, length, get_or}
+use Rattle.std.specs.Prelude.{ℕ, ◌+◌, ◌*◌, ◌≡◌, List, ◌∷◌, eqb, length, get_or, if◌then◌else◌}
 use Rattle.std.proofs.lemmas.List.Edits.{sets}
 use Rattle.basics.specs.declared.Outcome.{Outcome}
 use Rattle.basics.specs.Memory.{after}
-use Rattle.basics.specs.Words.{if◌then◌else◌, listed}
+use Rattle.basics.specs.Words.{listed}
 use Rattle.alf.specs.Refusals.{Order, check, bad_lists, Comes}
 use Rattle.alf.specs.States.{X}
 use Rattle.judging.specs.Orders.{Rows, codes}

@@ -1,8 +1,8 @@
 -- Document 02, [11], "Partners' pins blanked": a trace in which every pin outside a set is overwritten.
 --   blanked_row, blanked     a row, a trace, with every other pin overwritten by any states
 --   blanked_by_x              by X, where a table tells which pins are kept
-use Rattle.std.specs.Prelude.{ℕ, Bool, List}
-use Rattle.basics.specs.Words.{if◌then◌else◌, listed}
+use Rattle.std.specs.Prelude.{ℕ, Bool, List, if◌then◌else◌}
+use Rattle.basics.specs.Words.{listed}
 use Rattle.alf.specs.States.{X}
 use Rattle.alf.specs.Values.{row_of}
 use Rattle.named_pins.specs.Tables.{keeps}

@@ -11,22 +11,36 @@ use alf::Rules;
 use basics::Outcome;
 use blank_calls::blanking::blank as overwrite;
 use complaints::refused;
+use console::output::Console;
 use kept_words::words::keep_words;
+use std::io::Input;
+use std::rt::{Env, Files};
 use trace_saving::write_to;
 
 // What came of it: the pins are told and the trace is written, or it is said why not.
-fn finish(out: usize, names: &[u8], times: &[u64], states: &[u8], kept: &[u8], o: Outcome) {
+fn finish<R: Env + Files>(
+    rt: &R,
+    console: &Console,
+    out: usize,
+    names: &[u8],
+    times: &[u64],
+    states: &[u8],
+    kept: &[u8],
+    o: Outcome,
+) {
     match o {
         Outcome::Done(_) => {
-            tell_pins(out, names, kept);
-            write_to(out, names, times, states);
+            tell_pins(rt, console, out, names, kept);
+            write_to(rt, console, out, names, times, states);
         }
-        Outcome::Refused(r) => refused(b"trace", r),
+        Outcome::Refused(r) => refused(console, b"trace", r),
     }
 }
 
 // Nothing is written if something was complained of.
-fn blank_by(
+fn blank_by<R: Env + Files + Input>(
+    rt: &R,
+    console: &Console,
     rules: Rules,
     out: usize,
     names: &[u8],
@@ -34,14 +48,16 @@ fn blank_by(
     states: &mut [u8],
     kept: &mut [u8],
 ) {
-    if keep_words(rules, out, names, kept) {
+    if keep_words(rt, console, rules, out, names, kept) {
         let o = overwrite(names.len() / 32, times.len(), states, kept);
-        finish(out, names, times, states, kept, o);
+        finish(rt, console, out, names, times, states, kept, o);
     }
 }
 
 // The table has an entry for each name.
-fn blank_front(
+fn blank_front<R: Env + Files + Input>(
+    rt: &R,
+    console: &Console,
     rules: Rules,
     out: usize,
     names: &[u8],
@@ -51,11 +67,22 @@ fn blank_front(
 ) {
     let k = names.len() / 32;
     if k <= kept.len() {
-        blank_by(rules, out, names, times, states, &mut kept[0..k]);
+        blank_by(
+            rt,
+            console,
+            rules,
+            out,
+            names,
+            times,
+            states,
+            &mut kept[0..k],
+        );
     }
 }
 
-fn blank_lent(
+fn blank_lent<R: Env + Files + Input>(
+    rt: &R,
+    console: &Console,
     rules: Rules,
     out: usize,
     names: &[u8],
@@ -63,11 +90,19 @@ fn blank_lent(
     states: &mut [u8],
     kept: &mut [u8; 32],
 ) {
-    blank_front(rules, out, names, times, states, kept);
+    blank_front(rt, console, rules, out, names, times, states, kept);
 }
 
 // Argument `out` names the file to write, and the words behind it are patterns, `-f` FILE, and `--keep` PIN...
-pub fn blank(rules: Rules, out: usize, names: &[u8], times: &[u64], states: &mut [u8]) {
+pub fn blank<R: Env + Files + Input>(
+    rt: &R,
+    console: &Console,
+    rules: Rules,
+    out: usize,
+    names: &[u8],
+    times: &[u64],
+    states: &mut [u8],
+) {
     let mut kept = [0u8; 32];
-    blank_lent(rules, out, names, times, states, &mut kept);
+    blank_lent(rt, console, rules, out, names, times, states, &mut kept);
 }

@@ -1,14 +1,16 @@
 // What is told of the pins: a line `kept` with the names of those that are kept, and a line `blanked` with the others.
 // A tab stands before each name. Where the trace goes to standard output, the lines go to standard error.
-use console::output::{note, say};
+use console::output::{Console, note, say};
+use loading::arguments::arg;
 use names::name_len;
+use std::rt::Env;
 use text_parts::parts::front;
 
-fn tell(aside: bool, text: &[u8]) {
+fn tell(console: &Console, aside: bool, text: &[u8]) {
     if aside {
-        note(text);
+        note(console, text);
     } else {
-        say(text);
+        say(console, text);
     }
 }
 
@@ -20,39 +22,39 @@ fn slot(names: &[u8], i: usize) -> &[u8] {
     &names[0..0]
 }
 
-fn tell_name(aside: bool, slot: &[u8]) {
-    tell(aside, b"\t");
-    tell(aside, front(slot, name_len(slot)));
+fn tell_name(console: &Console, aside: bool, slot: &[u8]) {
+    tell(console, aside, b"\t");
+    tell(console, aside, front(slot, name_len(slot)));
 }
 
 // The pins whose entries are 0, or the others.
-fn tell_names(aside: bool, names: &[u8], kept: &[u8], zero: bool) {
+fn tell_names(console: &Console, aside: bool, names: &[u8], kept: &[u8], zero: bool) {
     let mut i: usize = 0;
     while i < kept.len() {
         let entry = kept[i];
         if (entry == 0) == zero {
-            tell_name(aside, slot(names, i));
+            tell_name(console, aside, slot(names, i));
         }
         i += 1;
     }
 }
 
-fn tell_line(aside: bool, word: &[u8], names: &[u8], kept: &[u8], zero: bool) {
-    tell(aside, word);
-    tell_names(aside, names, kept, zero);
-    tell(aside, b"\n");
+fn tell_line(console: &Console, aside: bool, word: &[u8], names: &[u8], kept: &[u8], zero: bool) {
+    tell(console, aside, word);
+    tell_names(console, aside, names, kept, zero);
+    tell(console, aside, b"\n");
 }
 
 // Whether an argument is `-`.
-fn is_dash(i: usize) -> bool {
-    let mut word = io::buffer();
-    let n = os::arg(i, &mut word);
+fn is_dash<R: Env>(rt: &R, i: usize) -> bool {
+    let mut word = [0u8; 4096];
+    let n = arg(rt, i, &mut word);
     check::same(&word[..n], b"-")
 }
 
 // Argument `out` names the file of the trace.
-pub fn tell_pins(out: usize, names: &[u8], kept: &[u8]) {
-    let aside = is_dash(out);
-    tell_line(aside, b"kept", names, kept, false);
-    tell_line(aside, b"blanked", names, kept, true);
+pub fn tell_pins<R: Env>(rt: &R, console: &Console, out: usize, names: &[u8], kept: &[u8]) {
+    let aside = is_dash(rt, out);
+    tell_line(console, aside, b"kept", names, kept, false);
+    tell_line(console, aside, b"blanked", names, kept, true);
 }

@@ -5,6 +5,7 @@
 --   rest_carried, rest_passed           an order that ends with 15 of the trace
 --   totals_kept, totals_same            the totals by a tree
 --   listed_totals_kept, listed_totals_same     by alternatives handed in
+use Rattle.std.specs.Prelude.{if◌then◌else◌}
 use Prim.Native.Nat.{ℕ, ◌+◌, ◌*◌, ◌<◌, ◌≤◌}
 use native.Mathlib.Nat.{zero-add, suc-mul, mul-le-mul_right}
 use native.Mathlib.Omega.{arith}
@@ -16,7 +17,6 @@ use lib.ListN.{length, get_or, get_or-eq_default}
 use borrow.Author.Tests.{eq-eqb}
 use Rattle.basics.specs.declared.Outcome.TheVariants.{Done}
 use Rattle.basics.specs.Memory.{after}
-use Rattle.basics.specs.Words.{if◌then◌else◌}
 use Rattle.basics.proofs.Bools.{never, below?}
 use Rattle.basics.proofs.Choices.{if_all}
 use Rattle.basics.proofs.Listed.{listed_at}

@@ -6,6 +6,7 @@
 --   sent_answer, sent_tries       what is sent for a row: the same at its last row
 --   blanked_lists                 the totals of alternatives handed in
 --   named_below                   the pins that an accepted pattern names are there
+use Rattle.std.specs.Prelude.{if◌then◌else◌}
 use Prim.Native.Nat.{ℕ, zero, suc, ◌+◌, ◌-◌, ◌*◌, ◌<◌, ◌≤◌, min}
 use native.Mathlib.Nat.{suc-mul, zero-add, mul-le-mul_right}
 use native.Mathlib.Omega.{arith}
@@ -16,7 +17,6 @@ use mathlib.Core.List.{List}
 use lib.Dec.{eqb}
 use lib.ListN.{length, get_or, get_or-append}
 use lib.Seq.{get_or-append-add}
-use Rattle.basics.specs.Words.{if◌then◌else◌}
 use Rattle.basics.proofs.Bools.{below?}
 use Rattle.basics.proofs.Counts.{count_same}
 use Rattle.basics.proofs.Listed.{listed_at}

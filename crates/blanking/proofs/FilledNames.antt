@@ -2,11 +2,11 @@
 --   edge_named       a pin with an edge on it alone is named
 --   filled_named     a pin that the filled expression names is named in the written one
 --   meant_named      the same of the expression as any rules read it
+use Rattle.std.specs.Prelude.{if◌then◌else◌}
 use Prim.Native.Nat.{ℕ, zero, suc}
 use mathlib.Core.Path.{◌≡◌, refl, subst}
 use mathlib.Core.Bool.{Bool, true, false, not, ◌&&◌, ◌||◌}
 use borrow.Author.Tests.{eqb-true}
-use Rattle.basics.specs.Words.{if◌then◌else◌}
 use Rattle.basics.proofs.Bools.{never, and_left, and_right}
 use Rattle.basics.proofs.Choices.{if_all}
 use Rattle.alf.specs.declared.Rules.{Rules}

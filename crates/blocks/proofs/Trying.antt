@@ -1,6 +1,7 @@
 -- Laws of all alternatives at the rows of a block, tried one after the other.
 --   Trying, trying_first, -next, -end         at one row: the best answer and the number tried, with those to come
 --   Walking, walking_first, -asked, -next, -end     at all rows of the block
+use Rattle.std.specs.Prelude.{if◌then◌else◌}
 use mathlib.Core.Path.{◌≡◌, refl, ◌∙◌}
 use mathlib.Core.Bool.{Bool, true, false}
 use mathlib.Core.List.{List, [], ◌∷◌, map}
@@ -10,7 +11,7 @@ use native.Mathlib.Omega.{arith}
 use borrow.Author.Tests.{eq-eqb, ne_eqb}
 use lib.Dec.{eqb}
 use lib.ListN.{length, get_or, drop, take, drop_of_length-le}
-use Rattle.basics.specs.Words.{if◌then◌else◌, greatest_of}
+use Rattle.basics.specs.Words.{greatest_of}
 use Rattle.basics.proofs.Bools.{equal?}
 use Rattle.alf.specs.Expressions.{Boolean}
 use Rattle.alf.specs.Alternatives.{Test, Alternative, at_row, best_of, tried}

@@ -1,13 +1,14 @@
 -- The last line of a listing: answers counted, its length, its parts.
 --   Counting, counting_first, counting_small, counting_next, counting_end    of the first answers so many are counted
 --   last_size_lem, last_start
+use Rattle.std.specs.Prelude.{if◌then◌else◌}
 use Prim.Native.Nat.{ℕ, ◌+◌, ◌<◌, ◌≤◌}
 use native.Mathlib.Omega.{arith}
 use mathlib.Core.Path.{◌≡◌, refl}
 use mathlib.Core.List.{List, [], ◌∷◌, ◌++◌}
 use lib.Dec.{eqb}
 use lib.ListN.{length, get_or, length-append}
-use Rattle.basics.specs.Words.{if◌then◌else◌, count}
+use Rattle.basics.specs.Words.{count}
 use Rattle.basics.specs.Memory.{Room}
 use Rattle.basics.proofs.Counts.{count_next, count_small}
 use Rattle.basics.proofs.PartByPart.{Going, going_start}

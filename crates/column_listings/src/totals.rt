@@ -1,6 +1,5 @@
 // How many answers are yes, no and unknown, and the last line, which tells it.
-ghost use Rattle.std.specs.Prelude.{◌≡◌, ◌≤◌, eqb, length};
-ghost use Rattle.basics.specs.Words.{if◌then◌else◌};
+ghost use Rattle.std.specs.Prelude.{◌≡◌, ◌≤◌, eqb, length, if◌then◌else◌};
 ghost use Rattle.basics.specs.Memory.{Put, Room};
 ghost use Rattle.listing.specs.Listing.{how_many, last_line};
 ghost use Rattle.listing.specs.Inner.{Sized};

@@ -1,5 +1,6 @@
 -- A law of passes; those of what is written from a rule are passed on.
 --   tried_fits      one more try fits an entry
+use Rattle.std.specs.Prelude.{if◌then◌else◌}
 use mathlib.Core.Path.{◌≡◌}
 use mathlib.Core.List.{List}
 use Prim.Native.Nat.{ℕ, ◌+◌, ◌<◌, ◌≤◌}
@@ -7,7 +8,6 @@ use native.Mathlib.Omega.{arith}
 use mathlib.Core.Bool.{Bool, true, false}
 use lib.Dec.{eqb}
 use lib.ListN.{get_or}
-use Rattle.basics.specs.Words.{if◌then◌else◌}
 use Rattle.basics.proofs.Stores.{Writing}
 use Rattle.columns.specs.Passes.{Counted}
 use Rattle.state_columns.proofs.Overs.{front_ahead}

@@ -1,6 +1,6 @@
 // Passes over a block's answers, entry by entry. An answer is 0 no, 1 unknown, 2 yes.
-ghost use Rattle.std.specs.Prelude.{◌≡◌, ◌+◌, ◌≤◌, min, max, length, get_or, eqb};
-ghost use Rattle.basics.specs.Words.{if◌then◌else◌, count};
+ghost use Rattle.std.specs.Prelude.{◌≡◌, ◌+◌, ◌≤◌, min, max, length, get_or, eqb, if◌then◌else◌};
+ghost use Rattle.basics.specs.Words.{count};
 ghost use Rattle.alf.specs.Windows.{numbered};
 ghost use Rattle.columns.specs.Passes.{Over, Pass, PassTo, PassFrom, TriesTo, Counted};
 

@@ -1,58 +1,175 @@
-// Writing: data to standard output, complaints to standard error.
-use libc::{STDERR_FILENO, STDOUT_FILENO};
+// Writing: data to standard output, complaints to standard error, and whether there was a complaint.
+use std::cell::Cell;
+use std::fmt;
+use std::fmt::Write;
+use std::io::{Error, Stderr, Stdout};
+use text_parts::parts::{find, front};
 
-pub fn say(text: &[u8]) {
-    if !io::write_all(STDOUT_FILENO, text) {
-        lost();
+// EBADF: the descriptor is closed.
+pub const CLOSED: i32 = 9;
+
+// Where the program writes, whether it complained, whether standard output took not all, and whether standard input was
+// asked for.
+#[derive(Drop)]
+pub struct Console {
+    out: Stdout,
+    err: Stderr,
+    complained: Cell<bool>,
+    lost: Cell<bool>,
+    asked: Cell<bool>,
+}
+
+impl Console {
+    pub fn new(out: Stdout, err: Stderr) -> Console {
+        Console {
+            out,
+            err,
+            complained: Cell::new(false),
+            lost: Cell::new(false),
+            asked: Cell::new(false),
+        }
+    }
+
+    // Whether something was complained of: the program's exit status says so.
+    pub fn has_complained(&self) -> bool {
+        self.complained.get()
+    }
+
+    // Whether this is the first time that standard input is asked for. It is read once, to its end.
+    pub fn takes_input(&self) -> bool {
+        !self.asked.replace(true)
+    }
+
+    pub fn out(&self) -> Stdout {
+        self.out
+    }
+
+    pub fn err(&self) -> Stderr {
+        self.err
     }
 }
 
-// Standard output took not all. That is complained of once: the descriptor is closed then, and what else would go there
-// fails with EBADF.
-fn lost() {
-    if os::errno() != libc::EBADF {
-        failed(b"standard output");
-        libc::close(STDOUT_FILENO);
+// Nothing more is written to standard output once it took not all.
+pub fn say(console: &Console, text: &[u8]) {
+    if console.lost.get() {
+        return;
+    }
+    match console.out.write_all(text) {
+        Ok(()) => {}
+        Err(e) => lost(console, &e),
     }
 }
 
-pub fn note(text: &[u8]) {
-    io::write_all(STDERR_FILENO, text);
+// Standard output took not all. That is complained of once, and not at all where it is closed.
+fn lost(console: &Console, e: &Error) {
+    console.lost.set(true);
+    if !is_of_closed(e) {
+        failed(console, b"standard output", e);
+    }
 }
 
-pub fn note_number(n: usize) {
-    io::print_decimal(STDERR_FILENO, n as u64);
+// Whether an error says that the descriptor is closed.
+pub fn is_of_closed(e: &Error) -> bool {
+    match e.raw_os_error() {
+        Some(code) => code == CLOSED,
+        None => false,
+    }
 }
 
-// Descriptor 3, where the caller opened one, is how it learns of a complaint: a program has no exit status.
-fn mark() {
-    io::write_all(3, b"1");
+// Where standard error takes not all, there is nobody to tell.
+pub fn note(console: &Console, text: &[u8]) {
+    let _ = console.err.write_all(text);
+}
+
+pub fn note_number(console: &Console, n: usize) {
+    let _ = console.err.print(n);
+}
+
+// The exit status says that there was a complaint.
+fn mark(console: &Console) {
+    console.complained.set(true);
 }
 
 // A complaint begins.
-pub fn complain() {
-    mark();
-    note(b"dachsmond: ");
+pub fn complain(console: &Console) {
+    mark(console);
+    note(console, b"dachsmond: ");
 }
 
-// A call of the system that failed, in the system's words. The mark comes last, since it may change errno.
-pub fn failed(what: &[u8]) {
-    note(b"dachsmond: ");
-    os::fail(what);
-    mark();
+// A message as far as there is room.
+#[derive(Drop)]
+struct Message {
+    bytes: [u8; 256],
+    length: usize,
+}
+
+impl Message {
+    fn push(&mut self, b: u8) {
+        let at = self.length;
+        if at < 256 {
+            self.bytes[at] = b;
+            self.length = at + 1;
+        }
+    }
+}
+
+impl fmt::Write for Message {
+    fn write_str(&mut self, s: &str) -> fmt::Result {
+        let bytes = s.as_bytes().iter();
+        for b in bytes {
+            self.push(*b);
+        }
+        Ok(())
+    }
+}
+
+// The system's words, without the number that stands in brackets behind them.
+fn words_of(message: &[u8]) -> &[u8] {
+    let end = find(message, 0, b'(');
+    if end < message.len() {
+        if 0 < end {
+            return &message[0..end - 1];
+        }
+    }
+    message
+}
+
+fn note_error(console: &Console, e: &Error) {
+    let mut message = Message {
+        bytes: [0u8; 256],
+        length: 0,
+    };
+    let _ = write!(message, "{e}");
+    note(console, words_of(front(&message.bytes, message.length)));
+}
+
+// A call of the system that failed, in the system's words.
+pub fn failed(console: &Console, what: &[u8], e: &Error) {
+    complain(console);
+    note(console, what);
+    note(console, b": ");
+    note_error(console, e);
+    note(console, b"\n");
+}
+
+// A file whose name is no text, which the system's calls do not take here.
+pub fn unnamed(console: &Console, path: &[u8]) {
+    complain(console);
+    note(console, path);
+    note(console, b": the name of a file has to be UTF-8\n");
 }
 
 // A list is shorter than a contract says: that cannot be, and would be told.
-pub fn short() {
-    complain();
-    note(b"a list is too short\n");
+pub fn short(console: &Console) {
+    complain(console);
+    note(console, b"a list is too short\n");
 }
 
 // The first n bytes.
-pub fn say_front(text: &[u8], n: usize) {
+pub fn say_front(console: &Console, text: &[u8], n: usize) {
     if text.len() < n {
-        short();
+        short(console);
         return;
     }
-    say(&text[0..n]);
+    say(console, &text[0..n]);
 }

@@ -1,58 +1,86 @@
 // Saving: a file is written beside its name, and given the name when all of it is there.
-use crate::output::{failed, say, short};
+use crate::output::{Console, failed, say, short, unnamed};
+use std::fs::{OpenFile, OpenOptions};
+use std::io::Write;
+use std::rt::Files;
+use std::{fs, io, str};
 use text_parts::parts::front;
 use text_parts::puts::put;
 
-fn save_as(path: &[u8], part: &[u8], data: &[u8]) {
-    let fd = os::create(part);
-    if fd < 0 {
-        failed(part);
-        return;
+// A new file.
+fn create<R: Files>(rt: &R, part: &str) -> io::Result<R::File> {
+    let mut how = OpenOptions::new();
+    how.write(true).create_new(true);
+    how.open(rt, part)
+}
+
+// All of the data, and then the name.
+fn fill<R: Files>(
+    rt: &R,
+    path: &str,
+    part: &str,
+    mut file: R::File,
+    data: &[u8],
+) -> io::Result<()> {
+    file.write_all(data)?;
+    file.sync_all()?;
+    drop(file);
+    fs::rename(rt, part, path)
+}
+
+fn save_as<R: Files>(rt: &R, console: &Console, path: &str, part: &str, data: &[u8]) {
+    match create(rt, part) {
+        Ok(file) => match fill(rt, path, part, file, data) {
+            Ok(()) => {}
+            Err(e) => {
+                failed(console, path.as_bytes(), &e);
+                let _ = fs::remove_file(rt, part);
+            }
+        },
+        Err(e) => failed(console, part.as_bytes(), &e),
     }
-    let all = io::write_all(fd, data);
-    if !all {
-        failed(path);
-        libc::close(fd);
-        os::unlink(part);
-        return;
-    }
-    if libc::close(fd) != 0 {
-        failed(path);
-        os::unlink(part);
-        return;
-    }
-    if os::rename(part, path) != 0 {
-        failed(path);
-        os::unlink(part);
+}
+
+// The names are texts.
+fn save_in<R: Files>(rt: &R, console: &Console, path: &[u8], part: &[u8], data: &[u8]) {
+    match (str::from_utf8(path), str::from_utf8(part)) {
+        (Ok(path), Ok(part)) => save_as(rt, console, path, part, data),
+        _ => unnamed(console, path),
     }
 }
 
 // The name beside it: `.part` behind the name.
-fn save_beside(path: &[u8], name: &mut [u8], data: &[u8]) {
+fn save_beside<R: Files>(rt: &R, console: &Console, path: &[u8], name: &mut [u8], data: &[u8]) {
     let p = put(name, 0, path);
     let n = put(name, p, b".part");
-    save_as(path, front(name, n), data);
+    save_in(rt, console, path, front(name, n), data);
 }
 
-fn save_named(path: &[u8], name: &mut [u8; 4096], data: &[u8]) {
-    save_beside(path, name, data);
+fn save_named<R: Files>(
+    rt: &R,
+    console: &Console,
+    path: &[u8],
+    name: &mut [u8; 4096],
+    data: &[u8],
+) {
+    save_beside(rt, console, path, name, data);
 }
 
 // `-` is standard output.
-fn save(path: &[u8], data: &[u8]) {
+fn save<R: Files>(rt: &R, console: &Console, path: &[u8], data: &[u8]) {
     if check::same(path, b"-") {
-        say(data);
+        say(console, data);
         return;
     }
-    let mut name = io::buffer();
-    save_named(path, &mut name, data);
+    let mut name = [0u8; 4096];
+    save_named(rt, console, path, &mut name, data);
 }
 
 // The first n bytes.
-pub fn save_front(path: &[u8], data: &[u8], n: usize) {
+pub fn save_front<R: Files>(rt: &R, console: &Console, path: &[u8], data: &[u8], n: usize) {
     if data.len() < n {
-        short();
+        short(console);
         return;
     }
-    save(path, &data[0..n]);
+    save(rt, console, path, &data[0..n]);
 }

@@ -5,13 +5,16 @@
 use alf::RowNo;
 use basics::{Outcome, Refusal};
 use complaints::{refused, refused_for};
+use console::output::Console;
 use letter_corrections::correcting::{correct_letters, row_number};
+use loading::arguments::arg;
+use std::rt::{Env, Files};
 use trace_saving::write_to;
 
 // The row that an argument names; one that is no row of any trace, where it names none.
-fn asked_row() -> RowNo {
-    let mut word = io::buffer();
-    let n = os::arg(3, &mut word);
+fn asked_row<R: Env>(rt: &R) -> RowNo {
+    let mut word = [0u8; 4096];
+    let n = arg(rt, 3, &mut word);
     let r = row_number(&word[..n]);
     if r < 65536 {
         return RowNo(r as u32);
@@ -20,25 +23,43 @@ fn asked_row() -> RowNo {
 }
 
 // What came of it: the corrected trace is written, or it is said why not.
-fn finish(names: &[u8], times: &[u64], states: &[u8], o: Outcome) {
+fn finish<R: Env + Files>(
+    rt: &R,
+    console: &Console,
+    names: &[u8],
+    times: &[u64],
+    states: &[u8],
+    o: Outcome,
+) {
     match o {
-        Outcome::Done(_) => write_to(5, names, times, states),
-        Outcome::Refused(r) => complain_of(r),
+        Outcome::Done(_) => write_to(rt, console, 5, names, times, states),
+        Outcome::Refused(r) => complain_of(console, r),
     }
 }
 
-fn complain_of(r: Refusal) {
+fn complain_of(console: &Console, r: Refusal) {
     if r.number == 18 {
-        refused_for(b"row", b"a state for each name of the trace is wanted", r);
+        refused_for(
+            console,
+            b"row",
+            b"a state for each name of the trace is wanted",
+            r,
+        );
         return;
     }
-    refused(b"row", r);
+    refused(console, b"row", r);
 }
 
-pub fn correct(names: &[u8], times: &[u64], states: &mut [u8]) {
-    let mut word = io::buffer();
-    let n = os::arg(4, &mut word);
-    let row = asked_row();
+pub fn correct<R: Env + Files>(
+    rt: &R,
+    console: &Console,
+    names: &[u8],
+    times: &[u64],
+    states: &mut [u8],
+) {
+    let mut word = [0u8; 4096];
+    let n = arg(rt, 4, &mut word);
+    let row = asked_row(rt);
     let o = correct_letters(names.len() / 32, times.len(), states, row, &word[..n]);
-    finish(names, times, states, o);
+    finish(rt, console, names, times, states, o);
 }

@@ -12,8 +12,7 @@ use telling::{Pushed, Queue, Told};
 use update_calls::correcting::correct;
 
 // The new states become a row of the trace, and the answers that can depend on it are written anew.
-#[unsafe(no_mangle)]
-pub extern "C" fn dachsmond_correct(
+pub fn dachsmond_correct(
     rules: Rules,
     names: usize,
     n: usize,
@@ -31,8 +30,7 @@ pub extern "C" fn dachsmond_correct(
 }
 
 // A queue before the first push.
-#[unsafe(no_mangle)]
-pub extern "C" fn dachsmond_empty_queue() -> Queue
+pub fn dachsmond_empty_queue() -> Queue
     ensures { (result.kept ≡ 0) × (result.states ≡ replicate 512 0) × (result.times ≡ replicate 16 0) }
 {
     let states = [0u8; 512];
@@ -45,8 +43,7 @@ pub extern "C" fn dachsmond_empty_queue() -> Queue
 }
 
 // One row more, with its time: its answer, the number tried, the time where its match began, and the queue then.
-#[unsafe(no_mangle)]
-pub extern "C" fn dachsmond_push(
+pub fn dachsmond_push(
     rules: Rules,
     names: usize,
     tree: &[u8],

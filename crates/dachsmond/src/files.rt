@@ -10,8 +10,7 @@ use trace_reader::read::read_trace;
 use trace_writer::write::write_trace;
 
 // Reads a trace file into three lent lists: names in slots, times, states row by row.
-#[unsafe(no_mangle)]
-pub extern "C" fn dachsmond_read_trace(
+pub fn dachsmond_read_trace(
     file: &[u8],
     names: &mut [u8],
     times: &mut [u64],
@@ -24,8 +23,7 @@ pub extern "C" fn dachsmond_read_trace(
 }
 
 // Writes a trace file into a lent buffer.
-#[unsafe(no_mangle)]
-pub extern "C" fn dachsmond_write_trace(
+pub fn dachsmond_write_trace(
     names: &[u8],
     times: &[u64],
     states: &[u8],

@@ -1,5 +1,5 @@
-// The library for C: the public calls under plain names, `include/dachsmond.h` declares them. A call hands on to the
-// crate that has it and tells what came of it in numbers (`telling`). Lent memory is a pointer and a length.
+// The calls of the library for C under plain names; `dachsmond_c` exports them, and `include/dachsmond.h` declares them. A
+// call hands on to the crate that has it and tells what came of it in numbers (`telling`). Lent memory: pointer and length.
 #![tactic(auto)]
 
 pub mod changing;

@@ -14,8 +14,7 @@ use telling::outcomes::tell;
 use telling::{Counted, Matched, Pushed, Queue, Told};
 
 // How many alternatives are handed in, where they are accepted.
-#[unsafe(no_mangle)]
-pub extern "C" fn dachsmond_listed_fits(
+pub fn dachsmond_listed_fits(
     names: usize,
     tree: &[u8],
     steps: &[u8],
@@ -30,8 +29,7 @@ pub extern "C" fn dachsmond_listed_fits(
 }
 
 // Their answer at a row, the number of them tried, and the time where the match began.
-#[unsafe(no_mangle)]
-pub extern "C" fn dachsmond_listed_match_row(
+pub fn dachsmond_listed_match_row(
     rules: Rules,
     names: usize,
     n: usize,
@@ -64,8 +62,7 @@ pub extern "C" fn dachsmond_listed_match_row(
 }
 
 // The same for all rows, into lent lists.
-#[unsafe(no_mangle)]
-pub extern "C" fn dachsmond_listed_match_all(
+pub fn dachsmond_listed_match_all(
     rules: Rules,
     names: usize,
     n: usize,
@@ -93,8 +90,7 @@ pub extern "C" fn dachsmond_listed_match_all(
 }
 
 // How many of the rows answer yes, no and unknown.
-#[unsafe(no_mangle)]
-pub extern "C" fn dachsmond_listed_totals(
+pub fn dachsmond_listed_totals(
     rules: Rules,
     names: usize,
     n: usize,
@@ -113,8 +109,7 @@ pub extern "C" fn dachsmond_listed_totals(
 }
 
 // One row more, with its time: its answer, the number tried, the time where its match began, and the queue then.
-#[unsafe(no_mangle)]
-pub extern "C" fn dachsmond_listed_push(
+pub fn dachsmond_listed_push(
     rules: Rules,
     names: usize,
     tree: &[u8],

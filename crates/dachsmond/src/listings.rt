@@ -14,8 +14,7 @@ use tree_listings::lines::write_totals;
 use tree_listings::listings::list;
 
 // The listing of the answers of a pattern's tree on a trace of n rows.
-#[unsafe(no_mangle)]
-pub extern "C" fn dachsmond_list(
+pub fn dachsmond_list(
     rules: Rules,
     names: usize,
     n: usize,
@@ -32,16 +31,14 @@ pub extern "C" fn dachsmond_list(
 }
 
 // The line of the table's heading.
-#[unsafe(no_mangle)]
-pub extern "C" fn dachsmond_table_heading(out: &mut [u8]) -> Told
+pub fn dachsmond_table_heading(out: &mut [u8]) -> Told
     ensures { Hands (Delivers heading_line out.old out.new) told result }
 {
     tell(write_heading(out))
 }
 
 // The line of a pattern with the totals of its tree on a trace of n rows.
-#[unsafe(no_mangle)]
-pub extern "C" fn dachsmond_table_line(
+pub fn dachsmond_table_line(
     rules: Rules,
     names: usize,
     n: usize,
@@ -58,8 +55,7 @@ pub extern "C" fn dachsmond_table_line(
 }
 
 // The line of a pattern that is refused.
-#[unsafe(no_mangle)]
-pub extern "C" fn dachsmond_table_refused(
+pub fn dachsmond_table_refused(
     pattern: &[u8],
     number: u8,
     place: usize,
@@ -72,8 +68,7 @@ pub extern "C" fn dachsmond_table_refused(
 }
 
 // The line of the sums over so many patterns on a trace of so many events.
-#[unsafe(no_mangle)]
-pub extern "C" fn dachsmond_table_total(
+pub fn dachsmond_table_total(
     yes: u64,
     unknown: u64,
     no: u64,

@@ -14,8 +14,7 @@ use telling::outcomes::tell;
 use telling::{Counted, Matched, Told};
 
 // The answer of a vector expression at a row, the number of its alternatives tried, and the time where the match began.
-#[unsafe(no_mangle)]
-pub extern "C" fn dachsmond_match_row(
+pub fn dachsmond_match_row(
     rules: Rules,
     names: usize,
     n: usize,
@@ -31,8 +30,7 @@ pub extern "C" fn dachsmond_match_row(
 }
 
 // The same for all rows, into lent lists.
-#[unsafe(no_mangle)]
-pub extern "C" fn dachsmond_match_all(
+pub fn dachsmond_match_all(
     rules: Rules,
     names: usize,
     n: usize,
@@ -54,8 +52,7 @@ pub extern "C" fn dachsmond_match_all(
 }
 
 // How many of the rows answer yes, no and unknown.
-#[unsafe(no_mangle)]
-pub extern "C" fn dachsmond_totals(
+pub fn dachsmond_totals(
     rules: Rules,
     names: usize,
     n: usize,
@@ -69,8 +66,7 @@ pub extern "C" fn dachsmond_totals(
 }
 
 // The alternatives of a vector expression, as the rules read it, into four lent lists.
-#[unsafe(no_mangle)]
-pub extern "C" fn dachsmond_rewrite(
+pub fn dachsmond_rewrite(
     rules: Rules,
     names: usize,
     tree: &[u8],
@@ -87,8 +83,7 @@ pub extern "C" fn dachsmond_rewrite(
 }
 
 // A flag for each of its alternatives, 1 where it is contradictory, else 0, into a lent list.
-#[unsafe(no_mangle)]
-pub extern "C" fn dachsmond_contradictions(
+pub fn dachsmond_contradictions(
     rules: Rules,
     names: usize,
     tree: &[u8],

@@ -8,8 +8,7 @@ use telling::Changed;
 use telling::rows::tell_changes;
 
 // The changed variables of a row, bit i for name i, and how many they are.
-#[unsafe(no_mangle)]
-pub extern "C" fn dachsmond_changes_at(names: usize, n: usize, states: &[u8], row: u32) -> Changed
+pub fn dachsmond_changes_at(names: usize, n: usize, states: &[u8], row: u32) -> Changed
     ensures { Hands (RowChanged names n states.now row) told_changes result }
 {
     tell_changes(changes_at(names, n, states, RowNo(row)))

@@ -6,8 +6,7 @@ use alf::Rules;
 use states::rules::old_rules;
 
 // Document 01's rules: X where the choice of a ternary is unknown, and an expression read as it is written.
-#[unsafe(no_mangle)]
-pub extern "C" fn dachsmond_old_rules() -> Rules
+pub fn dachsmond_old_rules() -> Rules
     ensures { result ≡ old_rules_lem }
 {
     old_rules()

@@ -15,8 +15,7 @@ use telling::{Expression, Told};
 use writer::write_expression;
 
 // How many names a list of names holds.
-#[unsafe(no_mangle)]
-pub extern "C" fn dachsmond_check_names(names: &[u8]) -> Told
+pub fn dachsmond_check_names(names: &[u8]) -> Told
     ensures { Hands (Comes (names_order names.now) (λ k. k ≡ length names.now / 32))
         told result }
 {
@@ -24,8 +23,7 @@ pub extern "C" fn dachsmond_check_names(names: &[u8]) -> Told
 }
 
 // The expression that a text is, as a tree over a list of names.
-#[unsafe(no_mangle)]
-pub extern "C" fn dachsmond_read_expression(
+pub fn dachsmond_read_expression(
     rules: Rules,
     names: &[u8],
     text: &[u8],
@@ -38,8 +36,7 @@ pub extern "C" fn dachsmond_read_expression(
 }
 
 // The text of a tree into a lent buffer.
-#[unsafe(no_mangle)]
-pub extern "C" fn dachsmond_write_expression(
+pub fn dachsmond_write_expression(
     names: &[u8],
     tree: &[u8],
     vector: bool,

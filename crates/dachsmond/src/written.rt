@@ -11,8 +11,7 @@ use telling::rows::tell_answer;
 use telling::{Answered, Told};
 
 // The state of a boolean expression at a row, as the count told.
-#[unsafe(no_mangle)]
-pub extern "C" fn dachsmond_row_state(
+pub fn dachsmond_row_state(
     rules: Rules,
     names: usize,
     n: usize,
@@ -26,8 +25,7 @@ pub extern "C" fn dachsmond_row_state(
 }
 
 // Its value.
-#[unsafe(no_mangle)]
-pub extern "C" fn dachsmond_row_value(
+pub fn dachsmond_row_value(
     rules: Rules,
     names: usize,
     n: usize,
@@ -41,8 +39,7 @@ pub extern "C" fn dachsmond_row_value(
 }
 
 // Its values at all rows, into a lent list.
-#[unsafe(no_mangle)]
-pub extern "C" fn dachsmond_values(
+pub fn dachsmond_values(
     rules: Rules,
     names: usize,
     n: usize,
@@ -58,8 +55,7 @@ pub extern "C" fn dachsmond_values(
 }
 
 // The answer of a vector expression at a row, the greatest over the windows that end there.
-#[unsafe(no_mangle)]
-pub extern "C" fn dachsmond_row_answer(
+pub fn dachsmond_row_answer(
     rules: Rules,
     names: usize,
     n: usize,
@@ -74,8 +70,7 @@ pub extern "C" fn dachsmond_row_answer(
 }
 
 // The answer of a vector expression on the window of rows a to b.
-#[unsafe(no_mangle)]
-pub extern "C" fn dachsmond_window_answer(
+pub fn dachsmond_window_answer(
     rules: Rules,
     names: usize,
     n: usize,

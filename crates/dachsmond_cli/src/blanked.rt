@@ -3,16 +3,30 @@
 use crate::Asked;
 use crate::lists::{codes_in, front_states, front_times};
 use blank_command::blank;
+use console::output::Console;
+use std::io::Input;
+use std::rt::{Env, Files};
 use text_parts::parts::front;
 
-fn on_lists(a: Asked, names: &[u8], times: &[u64], states: &mut [u8], k: usize, n: usize) {
+fn on_lists<R: Env + Files + Input>(
+    rt: &R,
+    console: &Console,
+    a: Asked,
+    names: &[u8],
+    times: &[u64],
+    states: &mut [u8],
+    k: usize,
+    n: usize,
+) {
     let l = front(names, codes_in(32, k));
     let t = front_times(times, n);
     let s = front_states(states, codes_in(n, k));
-    blank(a.rules, a.first, l, t, s);
+    blank(rt, console, a.rules, a.first, l, t, s);
 }
 
-pub fn blank_lent(
+pub fn blank_lent<R: Env + Files + Input>(
+    rt: &R,
+    console: &Console,
     a: Asked,
     names: &[u8; 1024],
     times: &[u64; 65535],
@@ -21,6 +35,6 @@ pub fn blank_lent(
     n: usize,
 ) {
     if 0 < k {
-        on_lists(a, names, times, states, k, n);
+        on_lists(rt, console, a, names, times, states, k, n);
     }
 }

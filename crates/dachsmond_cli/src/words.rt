@@ -3,7 +3,7 @@
 use crate::{EQUAL, MAKE};
 use alf::Rules;
 use complaints::unfit;
-use console::output::say;
+use console::output::{Console, say};
 use text_parts::lines::line_of;
 
 // A command's number; the words behind `--version` all ask for help.
@@ -15,7 +15,7 @@ pub fn named(word: &[u8]) -> usize {
 }
 
 // Whether so many words stand behind a command as it expects; where not, it is complained of.
-pub fn expects(c: usize, word: &[u8], more: usize) -> bool {
+pub fn expects(console: &Console, c: usize, word: &[u8], more: usize) -> bool {
     let least = [2usize, 2, 2, 3, 2, 1, 4, 2];
     let most = [usize::MAX, 2, 2, usize::MAX, 2, 1, 4, 2];
     if MAKE < c {
@@ -27,6 +27,7 @@ pub fn expects(c: usize, word: &[u8], more: usize) -> bool {
         }
     }
     unfit(
+        console,
         word,
         b"TRACE PATTERN.. or TRACE -f FILE\nTRACE PATTERN\nTRACE EXPRESSION\n\
           TRACE OUT and PATTERN.., -f FILE or --keep PIN..\nTRACE PATTERN\nTRACE\nTRACE ROW STATES OUT\nTEXT OUT\n",
@@ -35,8 +36,9 @@ pub fn expects(c: usize, word: &[u8], more: usize) -> bool {
     false
 }
 
-pub fn help() {
+pub fn help(console: &Console) {
     say(
+        console,
         b"dachsmond counts how often patterns of pin events occur in a simulation trace.
 
   dachsmond                                the table of a small built-in trace, as a first look

@@ -1,6 +1,7 @@
 -- Document 01's cases 1 to 12, each from its text: cases_stand.
 --   Given, all_given    the text of each case is the text that is written for its expression, so it gives that
 --   stand_all           with the answers that steady_laws computes, each case stands, under any rules
+use Rattle.std.specs.Prelude.{if◌then◌else◌}
 use Prim.Native.Nat.{ℕ, zero, suc, ◌+◌, ◌<◌, ◌≤◌}
 use native.Mathlib.Omega.{arith}
 use mathlib.Core.Path.{◌≡◌, refl, sym, ap, ◌∙◌}
@@ -8,7 +9,7 @@ use mathlib.Core.Bool.{Bool, true, false}
 use mathlib.Core.List.{List, map}
 use lib.ListN.{length, get_or, drop}
 use Rattle.basics.specs.Text.{bytes}
-use Rattle.basics.specs.Words.{if◌then◌else◌, all, greatest_of, sum_of, same}
+use Rattle.basics.specs.Words.{all, greatest_of, sum_of, same}
 use Rattle.basics.proofs.AllEntries.{All, none, more}
 use Rattle.basics.proofs.Bools.{and_left, and_right}
 use Rattle.basics.proofs.Entries.{same_sound}

@@ -1,6 +1,7 @@
 -- Contradictory alternatives of a question's pattern: they are flagged exactly, and never answer yes.
 --   own_is       the alternatives that the calls speak of are the pattern's
 --   flagged, never_yes
+use Rattle.std.specs.Prelude.{if◌then◌else◌}
 use Prim.Native.Nat.{ℕ, ◌+◌, ◌*◌, ◌<◌, ◌≤◌}
 use native.Mathlib.Omega.{arith}
 use mathlib.Core.Path.{◌≡◌, refl, ap, ◌∙◌}
@@ -10,7 +11,6 @@ use mathlib.Core.List.{List, []}
 use lib.ListN.{length, get_or, get_or-eq_default}
 use Rattle.basics.specs.declared.Outcome.{Outcome}
 use Rattle.basics.specs.declared.Outcome.TheVariants as outcome
-use Rattle.basics.specs.Words.{if◌then◌else◌}
 use Rattle.basics.proofs.Bools.{below?}
 use Rattle.alf.specs.Expressions.{name}
 use Rattle.alf.specs.Values.{recorded_or, state, state_at}

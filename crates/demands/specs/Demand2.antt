@@ -4,10 +4,10 @@
 -- file and a pattern's text, and of whatever the calls' contracts allow; so no call on the way is refused.
 --   took_steps    the steps of the alternative that a yes is from
 --   Demand2      of a pattern; Survival and Lists have two of its parts, and Values says it of a boolean expression
-use Rattle.std.specs.Prelude.{ℕ, suc, ◌+◌, ◌-◌, ◌<◌, ◌≤◌, max, ◌≡◌, true, List, [], length, get_or}
+use Rattle.std.specs.Prelude.{ℕ, suc, ◌+◌, ◌-◌, ◌<◌, ◌≤◌, max, ◌≡◌, true, List, [], length, get_or, if◌then◌else◌}
 use Rattle.basics.specs.declared.Outcome.{Outcome}
 use Rattle.basics.specs.declared.Outcome.TheVariants.{Done}
-use Rattle.basics.specs.Words.{if◌then◌else◌, listed}
+use Rattle.basics.specs.Words.{listed}
 use Rattle.alf.specs.declared.Began.TheVariants.{At, Nowhere}
 use Rattle.alf.specs.Values.{state_at}
 use Rattle.alf.specs.Beginnings.{is_given, time_of_lem}

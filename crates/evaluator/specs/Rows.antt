@@ -2,8 +2,7 @@
 --   Within, Filling             a row that is there; n rows, and a list with room for as many values
 --   IsState, Operands           a state's code; an operator's operands
 --   settled_by, state_of, value_of     the state and the value of the expression that ends at a place
-use Rattle.std.specs.Prelude.{ℕ, ◌+◌, ◌*◌, ◌<◌, ◌≤◌, ◌≡◌, List, ltb, length, get_or}
-use Rattle.basics.specs.Words.{if◌then◌else◌}
+use Rattle.std.specs.Prelude.{ℕ, ◌+◌, ◌*◌, ◌<◌, ◌≤◌, ◌≡◌, List, ltb, length, get_or, if◌then◌else◌}
 use Rattle.alf.specs.declared.Rules.{Rules}
 use Rattle.alf.specs.States.{reduce}
 use Rattle.alf.specs.Values.{state_at, value_at}

@@ -1,11 +1,11 @@
 -- The state and the value of a boolean expression are codes of states, where the recorded states are: value_code.
+use Rattle.std.specs.Prelude.{if◌then◌else◌}
 use Prim.Native.Nat.{ℕ, ◌<◌}
 use native.Mathlib.Omega.{arith}
 use mathlib.Core.Path.{◌≡◌, refl}
 use mathlib.Core.Bool.{Bool, true, false, ◌&&◌}
 use lib.Dec.{eqb}
 use borrow.Author.Tests.{ltb-true}
-use Rattle.basics.specs.Words.{if◌then◌else◌}
 use Rattle.alf.specs.declared.Rules.{Rules}
 use Rattle.alf.specs.States.{reduce, rank, ranked, not_of_lem, and_of, or_of, xor_of, xnor_of, relations, at_least, at_most}
 use Rattle.alf.specs.States.{table, among, matches, in_cells, in_lines}

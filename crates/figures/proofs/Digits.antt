@@ -6,6 +6,7 @@
 --   decimal-read               the digits, read, are the number
 --   decimal_first              the first is a 0 only where the number is 0
 --   decimal_short, word_short  a number of 64 bits, of 32 bits, has at most 20
+use Rattle.std.specs.Prelude.{if◌then◌else◌}
 use Prim.Native.Nat.{ℕ, zero, suc, ◌+◌, ◌-◌, ◌*◌, ◌/◌, ◌%◌, ◌^◌, ◌<◌, ◌≤◌}
 use native.Mathlib.Nat.{pow-suc}
 use native.Mathlib.Omega.{arith}
@@ -18,7 +19,6 @@ use mir.Syntax.{w64}
 use mathlib.Core.Bool.{Bool, true, false}
 use lib.Dec.{ltb}
 use borrow.Author.Tests.{lt-ltb, le-ltb}
-use Rattle.basics.specs.Words.{if◌then◌else◌}
 use Rattle.basics.proofs.Bools.{below?}
 use Rattle.figures.specs.Numbers.{digits, width_up_to, width, decimal, reading}
 

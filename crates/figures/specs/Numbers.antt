@@ -4,8 +4,7 @@
 --   decimal    as many as it needs
 --   reading    the number that digits are
 -- That these digits are the number, if it is below 10^21, and that the first is no needless 0, is a law.
-use Rattle.std.specs.Prelude.{ℕ, zero, suc, ◌+◌, ◌-◌, ◌*◌, ◌/◌, ◌%◌, List, [], ◌∷◌, ◌++◌, ltb}
-use Rattle.basics.specs.Words.{if◌then◌else◌}
+use Rattle.std.specs.Prelude.{ℕ, zero, suc, ◌+◌, ◌-◌, ◌*◌, ◌/◌, ◌%◌, List, [], ◌∷◌, ◌++◌, ltb, if◌then◌else◌}
 
 -- the last k digits of a number; 48 is `0`
 unfoldable pub digits : ℕ → ℕ → List ℕ

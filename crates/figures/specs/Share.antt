@@ -3,8 +3,7 @@
 --   with_point     with a point before the last six digits
 --   share         the text
 -- That this is rounding half up is a law.
-use Rattle.std.specs.Prelude.{ℕ, ◌+◌, ◌-◌, ◌*◌, ◌/◌, List, [], ◌∷◌, ◌++◌, eqb}
-use Rattle.basics.specs.Words.{if◌then◌else◌}
+use Rattle.std.specs.Prelude.{ℕ, ◌+◌, ◌-◌, ◌*◌, ◌/◌, List, [], ◌∷◌, ◌++◌, eqb, if◌then◌else◌}
 use Rattle.figures.specs.Numbers.{digits, decimal}
 
 -- yeses / events in millionths, and a half more, rounded down

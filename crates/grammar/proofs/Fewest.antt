@@ -1,5 +1,6 @@
 -- A tree's text has the fewest brackets of all its texts (written_fewest), so leaving out a pair gives another tree or
 -- none; and its counted tokens are its nodes (counted_nodes).
+use Rattle.std.specs.Prelude.{if◌then◌else◌}
 use Prim.Native.Nat.{ℕ, suc, ◌+◌, ◌≤◌}
 use native.Mathlib.Omega.{arith}
 use mathlib.Core.Path.{◌≡◌, refl, ap, ◌∙◌}
@@ -7,7 +8,6 @@ use mathlib.Core.Bool.{Bool, true, false}
 use mathlib.Core.List.{List, [], ◌∷◌, ◌++◌}
 use lib.Dec.{leb}
 use lib.ListN.{length, length-append}
-use Rattle.basics.specs.Words.{if◌then◌else◌}
 use Rattle.grammar.specs.declared.Token.{Token}
 use Rattle.grammar.specs.Tokens.{kind_of, weight, counted}
 use Rattle.grammar.specs.Grammar.{Tree, leaf, one, two, three, nodes}

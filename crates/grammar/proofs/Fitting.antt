@@ -1,12 +1,12 @@
 -- A pair of brackets more, where level l is asked for and level m is weaker: laws of `deepened`, for how many pairs
 -- there are and for how deep they open. Main names: deepened_open, deepened_more, deepened_plain, deepened_less.
+use Rattle.std.specs.Prelude.{if◌then◌else◌}
 use Prim.Native.Nat.{ℕ, suc, ◌≤◌}
 use native.Mathlib.Omega.{arith}
 use mathlib.Core.Path.{◌≡◌, refl}
 use mathlib.Core.Bool.{Bool, true, false}
 use lib.Dec.{leb}
 use borrow.Author.Tests.{le-leb, leb-true}
-use Rattle.basics.specs.Words.{if◌then◌else◌}
 use Rattle.grammar.specs.Written.{deepened}
 
 pub deepened_open : (l m n : ℕ) → deepened l m n ≤ suc n

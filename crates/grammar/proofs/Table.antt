@@ -1,12 +1,13 @@
 -- Laws of the operator table. Main names: kind-all (what passes a test for each span passes it for each code),
 -- binary_level_lem (a binary operator's level is 2 to 5).
+use Rattle.std.specs.Prelude.{if◌then◌else◌}
 use Prim.Native.Nat.{ℕ, ◌<◌}
 use mathlib.Core.Path.{◌≡◌, refl, ap, sym, ◌∙◌}
 use mathlib.Core.Bool.{Bool, true, false, ◌&&◌}
 use mathlib.Core.List.{List, [], ◌∷◌}
 use lib.Dec.{leb, ltb}
 use borrow.Author.Tests.{ltb-true}
-use Rattle.basics.specs.Words.{if◌then◌else◌, all}
+use Rattle.basics.specs.Words.{all}
 use Rattle.basics.proofs.Bools.{and_left, and_right}
 use Rattle.grammar.specs.Tokens.{Kind, operand, prefix, question, colon, opening, closing, other, binary, Span}
 use Rattle.grammar.specs.Tokens.{table, kind_in, kind}

@@ -1,5 +1,6 @@
 -- A tree's text parses back to the tree, and texts give no other trees. Main names: written_parses, written_expression,
 -- expression_formed.
+use Rattle.std.specs.Prelude.{if◌then◌else◌}
 use Prim.Native.Nat.{ℕ, zero, suc, pred, ◌≤◌}
 use native.Mathlib.Omega.{arith}
 use mathlib.Core.Path.{◌≡◌, refl, ap, subst}
@@ -7,7 +8,6 @@ use mathlib.Core.Bool.{Bool, true, false}
 use mathlib.Core.List.{List, [], ◌∷◌, ◌++◌, append_assoc, append-nil}
 use lib.Dec.{leb, lit≤}
 use borrow.Author.Tests.{leb-true, leb-false}
-use Rattle.basics.specs.Words.{if◌then◌else◌}
 use Rattle.grammar.specs.declared.Token.{Token}
 use Rattle.grammar.specs.Tokens.{Kind, question, colon, opening, closing, binary}
 use Rattle.grammar.specs.Tokens.{table, kind_in, kind, kind_of}

@@ -5,8 +5,7 @@
 --   padded, codes_of, places_of        lists of 256 entries; the codes and the places of tokens
 --   accepted, refused_at, Answer      the answer
 --   Stuck, Rising                    refusal 5 by places; tokens that begin one before the other
-use Rattle.std.specs.Prelude.{ℕ, ◌≤◌, ◌<◌, ◌≡◌, true, false, List, [], ◌∷◌, ◌++◌, map, ltb, length, get_or, take, replicate}
-use Rattle.basics.specs.Words.{if◌then◌else◌}
+use Rattle.std.specs.Prelude.{ℕ, ◌≤◌, ◌<◌, ◌≡◌, true, false, List, [], ◌∷◌, ◌++◌, map, ltb, length, get_or, take, replicate, if◌then◌else◌}
 use Rattle.basics.specs.Memory.{front}
 use Rattle.grammar.specs.declared.Token.{Token}
 use Rattle.grammar.specs.declared.Parsed.{Parsed}

@@ -5,8 +5,7 @@
 --   kind_in, kind, kind_of, ahead the kind of a code by a table, of a code, of a token, of what comes next
 --   weight, counted             which tokens are counted, and how many
 --   tokens                      the tokens that two lists hold
-use Rattle.std.specs.Prelude.{ℕ, ◌+◌, ◌&&◌, List, [], ◌∷◌, leb}
-use Rattle.basics.specs.Words.{if◌then◌else◌}
+use Rattle.std.specs.Prelude.{ℕ, ◌+◌, ◌&&◌, List, [], ◌∷◌, leb, if◌then◌else◌}
 use Rattle.grammar.specs.declared.Token.{Token}
 
 -- an operand by itself; an operator before its operand; an operator between two, of a level; `?`, `:`, `(`, `)`

@@ -3,8 +3,7 @@
 --   ahead_v, nothing, head, head_v, tail    what comes next, and what follows it
 --   past, push, halt, eaten           a single step each
 --   Does, Ends                        what reading an expression of a level, and a whole text, comes to
-use Rattle.std.specs.Prelude.{ℕ, ◌<◌, ◌≡◌, List, [], ◌∷◌, ◌++◌, eqb}
-use Rattle.basics.specs.Words.{if◌then◌else◌}
+use Rattle.std.specs.Prelude.{ℕ, ◌<◌, ◌≡◌, List, [], ◌∷◌, ◌++◌, eqb, if◌then◌else◌}
 use Rattle.grammar.specs.declared.Token.{Token}
 use Rattle.grammar.specs.Tokens.{Kind, other, ahead}
 use Rattle.grammar.specs.Grammar.{Tree, nodes, Parses, Refused, Expression}

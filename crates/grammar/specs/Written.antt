@@ -6,8 +6,7 @@
 --   opens, brackets               how many brackets open
 --   opened, depth                 how deep they open
 --   deepened, depth_of             the same from the tree alone
-use Rattle.std.specs.Prelude.{ℕ, suc, pred, ◌+◌, max, ◌≡◌, List, [], ◌∷◌, ◌++◌, leb}
-use Rattle.basics.specs.Words.{if◌then◌else◌}
+use Rattle.std.specs.Prelude.{ℕ, suc, pred, ◌+◌, max, ◌≡◌, List, [], ◌∷◌, ◌++◌, leb, if◌then◌else◌}
 use Rattle.grammar.specs.declared.Token.{Token}
 use Rattle.grammar.specs.Tokens.{Kind, operand, prefix, question, colon, opening, closing}
 use Rattle.grammar.specs.Tokens.{other, binary, kind_of}

@@ -1,7 +1,6 @@
 // The grammar of document 01, as definitions and laws. The functions that read by it are the parser's.
 #![tactic(auto)]
 
-
 // What a token is, by its code, and the byte where it begins.
 #[derive(Clone, Copy)]
 pub struct Token {

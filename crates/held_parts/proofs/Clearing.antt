@@ -3,6 +3,7 @@
 --   cleared_then, cleared_as       one test after another; another test that says the same
 --   ending_first, ending_next, ending_last     the windows that end at a row, from one first row after another
 --   moving_first, moving_next, staying_next, moving_last     those that end at a row where a list moves, row after row
+use Rattle.std.specs.Prelude.{if◌then◌else◌}
 use Prim.Native.Nat.{ℕ, ◌+◌, ◌-◌, ◌*◌, ◌<◌, ◌≤◌}
 use native.Mathlib.Omega.{arith}
 use mathlib.Core.Path.{◌≡◌, refl, sym, ◌∙◌}
@@ -13,7 +14,6 @@ use lib.Dec.{eqb, ltb}
 use lib.ListN.{length, set, length-set}
 use lib.Seq.{get_or-set_same, get_or-set_other}
 use borrow.Author.Tests.{lt-ltb, le-ltb, eq-eqb, ne_eqb}
-use Rattle.basics.specs.Words.{if◌then◌else◌}
 use Rattle.basics.proofs.Bools.{below?, equal?}
 use Rattle.answer_table.specs.Tables.{entry, stored}
 use Rattle.held_parts.specs.Holding.{Cleared, ends_at, list_moves}

@@ -5,6 +5,7 @@
 --   full_exactly                      full where one of the four is not, and only there
 --   full_told, added_told             a pattern that is counted
 --   counted_told, refused_told        any pattern
+use Rattle.std.specs.Prelude.{if◌then◌else◌}
 use Prim.Native.Nat.{ℕ, ◌+◌, ◌-◌, ◌<◌, ◌≤◌}
 use native.Mathlib.Omega.{arith}
 use mathlib.Core.Path.{◌≡◌, refl, sym, ◌∙◌}
@@ -13,7 +14,6 @@ use mathlib.Core.Logic.{◌⊎◌, inl, inr}
 use lib.Dec.{ltb, leb}
 use borrow.Author.Tests.{ltb-true, lt-ltb, le-ltb, le-leb, lt-leb, not-true, not-false}
 use Rattle.basics.specs.declared.Refusal.{Refusal}
-use Rattle.basics.specs.Words.{if◌then◌else◌}
 use Rattle.basics.proofs.Bools.{below?, and_left, and_right}
 use Rattle.matcher.specs.declared.tables.Total.{Total}
 use Rattle.matching_calls.specs.declared.matching.Counting.{Counting}

@@ -3,6 +3,7 @@
 --   never_full          fewer than 2^48 patterns, each with totals of at most 65,534 rows, are never full
 --   counted_modest      what is counted of a text has such totals
 --   table_never_full    so no table of fewer than 2^48 patterns on one trace is ever full
+use Rattle.std.specs.Prelude.{if◌then◌else◌}
 use Prim.Native.Nat.{ℕ, suc, ◌+◌, ◌*◌, ◌^◌, ◌<◌}
 use native.Mathlib.Omega.{arith}
 use mathlib.Core.Path.{◌≡◌, refl, sym, ap, ◌∙◌}
@@ -13,7 +14,7 @@ use borrow.Author.Tests.{lt-ltb}
 use Rattle.alf.specs.declared.Rules.{Rules}
 use Rattle.alf.specs.Names.{names_in}
 use Rattle.basics.specs.declared.Refusal.{Refusal}
-use Rattle.basics.specs.Words.{if◌then◌else◌, sum_of}
+use Rattle.basics.specs.Words.{sum_of}
 use Rattle.alf.specs.Values.{state_at}
 use Rattle.alf.specs.Steady.{meant}
 use Rattle.basics.proofs.AllEntries.{All, none, more, all_weaken}

@@ -7,8 +7,8 @@
 --   Modest                                a pattern's totals, each of at most 65,534 rows
 --   CountedOn                             what is counted of some text on a trace
 -- That added_all comes to sums_of, and what full means, are laws.
-use Rattle.std.specs.Prelude.{ℕ, ◌+◌, ◌-◌, ◌^◌, ◌≤◌, Bool, ◌&&◌, List, [], ◌∷◌, ltb}
-use Rattle.basics.specs.Words.{if◌then◌else◌, sum_of}
+use Rattle.std.specs.Prelude.{ℕ, ◌+◌, ◌-◌, ◌^◌, ◌≤◌, Bool, ◌&&◌, List, [], ◌∷◌, ltb, if◌then◌else◌}
+use Rattle.basics.specs.Words.{sum_of}
 use Rattle.matcher.specs.declared.tables.Total.{Total}
 use Rattle.matching_calls.specs.declared.matching.Counting.{Counting}
 use Rattle.matching_calls.specs.declared.matching.Counting.TheVariants.{Counted, Refused}

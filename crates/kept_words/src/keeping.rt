@@ -3,53 +3,68 @@ use alf::{Rules, Sort};
 use basics::Outcome;
 use basics::refusing::refusal_of;
 use complaints::refused_text;
+use console::output::Console;
 use kept_texts::keeping::keep_text;
 use loading::files::Filled;
 use loading::patterns::fill_patterns;
 use names::is_name;
+use std::io::Input;
+use std::rt::Files;
 use text_parts::lines::{behind_line, is_blank, kept as kept_bytes, line_at};
 use text_parts::parts::front;
 
 // A text that is refused is complained of as `table` does it.
-fn is_done(what: &[u8], text: &[u8], o: Outcome) -> bool {
+fn is_done(console: &Console, what: &[u8], text: &[u8], o: Outcome) -> bool {
     match o {
         Outcome::Done(_) => true,
         Outcome::Refused(r) => {
-            refused_text(what, text, r);
+            refused_text(console, what, text, r);
             false
         }
     }
 }
 
-pub fn keep_pattern(rules: Rules, names: &[u8], text: &[u8], kept: &mut [u8]) -> bool {
+pub fn keep_pattern(
+    console: &Console,
+    rules: Rules,
+    names: &[u8],
+    text: &[u8],
+    kept: &mut [u8],
+) -> bool {
     let o = keep_text(rules, names, text, Sort::Vector, kept);
-    is_done(b"pattern", text, o)
+    is_done(console, b"pattern", text, o)
 }
 
 // A pin by its name: a boolean expression that is this name and nothing else.
-pub fn keep_pin(rules: Rules, names: &[u8], word: &[u8], kept: &mut [u8]) -> bool {
+pub fn keep_pin(
+    console: &Console,
+    rules: Rules,
+    names: &[u8],
+    word: &[u8],
+    kept: &mut [u8],
+) -> bool {
     if !is_name(word) {
-        refused_text(b"pin", word, refusal_of(12, 0));
+        refused_text(console, b"pin", word, refusal_of(12, 0));
         return false;
     }
     let o = keep_text(rules, names, word, Sort::Boolean, kept);
-    is_done(b"pin", word, o)
+    is_done(console, b"pin", word, o)
 }
 
 // A line; a blank one is none.
-fn keep_line(rules: Rules, names: &[u8], text: &[u8], kept: &mut [u8]) -> bool {
+fn keep_line(console: &Console, rules: Rules, names: &[u8], text: &[u8], kept: &mut [u8]) -> bool {
     if is_blank(text) {
         return true;
     }
-    keep_pattern(rules, names, front(text, kept_bytes(text)), kept)
+    keep_pattern(console, rules, names, front(text, kept_bytes(text)), kept)
 }
 
 // All lines of a text.
-fn keep_lines(rules: Rules, names: &[u8], text: &[u8], kept: &mut [u8]) -> bool {
+fn keep_lines(console: &Console, rules: Rules, names: &[u8], text: &[u8], kept: &mut [u8]) -> bool {
     let mut good = true;
     let mut at: usize = 0;
     while at < text.len() {
-        let done = keep_line(rules, names, line_at(text, at), kept);
+        let done = keep_line(console, rules, names, line_at(text, at), kept);
         if !done {
             good = false;
         }
@@ -58,26 +73,43 @@ fn keep_lines(rules: Rules, names: &[u8], text: &[u8], kept: &mut [u8]) -> bool 
     good
 }
 
-fn keep_filled(rules: Rules, names: &[u8], path: &[u8], data: &mut [u8], kept: &mut [u8]) -> bool {
-    let filled = fill_patterns(path, data);
+fn keep_filled<R: Files + Input>(
+    rt: &R,
+    console: &Console,
+    rules: Rules,
+    names: &[u8],
+    path: &[u8],
+    data: &mut [u8],
+    kept: &mut [u8],
+) -> bool {
+    let filled = fill_patterns(rt, console, path, data);
     match filled {
         Filled::Failed => false,
-        Filled::Bytes(m) => keep_lines(rules, names, front(data, m), kept),
+        Filled::Bytes(m) => keep_lines(console, rules, names, front(data, m), kept),
     }
 }
 
-fn keep_lent(
+fn keep_lent<R: Files + Input>(
+    rt: &R,
+    console: &Console,
     rules: Rules,
     names: &[u8],
     path: &[u8],
     data: &mut [u8; 1048577],
     kept: &mut [u8],
 ) -> bool {
-    keep_filled(rules, names, path, data, kept)
+    keep_filled(rt, console, rules, names, path, data, kept)
 }
 
 // The patterns of a file, one a line. The room is one byte more than a file may have.
-pub fn keep_file(rules: Rules, names: &[u8], path: &[u8], kept: &mut [u8]) -> bool {
+pub fn keep_file<R: Files + Input>(
+    rt: &R,
+    console: &Console,
+    rules: Rules,
+    names: &[u8],
+    path: &[u8],
+    kept: &mut [u8],
+) -> bool {
     let mut data = [0u8; 1048577];
-    keep_lent(rules, names, path, &mut data, kept)
+    keep_lent(rt, console, rules, names, path, &mut data, kept)
 }

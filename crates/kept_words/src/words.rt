@@ -2,7 +2,10 @@
 use crate::keeping::{keep_file, keep_pattern, keep_pin};
 use alf::Rules;
 use complaints::unfit;
-use loading::files::take_argument;
+use console::output::Console;
+use loading::arguments::{arg_count, take_argument};
+use std::io::Input;
+use std::rt::{Env, Files};
 use text_parts::lines::line_of;
 
 // What the next word is: a pattern; a file; the first pin behind `--keep`; a further pin. The first word behind an
@@ -34,11 +37,19 @@ fn option(kind: usize, word: &[u8]) -> usize {
 }
 
 // What is kept of a word that is no option.
-fn keep_word(rules: Rules, names: &[u8], kind: usize, word: &[u8], kept: &mut [u8]) -> bool {
+fn keep_word<R: Files + Input>(
+    rt: &R,
+    console: &Console,
+    rules: Rules,
+    names: &[u8],
+    kind: usize,
+    word: &[u8],
+    kept: &mut [u8],
+) -> bool {
     match kind {
-        FILE => keep_file(rules, names, word, kept),
-        PIN | MORE => keep_pin(rules, names, word, kept),
-        _ => keep_pattern(rules, names, word, kept),
+        FILE => keep_file(rt, console, rules, names, word, kept),
+        PIN | MORE => keep_pin(console, rules, names, word, kept),
+        _ => keep_pattern(console, rules, names, word, kept),
     }
 }
 
@@ -50,7 +61,15 @@ fn behind(kind: usize) -> usize {
     }
 }
 
-fn take_word(rules: Rules, names: &[u8], w: Way, word: &[u8], kept: &mut [u8]) -> Way {
+fn take_word<R: Files + Input>(
+    rt: &R,
+    console: &Console,
+    rules: Rules,
+    names: &[u8],
+    w: Way,
+    word: &[u8],
+    kept: &mut [u8],
+) -> Way {
     let kind = w.kind;
     let good = w.good;
     let o = option(kind, word);
@@ -60,7 +79,7 @@ fn take_word(rules: Rules, names: &[u8], w: Way, word: &[u8], kept: &mut [u8]) -
     if o == 1 {
         return Way { kind: PIN, good };
     }
-    let done = keep_word(rules, names, kind, word, kept);
+    let done = keep_word(rt, console, rules, names, kind, word, kept);
     if done {
         return Way {
             kind: behind(kind),
@@ -74,20 +93,28 @@ fn take_word(rules: Rules, names: &[u8], w: Way, word: &[u8], kept: &mut [u8]) -
 }
 
 // Argument i.
-fn take(rules: Rules, names: &[u8], w: Way, i: usize, kept: &mut [u8]) -> Way {
-    let mut text = io::large_buffer();
-    let m = take_argument(i, &mut text);
-    take_word(rules, names, w, &text[..m], kept)
+fn take<R: Env + Files + Input>(
+    rt: &R,
+    console: &Console,
+    rules: Rules,
+    names: &[u8],
+    w: Way,
+    i: usize,
+    kept: &mut [u8],
+) -> Way {
+    let mut text = [0u8; 65536];
+    let m = take_argument(rt, i, &mut text);
+    take_word(rt, console, rules, names, w, &text[..m], kept)
 }
 
 // An option with nothing behind it is complained of.
-fn finish(w: Way) -> bool {
+fn finish(console: &Console, w: Way) -> bool {
     if w.kind == FILE {
-        unfit(b"blank: -f", b"FILE", 0);
+        unfit(console, b"blank: -f", b"FILE", 0);
         return false;
     }
     if w.kind == PIN {
-        unfit(b"blank: --keep", b"PIN..", 0);
+        unfit(console, b"blank: --keep", b"PIN..", 0);
         return false;
     }
     w.good
@@ -102,16 +129,23 @@ fn next(i: usize) -> usize {
 }
 
 // All words behind argument `out`; whether nothing was complained of.
-pub fn keep_words(rules: Rules, out: usize, names: &[u8], kept: &mut [u8]) -> bool {
-    let count = os::arg_count();
+pub fn keep_words<R: Env + Files + Input>(
+    rt: &R,
+    console: &Console,
+    rules: Rules,
+    out: usize,
+    names: &[u8],
+    kept: &mut [u8],
+) -> bool {
+    let count = arg_count(rt);
     let mut kind = PATTERN;
     let mut good = true;
     let mut i = next(out);
     while i < count {
-        let w = take(rules, names, Way { kind, good }, i, kept);
+        let w = take(rt, console, rules, names, Way { kind, good }, i, kept);
         kind = w.kind;
         good = w.good;
         i += 1;
     }
-    finish(Way { kind, good })
+    finish(console, Way { kind, good })
 }

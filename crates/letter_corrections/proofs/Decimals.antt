@@ -3,6 +3,7 @@
 --   going_first, going_next, going_end      digit by digit
 --   no_digit, gone_small, gone_large        one step of the code
 --   number_read     what is written as a row number is read as it
+use Rattle.std.specs.Prelude.{if◌then◌else◌}
 use Prim.Native.Nat.{ℕ, zero, suc, ◌+◌, ◌-◌, ◌*◌, ◌/◌, ◌%◌, ◌<◌, ◌≤◌, min}
 use native.Mathlib.Omega.{arith}
 use native.Mathlib.Numerals.{add-one}
@@ -14,7 +15,7 @@ use lib.ListN.{length, get_or, drop, drop_of_length-le}
 use lib.Dec.{leb}
 use lib.Seq.{drop-cons}
 use borrow.Author.Tests.{le-leb, lt-leb}
-use Rattle.basics.specs.Words.{if◌then◌else◌, all}
+use Rattle.basics.specs.Words.{all}
 use Rattle.alf.specs.Names.{is_decimal}
 use Rattle.basics.proofs.Bools.{below?, and_left, and_right}
 use Rattle.figures.specs.Numbers.{digits, width, decimal}

@@ -3,8 +3,8 @@
 -- to ten times what stands before it. gone_on is one step of it, and stays at 65,536.
 --   row_number    the number
 --   gone_on       one digit more
-use Rattle.std.specs.Prelude.{ℕ, ◌+◌, ◌-◌, ◌*◌, min, List, [], ◌∷◌}
-use Rattle.basics.specs.Words.{if◌then◌else◌, all}
+use Rattle.std.specs.Prelude.{ℕ, ◌+◌, ◌-◌, ◌*◌, min, List, [], ◌∷◌, if◌then◌else◌}
+use Rattle.basics.specs.Words.{all}
 use Rattle.alf.specs.Names.{is_decimal}
 use Rattle.figures.specs.Numbers.{reading}
 

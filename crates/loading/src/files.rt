@@ -1,84 +1,95 @@
-// Files and arguments: a file by its name, `-` for standard input; an argument of any length by its front.
-ghost use Rattle.std.specs.Prelude.{◌≤◌, length};
-ghost use Rattle.io.specs.Counts.{IsPrefixLen};
+// A file by its name, `-` for standard input.
+ghost use Rattle.std.specs.Prelude.{◌≤◌, IfOk, length};
 
-use console::output::{complain, failed, note};
+use console::output::{CLOSED, Console, complain, failed, is_of_closed, note, unnamed};
+use std::fs::File;
+use std::io::{Error, Input, Read};
+use std::rt::Files;
+use std::{io, str};
 
-fn open(path: &[u8]) -> i32 {
-    if check::same(path, b"-") {
-        return 0;
-    }
-    os::open_read(path)
-}
-
-// What was read, to the end of the input or as much as there is room; or a read failed, and errno says why.
+// What was read, to the end of the input or as much as there is room; or a read failed, and that was complained of.
 #[derive(Clone, Copy)]
 pub enum Filled {
     Bytes(usize),
     Failed,
 }
 
-// One read behind the first `at` bytes: how many there are then, or more than there is room where it fails.
-fn read_on(fd: i32, buf: &mut [u8], at: usize) -> usize
+// One read behind the first `at` bytes: how many there are then.
+fn read_on<F: Read>(file: &mut F, buf: &mut [u8], at: usize) -> io::Result<usize>
     requires { at ≤ length buf.old }
+    ensures { IfOk result (λ n. (at ≤ n) × (n ≤ length buf.new)) }
 {
     let part = &mut buf[at..];
-    let got = libc::read(fd, part);
-    if got < 0 {
-        return usize::MAX;
-    }
-    at + io::count(got, part)
+    let got = file.read(part)?;
+    Ok(at + got)
 }
 
-fn read_all(fd: i32, buf: &mut [u8]) -> Filled {
+fn read_all<F: Read>(file: &mut F, buf: &mut [u8]) -> io::Result<usize> {
     let mut done: usize = 0;
     while done < buf.len() {
-        let next = read_on(fd, buf, done);
-        if buf.len() < next {
-            return Filled::Failed;
-        }
+        let next = read_on(file, buf, done)?;
         if next <= done {
-            return Filled::Bytes(done);
+            return Ok(done);
         }
         done = next;
     }
-    Filled::Bytes(done)
+    Ok(done)
 }
 
-// Why a file was not read. Standard input is closed once it was read.
-fn unread(path: &[u8]) {
-    if os::errno() == libc::EBADF {
-        complain();
-        note(path);
-        note(b": standard input is closed, or was read already\n");
+// Why a file was not read. Standard input is read once.
+fn unread(console: &Console, path: &[u8], e: &Error) {
+    if is_of_closed(e) {
+        complain(console);
+        note(console, path);
+        note(
+            console,
+            b": standard input is closed, or was read already\n",
+        );
         return;
     }
-    failed(path);
+    failed(console, path, e);
+}
+
+fn bytes_or_complaint(console: &Console, path: &[u8], read: io::Result<usize>) -> Filled {
+    match read {
+        Ok(n) => Filled::Bytes(n),
+        Err(e) => {
+            unread(console, path, &e);
+            Filled::Failed
+        }
+    }
+}
+
+fn read_input<R: Input>(rt: &R, console: &Console, buf: &mut [u8]) -> io::Result<usize> {
+    if !console.takes_input() {
+        return Err(Error::from_raw_os_error(CLOSED));
+    }
+    let mut input = rt.reader();
+    read_all(&mut input, buf)
+}
+
+// What cannot be opened is complained of.
+fn fill_named<R: Files>(rt: &R, console: &Console, name: &str, buf: &mut [u8]) -> Filled {
+    let path = name.as_bytes();
+    match File::open(rt, name) {
+        Ok(mut file) => bytes_or_complaint(console, path, read_all(&mut file, buf)),
+        Err(e) => {
+            failed(console, path, &e);
+            Filled::Failed
+        }
+    }
 }
 
 // The file of this name, as far as there is room; what cannot be opened or read is complained of.
-pub fn fill(path: &[u8], buf: &mut [u8]) -> Filled {
-    let fd = open(path);
-    if fd < 0 {
-        failed(path);
-        return Filled::Failed;
+pub fn fill<R: Files + Input>(rt: &R, console: &Console, path: &[u8], buf: &mut [u8]) -> Filled {
+    if check::same(path, b"-") {
+        return bytes_or_complaint(console, path, read_input(rt, console, buf));
     }
-    let filled = read_all(fd, buf);
-    match filled {
-        Filled::Failed => unread(path),
-        Filled::Bytes(_) => {}
+    match str::from_utf8(path) {
+        Ok(name) => fill_named(rt, console, name, buf),
+        Err(_) => {
+            unnamed(console, path);
+            Filled::Failed
+        }
     }
-    libc::close(fd);
-    filled
-}
-
-// Argument i; of one over 65,536 bytes the front, which is refused as the whole would be.
-pub fn take_argument(i: usize, text: &mut [u8; 65536]) -> usize
-    ensures { IsPrefixLen result text.new }
-{
-    let n = os::arg(i, text);
-    if os::errno() == libc::ENAMETOOLONG {
-        return io::count(65536, text);
-    }
-    n
 }

@@ -2,6 +2,7 @@
 // end; no contract can say what is read.
 #![tactic(auto)]
 
+pub mod arguments;
 pub mod files;
 pub mod patterns;
 pub mod traces;

@@ -1,7 +1,10 @@
 // The trace that an argument names, read into lists of the caller's.
+use crate::arguments::path_argument;
 use crate::files::{Filled, fill};
 use complaints::refused;
-use console::output::failed;
+use console::output::Console;
+use std::io::Input;
+use std::rt::{Env, Files};
 use text_parts::parts::front;
 use trace_reader::Reading;
 use trace_reader::read::read_trace;
@@ -19,6 +22,7 @@ pub fn nothing() -> Loaded {
 }
 
 fn parse(
+    console: &Console,
     path: &[u8],
     file: &[u8],
     names: &mut [u8; 1024],
@@ -29,50 +33,64 @@ fn parse(
     match r {
         Reading::Read { names, rows } => Loaded { names, rows },
         Reading::Refused(f) => {
-            refused(path, f);
+            refused(console, path, f);
             nothing()
         }
     }
 }
 
 // A trace file is read into a buffer of one byte more than the longest has.
-fn load_into(
+fn load_into<R: Files + Input>(
+    rt: &R,
+    console: &Console,
     path: &[u8],
     data: &mut [u8],
     names: &mut [u8; 1024],
     times: &mut [u64; 65535],
     states: &mut [u8; 2097120],
 ) -> Loaded {
-    let filled = fill(path, data);
+    let filled = fill(rt, console, path, data);
     match filled {
         Filled::Failed => nothing(),
-        Filled::Bytes(n) => parse(path, front(data, n), names, times, states),
+        Filled::Bytes(n) => parse(console, path, front(data, n), names, times, states),
     }
 }
 
-fn load_lent(
+fn load_lent<R: Files + Input>(
+    rt: &R,
+    console: &Console,
     path: &[u8],
     data: &mut [u8; 2753597],
     names: &mut [u8; 1024],
     times: &mut [u64; 65535],
     states: &mut [u8; 2097120],
 ) -> Loaded {
-    load_into(path, data, names, times, states)
+    load_into(rt, console, path, data, names, times, states)
 }
 
 // The trace that argument i names.
-pub fn load(
+pub fn load<R: Env + Files + Input>(
+    rt: &R,
+    console: &Console,
     i: usize,
     names: &mut [u8; 1024],
     times: &mut [u64; 65535],
     states: &mut [u8; 2097120],
 ) -> Loaded {
-    let mut path = io::buffer();
-    let length = os::arg(i, &mut path);
-    if os::errno() != 0 {
-        failed(b"the trace's name");
-        return nothing();
+    let mut path = [0u8; 4096];
+    match path_argument(rt, console, i, b"the trace's name", &mut path) {
+        Some(length) => {
+            let mut data = [0u8; 2753597];
+            load_lent(
+                rt,
+                console,
+                &path[..length],
+                &mut data,
+                names,
+                times,
+                states,
+            )
+        }
+        None => nothing(),
     }
-    let mut data = [0u8; 2753597];
-    load_lent(&path[..length], &mut data, names, times, states)
 }

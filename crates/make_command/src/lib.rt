@@ -8,9 +8,12 @@ mod spots;
 use crate::spots::spot_of;
 use basics::Refusal;
 use complaints::in_lines::refused_in_line;
-use console::output::{complain, failed, note};
+use console::output::{Console, complain, note};
+use loading::arguments::path_argument;
 use loading::files::{Filled, fill};
 use loading::traces::{Loaded, nothing};
+use std::io::Input;
+use std::rt::{Env, Files};
 use text_parts::lines::line_at;
 use text_parts::parts::front;
 use text_reading::reading::make_trace;
@@ -19,21 +22,23 @@ use trace_reader::Reading;
 // The longest text that is read. The longest trace has 5,571,536 bytes as a text without the columns from `changed` on.
 const LONGEST: usize = 8000000;
 
-fn too_long(path: &[u8]) {
-    complain();
-    note(path);
+fn too_long(console: &Console, path: &[u8]) {
+    complain(console);
+    note(console, path);
     note(
+        console,
         b": a text over 8,000,000 bytes is not read; what follows a row's states may be left out\n",
     );
 }
 
 // A refusal, with the line that has its place.
-fn complain_of(path: &[u8], text: &[u8], r: Refusal) {
+fn complain_of(console: &Console, path: &[u8], text: &[u8], r: Refusal) {
     let s = spot_of(text, r.place);
-    refused_in_line(path, s.line, line_at(text, s.start), s.at, r);
+    refused_in_line(console, path, s.line, line_at(text, s.start), s.at, r);
 }
 
 fn read_text(
+    console: &Console,
     path: &[u8],
     text: &[u8],
     names: &mut [u8; 1024],
@@ -41,56 +46,70 @@ fn read_text(
     states: &mut [u8; 2097120],
 ) -> Loaded {
     if LONGEST < text.len() {
-        too_long(path);
+        too_long(console, path);
         return nothing();
     }
     let r = make_trace(text, names, times, states);
     match r {
         Reading::Read { names, rows } => Loaded { names, rows },
         Reading::Refused(f) => {
-            complain_of(path, text, f);
+            complain_of(console, path, text, f);
             nothing()
         }
     }
 }
 
-fn load_into(
+fn load_into<R: Files + Input>(
+    rt: &R,
+    console: &Console,
     path: &[u8],
     data: &mut [u8],
     names: &mut [u8; 1024],
     times: &mut [u64; 65535],
     states: &mut [u8; 2097120],
 ) -> Loaded {
-    let filled = fill(path, data);
+    let filled = fill(rt, console, path, data);
     match filled {
         Filled::Failed => nothing(),
-        Filled::Bytes(n) => read_text(path, front(data, n), names, times, states),
+        Filled::Bytes(n) => read_text(console, path, front(data, n), names, times, states),
     }
 }
 
-fn load_lent(
+fn load_lent<R: Files + Input>(
+    rt: &R,
+    console: &Console,
     path: &[u8],
     data: &mut [u8; 8000001],
     names: &mut [u8; 1024],
     times: &mut [u64; 65535],
     states: &mut [u8; 2097120],
 ) -> Loaded {
-    load_into(path, data, names, times, states)
+    load_into(rt, console, path, data, names, times, states)
 }
 
 // The trace of the text that argument i names. The buffer has one byte more than the longest text.
-pub fn load_text(
+pub fn load_text<R: Env + Files + Input>(
+    rt: &R,
+    console: &Console,
     i: usize,
     names: &mut [u8; 1024],
     times: &mut [u64; 65535],
     states: &mut [u8; 2097120],
 ) -> Loaded {
-    let mut path = io::buffer();
-    let length = os::arg(i, &mut path);
-    if os::errno() != 0 {
-        failed(b"the text's name");
-        return nothing();
+    let mut path = [0u8; 4096];
+    match path_argument(rt, console, i, b"the text's name", &mut path) {
+        Some(length) => {
+            let mut data = [0u8; 8000001];
+            load_lent(
+                rt,
+                console,
+                &path[..length],
+                &mut data,
+                names,
+                times,
+                states,
+            )
+        }
+        None => nothing(),
     }
-    let mut data = [0u8; 8000001];
-    load_lent(&path[..length], &mut data, names, times, states)
 }

@@ -1,6 +1,5 @@
 // All rows: the list of answers, the list of numbers tried, the totals.
-ghost use Rattle.std.specs.Prelude.{◌≡◌, eqb};
-ghost use Rattle.basics.specs.Words.{if◌then◌else◌};
+ghost use Rattle.std.specs.Prelude.{◌≡◌, eqb, if◌then◌else◌};
 ghost use Rattle.alf.specs.Values.{state_at};
 ghost use Rattle.alf.specs.Answers.{number_of};
 ghost use Rattle.alf.specs.Alternatives.{answer_of};

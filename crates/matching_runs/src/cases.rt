@@ -9,64 +9,65 @@ use run_routes::{push_in, queue_in, row_in, rows_in, totals_in, zeros_in};
 use run_values::lend_out;
 use run_words::words::{list_in, number_in};
 use states::rules::old_rules;
+use std::io::Stdout;
 use text_parts::lines::{behind_line, line_at};
 use text_parts::parts::{front, start_of};
 
 // A vector expression: as written from word 4 on, by alternatives row by row and all rows, by the queue; the totals.
-fn show_vector(rules: Rules, line: &[u8], tree: &[u8]) {
-    write(b"\n written");
-    rows_in(rules, b'w', line, tree, number_in(line, 4));
-    write(b" row");
-    rows_in(rules, b'r', line, tree, 0);
-    lend(rules, b'v', line, tree);
-    write(b" queue");
-    queue_in(rules, line, tree);
-    totals_in(rules, line, tree);
-    character(b'\n');
+fn show_vector(to: Stdout, rules: Rules, line: &[u8], tree: &[u8]) {
+    write(to, b"\n written");
+    rows_in(to, rules, b'w', line, tree, number_in(line, 4));
+    write(to, b" row");
+    rows_in(to, rules, b'r', line, tree, 0);
+    lend(to, rules, b'v', line, tree);
+    write(to, b" queue");
+    queue_in(to, rules, line, tree);
+    totals_in(to, rules, line, tree);
+    character(to, b'\n');
 }
 
 // A boolean expression: all values, then row by row, then the states.
-fn show_boolean(rules: Rules, line: &[u8], tree: &[u8]) {
-    character(b'\n');
-    lend_out(rules, b'b', line, tree);
-    write(b" value");
-    rows_in(rules, b'v', line, tree, 0);
-    write(b" state");
-    rows_in(rules, b's', line, tree, 0);
+fn show_boolean(to: Stdout, rules: Rules, line: &[u8], tree: &[u8]) {
+    character(to, b'\n');
+    lend_out(to, rules, b'b', line, tree);
+    write(to, b" value");
+    rows_in(to, rules, b'v', line, tree, 0);
+    write(to, b" state");
+    rows_in(to, rules, b's', line, tree, 0);
 }
 
 // Two calls at a row.
-fn show_row(rules: Rules, line: &[u8], tree: &[u8], first: u8, second: u8) {
-    character(b'\n');
-    row_in(rules, first, line, tree);
-    row_in(rules, second, line, tree);
+fn show_row(to: Stdout, rules: Rules, line: &[u8], tree: &[u8], first: u8, second: u8) {
+    character(to, b'\n');
+    row_in(to, rules, first, line, tree);
+    row_in(to, rules, second, line, tree);
 }
 
-fn show_vector_calls(rules: Rules, line: &[u8], tree: &[u8]) {
-    show_row(rules, line, tree, b'w', b'r');
-    lend(rules, b'V', line, tree);
+fn show_vector_calls(to: Stdout, rules: Rules, line: &[u8], tree: &[u8]) {
+    show_row(to, rules, line, tree, b'w', b'r');
+    lend(to, rules, b'V', line, tree);
 }
 
-fn show_boolean_calls(rules: Rules, line: &[u8], tree: &[u8]) {
-    show_row(rules, line, tree, b's', b'v');
-    lend_out(rules, b'B', line, tree);
+fn show_boolean_calls(to: Stdout, rules: Rules, line: &[u8], tree: &[u8]) {
+    show_row(to, rules, line, tree, b's', b'v');
+    lend_out(to, rules, b'B', line, tree);
 }
 
-fn show_case(rules: Rules, kind: u8, line: &[u8], tree: &[u8]) {
+fn show_case(to: Stdout, rules: Rules, kind: u8, line: &[u8], tree: &[u8]) {
     match kind {
-        b'v' => show_vector(rules, line, tree),
-        b'b' => show_boolean(rules, line, tree),
-        b'c' => lend(rules, b'c', line, tree),
-        b'T' => zeros_in(rules, line, tree),
-        b'V' => show_vector_calls(rules, line, tree),
-        b'B' => show_boolean_calls(rules, line, tree),
-        b'P' => push_in(rules, line, tree),
-        _ => broken(line),
+        b'v' => show_vector(to, rules, line, tree),
+        b'b' => show_boolean(to, rules, line, tree),
+        b'c' => lend(to, rules, b'c', line, tree),
+        b'T' => zeros_in(to, rules, line, tree),
+        b'V' => show_vector_calls(to, rules, line, tree),
+        b'B' => show_boolean_calls(to, rules, line, tree),
+        b'P' => push_in(to, rules, line, tree),
+        _ => broken(to, line),
     }
 }
 
-fn show_read(rules: Rules, kind: u8, line: &[u8], tree: &[u8; 256], len: usize) {
-    show_case(rules, kind, line, front(tree, len));
+fn show_read(to: Stdout, rules: Rules, kind: u8, line: &[u8], tree: &[u8; 256], len: usize) {
+    show_case(to, rules, kind, line, front(tree, len));
 }
 
 // A text over the names A, B, C.
@@ -86,25 +87,25 @@ fn sort_of(kind: u8) -> Sort {
 }
 
 // An expression as a text.
-fn show_text(rules: Rules, kind: u8, line: &[u8], text: &[u8]) {
+fn show_text(to: Stdout, rules: Rules, kind: u8, line: &[u8], text: &[u8]) {
     let r = read(rules, text, sort_of(kind));
     let refused = r.refused;
     if refused {
-        character(b'\n');
-        refusal(r.refusal);
-        return character(b'\n');
+        character(to, b'\n');
+        refusal(to, r.refusal);
+        return character(to, b'\n');
     }
     let tree = r.tree;
-    show_read(rules, kind, line, &tree, r.len);
+    show_read(to, rules, kind, line, &tree, r.len);
 }
 
 // What stands from word 9 on is printed: a text, from which the tree is read, or a label, where word 8 is the tree. For
 // the totals it is the number of rows.
-fn show_rest(rules: Rules, kind: u8, line: &[u8], rest: &[u8]) {
-    write(rest);
+fn show_rest(to: Stdout, rules: Rules, kind: u8, line: &[u8], rest: &[u8]) {
+    write(to, rest);
     match kind {
-        b'a'..=b'z' => show_text(rules, kind, line, rest),
-        _ => show_case(rules, kind, line, list_in(line, 8)),
+        b'a'..=b'z' => show_text(to, rules, kind, line, rest),
+        _ => show_case(to, rules, kind, line, list_in(line, 8)),
     }
 }
 
@@ -121,7 +122,7 @@ fn kind_of(line: &[u8]) -> u8 {
 
 // A line that is empty or starts with `#` is a remark. Behind `=` a case is under the rule of equal branches, behind
 // `~` its pins are steady; `-` and `+` are marks of its times.
-fn show_line(line: &[u8]) {
+fn show_line(to: Stdout, line: &[u8]) {
     let kind = kind_of(line);
     if kind == b'#' {
         return;
@@ -131,14 +132,14 @@ fn show_line(line: &[u8]) {
     rules.steady_pins = is_behind(line, b'~');
     let at = start_of(line, 9, b' ');
     let end = line.len();
-    show_rest(rules, kind, line, &line[at..end]);
+    show_rest(to, rules, kind, line, &line[at..end]);
 }
 
 // Each line of the input.
-pub fn show_lines(input: &[u8]) {
+pub fn show_lines(to: Stdout, input: &[u8]) {
     let mut at: usize = 0;
     while at < input.len() {
-        show_line(line_at(input, at));
+        show_line(to, line_at(input, at));
         at = behind_line(input, at);
     }
 }

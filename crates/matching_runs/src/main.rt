@@ -4,18 +4,14 @@
 
 mod cases;
 
-use libc::STDIN_FILENO;
 use run_words::lists::decode;
+use std::io;
+use std::io::Read;
 
-fn run(input: &mut [u8]) {
-    let n = io::read_full(STDIN_FILENO, input);
-    decode(input);
-    if n <= input.len() {
-        crate::cases::show_lines(&input[0..n]);
-    }
-}
-
-fn main() {
-    let mut input = io::large_buffer();
-    run(&mut input);
+fn main(rt: HostRuntime) -> io::Result<()> {
+    let mut input = Vec::new(rt.alloc());
+    rt.reader().read_to_end(&mut input)?;
+    decode(&mut input);
+    crate::cases::show_lines(rt.stdout(), &input);
+    Ok(())
 }

@@ -3,6 +3,7 @@
 --   Marking                        the pins of a tree's first bytes are marked
 --   marking_first, marking_next, marking_end
 --   marks_named                    the pins marked are those that the expression names
+use Rattle.std.specs.Prelude.{if◌then◌else◌}
 use Prim.Native.Nat.{ℕ, ◌+◌, ◌<◌, ◌≤◌}
 use native.Mathlib.Nat.{zero-add}
 use native.Mathlib.Numerals.{add-one}
@@ -14,7 +15,6 @@ use mathlib.Core.List.{List, [], ◌∷◌, ◌++◌}
 use lib.ListN.{length, get_or, set, take, length-set}
 use lib.Seq.{ext_get_or, get_or-set_same, get_or-set_other, take-suc, take_all}
 use borrow.Author.Tests.{eq-eqb, ne_eqb}
-use Rattle.basics.specs.Words.{if◌then◌else◌}
 use Rattle.basics.proofs.Bools.{equal?, or_yes}
 use Rattle.basics.proofs.Listed.{listed_length, listed_at, listed_same}
 use Rattle.alf.specs.Expressions.{Expression}

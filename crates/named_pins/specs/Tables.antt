@@ -3,8 +3,8 @@
 --   joined     a table that keeps some pins too
 --   Marks      the table of what a tree names: the pins whose numbers are among its bytes. That these are the pins
 --              that its expression names is a law.
-use Rattle.std.specs.Prelude.{ℕ, ◌≡◌, Bool, not, List, eqb, length, get_or}
-use Rattle.basics.specs.Words.{if◌then◌else◌, listed}
+use Rattle.std.specs.Prelude.{ℕ, ◌≡◌, Bool, not, List, eqb, length, get_or, if◌then◌else◌}
+use Rattle.basics.specs.Words.{listed}
 use Rattle.alf.specs.States.{among}
 
 unfoldable pub keeps : List ℕ → ℕ → Bool

@@ -2,6 +2,7 @@
 --   finished_end, finished_more          read_all
 --   Column, column_first, column_next, column_end, accepted_all     accept, which writes codes and places
 --   given, full, answer_tree, answer_refused                        parse
+use Rattle.std.specs.Prelude.{if◌then◌else◌}
 use Prim.Native.Nat.{ℕ, ◌+◌, ◌≤◌, ◌<◌}
 use native.Mathlib.Omega.{arith}
 use mathlib.Core.Path.{◌≡◌, refl, sym, ap, ◌∙◌}
@@ -9,7 +10,6 @@ use mathlib.Core.Bool.{Bool, true, false}
 use mathlib.Core.List.{List, [], map}
 use lib.ListN.{length, get_or, set, replicate, take, drop, length-map, drop_of_length-le, length-drop}
 use lib.Seq.{length-take-le, get_or-take}
-use Rattle.basics.specs.Words.{if◌then◌else◌}
 use Rattle.basics.proofs.Entries.{get_d_map}
 use Rattle.basics.proofs.Stores.{Writing, writing_next_front, writing_front}
 use Rattle.grammar.specs.declared.Token.{Token}

@@ -4,6 +4,7 @@
 --   counts_tokens, counts_next, counts_take    how many are counted
 --   place_at_of                                 the place of the token at a number
 --   picked_next                                one node more
+use Rattle.std.specs.Prelude.{if◌then◌else◌}
 use Prim.Native.Nat.{ℕ, zero, suc, ◌+◌, ◌≤◌, ◌<◌}
 use native.Mathlib.Omega.{arith}
 use native.Mathlib.Numerals.{add-one}
@@ -14,7 +15,6 @@ use lib.Dec.{ltb}
 use lib.ListN.{length, get_or, take, drop, set, drop_of_length-le}
 use lib.Seq.{drop-cons, take-suc-set}
 use borrow.Author.Tests.{ltb-true, ltb-false}
-use Rattle.basics.specs.Words.{if◌then◌else◌}
 use Rattle.grammar.specs.Tokens.{kind, weight, ahead, counted, tokens}
 use Rattle.grammar.specs.Grammar.{place_of}
 use Rattle.grammar.specs.Answers.{place_at}

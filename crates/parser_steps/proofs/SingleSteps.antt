@@ -6,6 +6,7 @@
 --   view_halt, moved_halt                      stop
 --   eat_hit, eat_miss                          eat
 --   used_small                                 at most 256 tokens are counted
+use Rattle.std.specs.Prelude.{if◌then◌else◌}
 use Prim.Native.Nat.{ℕ, ◌+◌, ◌≤◌, ◌<◌}
 use native.Mathlib.Omega.{arith}
 use native.Mathlib.Numerals.{add-one}
@@ -15,7 +16,6 @@ use mathlib.Core.List.{List}
 use lib.ListN.{length, get_or, take, drop, set, drop_of_length-le, length-set}
 use lib.Seq.{drop-cons}
 use borrow.Author.Tests.{eq-eqb, ne_eqb}
-use Rattle.basics.specs.Words.{if◌then◌else◌}
 use Rattle.grammar.specs.declared.Token.{Token}
 use Rattle.grammar.specs.Tokens.{other, kind, weight, ahead, tokens}
 use Rattle.grammar.specs.Stops.{rank}

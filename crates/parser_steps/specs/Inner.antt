@@ -6,8 +6,7 @@
 --   next, counts, used       what comes next; how many codes are counted, and how many of those passed
 --   Fine, Lent, Here, Moved  states over cs, at a token, and from one to another
 --   Ranked, Stepped, Room, Emitted, Halted, Eats, Ate     a single step each
-use Rattle.std.specs.Prelude.{ℕ, ◌+◌, ◌≤◌, ◌<◌, ◌≡◌, true, false, List, [], ◌∷◌, map, length, get_or, take, drop, set}
-use Rattle.basics.specs.Words.{if◌then◌else◌}
+use Rattle.std.specs.Prelude.{ℕ, ◌+◌, ◌≤◌, ◌<◌, ◌≡◌, true, false, List, [], ◌∷◌, map, length, get_or, take, drop, set, if◌then◌else◌}
 use Rattle.grammar.specs.declared.Token.{Token}
 use Rattle.grammar.specs.Tokens.{Kind, other, kind, weight, tokens}
 use Rattle.grammar.specs.Stops.{rank}

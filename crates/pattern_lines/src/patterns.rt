@@ -1,24 +1,41 @@
 // The patterns of a text, one a line: blank lines are skipped, and a CR before a line's end is none of it.
 use crate::accounts::pattern;
 use alf::Rules;
+use console::output::Console;
 use table_lines::lines::Sums;
 use text_parts::lines::{behind_line, is_blank, kept, line_at};
 use text_parts::parts::front;
 
 // A line; a blank one is none.
-fn line(rules: Rules, names: &[u8], n: usize, states: &[u8], text: &[u8], s: Sums) -> Sums {
+fn line(
+    console: &Console,
+    rules: Rules,
+    names: &[u8],
+    n: usize,
+    states: &[u8],
+    text: &[u8],
+    s: Sums,
+) -> Sums {
     if is_blank(text) {
         return s;
     }
-    pattern(rules, names, n, states, front(text, kept(text)), s)
+    pattern(console, rules, names, n, states, front(text, kept(text)), s)
 }
 
 // All lines of a text.
-pub fn lines(rules: Rules, names: &[u8], n: usize, states: &[u8], text: &[u8], s: Sums) -> Sums {
+pub fn lines(
+    console: &Console,
+    rules: Rules,
+    names: &[u8],
+    n: usize,
+    states: &[u8],
+    text: &[u8],
+    s: Sums,
+) -> Sums {
     let mut sums = s;
     let mut at: usize = 0;
     while at < text.len() {
-        sums = line(rules, names, n, states, line_at(text, at), sums);
+        sums = line(console, rules, names, n, states, line_at(text, at), sums);
         at = behind_line(text, at);
     }
     sums

@@ -1,5 +1,6 @@
 -- What each way of `limit` comes to: 8, or read. Main names: limit_refused, limit_boolean, limit_asks, limit_over,
 -- limit_within, over_told.
+use Rattle.std.specs.Prelude.{if◌then◌else◌}
 use mathlib.Core.Path.{◌≡◌, refl, sym, ap, subst, ◌∙◌}
 use mathlib.Core.Bool.{Bool, true, false}
 use mathlib.Core.List.{List}
@@ -7,7 +8,6 @@ use Prim.Native.Nat.{ℕ, ◌≤◌}
 use native.Mathlib.Omega.{arith}
 use lib.ListN.{length}
 use Rattle.alf.specs.Names.{names_in}
-use Rattle.basics.specs.Words.{if◌then◌else◌}
 use Rattle.alf.specs.declared.Rules.{Rules}
 use Rattle.alf.specs.declared.Sort.{Sort}
 use Rattle.alf.specs.Steady.{meant}

@@ -5,6 +5,7 @@
 --   first_over_lem      a number that is over a limit somewhere is so first at some place
 --   few_counted     where refusal 4 is not given, at most 256 are counted
 --   nodes_inside    what holds of each token of a text holds of each node of its tree
+use Rattle.std.specs.Prelude.{if◌then◌else◌}
 use mathlib.Core.Path.{◌≡◌, refl, ap, ◌∙◌}
 use mathlib.Core.Bool.{Bool, true, false, ◌||◌}
 use mathlib.Core.List.{List, [], ◌∷◌}
@@ -14,14 +15,12 @@ use native.Mathlib.Omega.{arith}
 use lib.Dec.{eqb, ltb}
 use lib.ListN.{length, length-append}
 use borrow.Author.Tests.{ltb-true, ltb-false, le-leb, eqb-true, ne_eqb}
-use Rattle.basics.specs.Words.{if◌then◌else◌}
 use Rattle.alf.specs.Refusals.{First}
 use Rattle.basics.proofs.Bools.{below?}
 use Rattle.basics.proofs.Choices.{every, every_at}
 use Rattle.basics.proofs.AllEntries.{All, none, more, all_append}
 use Rattle.tokens.specs.Texts as text
 use Rattle.tokens.specs.Texts.{Reads, done, blank, token, running, many, OfTokens}
-use Rattle.tokens.specs.Tokenizing as reading
 use Rattle.token_steps.proofs.TokenStarts.{token_size}
 use Rattle.grammar.specs.declared.Token.{Token}
 use Rattle.grammar.specs.Tokens.{tokens, kind, kind_in, table, weight, counted}

@@ -6,6 +6,7 @@
 --   operands_there       each operand of a vector expression that lies in the tree
 --   each_places          the same of its operands by their places, pins too
 --   tree_operands        each operand of an accepted tree
+use Rattle.std.specs.Prelude.{if◌then◌else◌}
 use Prim.Native.Nat.{ℕ, zero, suc, ◌+◌, ◌-◌, ◌*◌, ◌≤◌, min}
 use native.Mathlib.Omega.{arith}
 use mathlib.Core.Path.{◌≡◌, refl, ap}
@@ -16,7 +17,6 @@ use lib.Dec.{eqb, ltb}
 use lib.ListN.{length, take, drop, replicate}
 use borrow.Author.Tests.{eq-eqb, ne_eqb}
 use Rattle.basics.proofs.Bools.{equal?}
-use Rattle.basics.specs.Words.{if◌then◌else◌}
 use Rattle.alf.specs.declared.Rules.{Rules}
 use Rattle.alf.specs.declared.Sort.TheVariants as sort
 use Rattle.alf.specs.Values.{old_rules_lem}

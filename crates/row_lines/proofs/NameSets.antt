@@ -2,6 +2,7 @@
 --   mask_marked, all_marked        the bits of a mask are the members of the set
 --   members_same, members_changed, members_all      the names of such a set
 --   slot_in, name_slot, size_none, size_one, member_none, member_one, member-fits    name i, where its bit is set
+use Rattle.std.specs.Prelude.{if◌then◌else◌}
 use Prim.Native.Nat.{ℕ, ◌+◌, ◌-◌, ◌*◌, ◌<◌, ◌≤◌}
 use native.Mathlib.Omega.{arith}
 use mathlib.Core.Path.{◌≡◌, refl, sym, ap, ◌∙◌}
@@ -9,7 +10,7 @@ use mathlib.Core.Bool.{Bool, true, false}
 use mathlib.Core.List.{List, [], ◌∷◌, ◌++◌}
 use lib.Dec.{eqb}
 use lib.ListN.{length, take, drop}
-use Rattle.basics.specs.Words.{if◌then◌else◌, listed}
+use Rattle.basics.specs.Words.{listed}
 use Rattle.basics.specs.Memory.{Put, Room}
 use Rattle.basics.proofs.PartByPart.{put_none, put_then, put_length}
 use Rattle.alf.specs.Names.{name_at}

@@ -5,8 +5,8 @@
 --   letters                       the letters of a row's states, each behind a blank
 --   row_line, row_lines             a row's line, the lines of some rows
 -- What changed is alf's `changed` and `change_count`.
-use Rattle.std.specs.Prelude.{ℕ, Bool, List, [], ◌∷◌, get_or}
-use Rattle.basics.specs.Words.{if◌then◌else◌, listed}
+use Rattle.std.specs.Prelude.{ℕ, Bool, List, [], ◌∷◌, get_or, if◌then◌else◌}
+use Rattle.basics.specs.Words.{listed}
 use Rattle.basics.specs.Text.{bytes, joined}
 use Rattle.alf.specs.Names.{name_at}
 use Rattle.alf.specs.Traces.{changed, change_count}

@@ -2,13 +2,13 @@
 --   same_value, same_state   an expression with no ternary has the same value and state under any rules
 --   Resolved, value_resolved, state_resolved   no ternary below a relation: the new one is the old one, or that was X
 --   relation_turns           below a relation it is false: `( A ? 1 : 1 ) == 'bX` turns from 1 to 0 where A is X
+use Rattle.std.specs.Prelude.{if◌then◌else◌}
 use mathlib.Core.Path.{◌≡◌, refl, ap, sym, ◌∙◌}
 use mathlib.Core.Bool.{Bool, true, false, ◌&&◌, ◌||◌}
 use mathlib.Core.Logic.{◌⊎◌, inl, inr}
 use Prim.Native.Nat.{ℕ, zero, suc, ◌+◌, ◌<◌, ◌≤◌, min, max}
 use native.Mathlib.Omega.{arith}
 use lib.Dec.{eqb}
-use Rattle.basics.specs.Words.{if◌then◌else◌}
 use Rattle.alf.specs.declared.Rules.{Rules}
 use Rattle.alf.specs.States.{X, reduce, rank, ranked, not_of_lem, and_of, or_of, xor_of, xnor_of, table, among, matches}
 use Rattle.alf.specs.States.{in_cells, in_lines, relations}

@@ -4,6 +4,7 @@
 --   answer_sharper            on every window, where the states are resolved and the pattern is tame
 --   answer_kept               so by the new rule a tame pattern's answer is the old one, or that was unknown
 --   letter_turns, change_turns   not so where an edge asks a ternary for a letter, `?!` or `?-`: a yes becomes no
+use Rattle.std.specs.Prelude.{if◌then◌else◌}
 use mathlib.Core.Path.{◌≡◌, refl, ap, sym, ◌∙◌}
 use mathlib.Core.Bool.{Bool, true, false, ◌&&◌, ◌||◌}
 use mathlib.Core.List.{List, [], ◌∷◌}
@@ -13,7 +14,7 @@ use native.Mathlib.Omega.{arith}
 use lib.Dec.{eqb, ltb}
 use borrow.Author.Tests.{ltb-true, eq-eqb, ne_eqb}
 use Rattle.alf.specs.declared.Rules.{Rules}
-use Rattle.basics.specs.Words.{if◌then◌else◌, greatest, least}
+use Rattle.basics.specs.Words.{greatest, least}
 use Rattle.alf.specs.States.{X, H, Z, reduce}
 use Rattle.alf.specs.Expressions.{Boolean, name, literal, choice, Half, any, the, Edge, pair, changes, stays}
 use Rattle.alf.specs.Expressions.{Vector, edge, join, while}

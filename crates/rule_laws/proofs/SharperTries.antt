@@ -2,6 +2,7 @@
 --   Tests, tests_of_lem    a property of each test of a pattern's alternatives
 --   tries_fall         no more tries
 -- (Tests is alf/proofs/Conditions.antt's `Asks`, of a property of tests where that one has a property of operands.)
+use Rattle.std.specs.Prelude.{if◌then◌else◌}
 use mathlib.Core.Path.{◌≡◌, refl, ap, sym, ◌∙◌}
 use mathlib.Core.Bool.{Bool, true, false, ◌&&◌, ◌||◌}
 use mathlib.Core.List.{List, [], ◌∷◌, ◌++◌, map}
@@ -11,7 +12,7 @@ use native.Mathlib.Omega.{arith}
 use lib.Dec.{eqb}
 use lib.ListN.{length, replicate}
 use borrow.Author.Tests.{eq-eqb, ne_eqb}
-use Rattle.basics.specs.Words.{if◌then◌else◌, least_of}
+use Rattle.basics.specs.Words.{least_of}
 use Rattle.alf.specs.Expressions.{Boolean, the, Edge, pair, Vector, edge, join, while}
 use Rattle.alf.specs.Expressions.{Join, followed-by, either_order, with-or-then, any_order, with, or_else}
 use Rattle.alf.specs.Values.{old_rules_lem, new_rules, row_of, state_at}

@@ -3,8 +3,8 @@
 --   rows, times_there      the states of A, B, C, D and E row by row, and the rows' times
 --   sequence_10a, sequence_11b     01 A -> 10 B; 01 A -> 00 D -> 11 E
 --   times_of               the times of the rows that answer yes, under some rules
-use Rattle.std.specs.Prelude.{ℕ, List, [], ◌∷◌, eqb, length}
-use Rattle.basics.specs.Words.{if◌then◌else◌, listed}
+use Rattle.std.specs.Prelude.{ℕ, List, [], ◌∷◌, eqb, length, if◌then◌else◌}
+use Rattle.basics.specs.Words.{listed}
 use Rattle.alf.specs.declared.Rules.{Rules}
 use Rattle.alf.specs.States.{X}
 use Rattle.alf.specs.Expressions.{name, the, pair, Vector, edge, join, followed-by}

@@ -5,53 +5,54 @@ use matching_calls::matching::{Counting, Matching};
 use row_calls::written::Told;
 use run_printing::printing::{character, number, refusal, wide, write};
 use run_printing::states::entry;
+use std::io::Stdout;
 
-pub fn told(r: Told) {
+pub fn told(to: Stdout, r: Told) {
     match r {
-        Told::Answered(a) => entry(number_of(a), false),
-        Told::Refused(f) => refusal(f),
+        Told::Answered(a) => entry(to, number_of(a), false),
+        Told::Refused(f) => refusal(to, f),
     }
 }
 
 // The time where a match began, behind an `@`, where one is given.
-fn since(b: Began) {
+fn since(to: Stdout, b: Began) {
     match b {
         Began::At(t) => {
-            character(b'@');
-            number(t.0 as usize);
+            character(to, b'@');
+            number(to, t.0 as usize);
         }
         Began::Nowhere => return,
     }
 }
 
 // An answer, the number tried, and where the match began.
-pub fn matching(r: Matching) {
+pub fn matching(to: Stdout, r: Matching) {
     match r {
         Matching::Found(m) => {
             let answer = m.answer;
             let tries = m.tries;
             let began = m.began;
-            entry(number_of(answer), false);
-            character(b'/');
-            number(wide(tries));
-            since(began);
+            entry(to, number_of(answer), false);
+            character(to, b'/');
+            number(to, wide(tries));
+            since(to, began);
         }
-        Matching::Refused(f) => refusal(f),
+        Matching::Refused(f) => refusal(to, f),
     }
 }
 
-fn totals(yes: u32, no: u32, unknown: u32) {
-    write(b" yes ");
-    number(wide(yes));
-    write(b" no ");
-    number(wide(no));
-    write(b" unknown ");
-    number(wide(unknown));
+fn totals(to: Stdout, yes: u32, no: u32, unknown: u32) {
+    write(to, b" yes ");
+    number(to, wide(yes));
+    write(to, b" no ");
+    number(to, wide(no));
+    write(to, b" unknown ");
+    number(to, wide(unknown));
 }
 
-pub fn counting(r: Counting) {
+pub fn counting(to: Stdout, r: Counting) {
     match r {
-        Counting::Counted(t) => totals(t.yes, t.no, t.unknown),
-        Counting::Refused(f) => refusal(f),
+        Counting::Counted(t) => totals(to, t.yes, t.no, t.unknown),
+        Counting::Refused(f) => refusal(to, f),
     }
 }

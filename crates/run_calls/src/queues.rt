@@ -5,10 +5,11 @@ use alf::{RowNo, Rules, Stamp};
 use queue_calls::pushing::push;
 use run_printing::printing::{character, number, write};
 use run_printing::states::letter;
+use std::io::Stdout;
 use timed_queue::queues::{Queue, empty};
 
 // By the queue, one row after the other.
-pub fn by_queue(rules: Rules, names: usize, tree: &[u8], early: bool, states: &[u8]) {
+pub fn by_queue(to: Stdout, rules: Rules, names: usize, tree: &[u8], early: bool, states: &[u8]) {
     if names == 0 {
         return;
     }
@@ -20,7 +21,7 @@ pub fn by_queue(rules: Rules, names: usize, tree: &[u8], early: bool, states: &[
         let time = Stamp(time_of(early, row));
         let p = push(rules, names, tree, queue, time, &states[at..next]);
         let found = p.told;
-        matching(found);
+        matching(to, found);
         queue = p.queue;
         row = next_row(row);
         at = next;
@@ -40,16 +41,17 @@ fn queue_of(early: bool, kept: u32, first: u8) -> Queue {
 }
 
 // How many rows a queue keeps, and its first state.
-fn show_queue(states: &[u8; 512], kept: u32) {
-    write(b", kept ");
-    number(kept as usize);
-    write(b" first ");
-    letter(states[0]);
-    character(b'\n');
+fn show_queue(to: Stdout, states: &[u8; 512], kept: u32) {
+    write(to, b", kept ");
+    number(to, kept as usize);
+    write(to, b" first ");
+    letter(to, states[0]);
+    character(to, b'\n');
 }
 
 // A push onto such a queue; then how many rows it keeps, and its first state.
 pub fn by_push(
+    to: Stdout,
     rules: Rules,
     names: usize,
     tree: &[u8],
@@ -61,10 +63,10 @@ pub fn by_push(
     let time = Stamp(time_of(early, kept as usize));
     let p = push(rules, names, tree, queue_of(early, kept, first), time, row);
     let found = p.told;
-    matching(found);
+    matching(to, found);
     let left = p.queue;
     let rows = left.rows;
     let count = rows.kept;
     let states = rows.states;
-    show_queue(&states, count.0);
+    show_queue(to, &states, count.0);
 }

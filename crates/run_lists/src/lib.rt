@@ -13,6 +13,7 @@ use run_printing::states::{list, list_tried};
 use run_routes::totals_in;
 use run_words::lists::{copy_of, least, narrow};
 use run_words::words::{list_in, number_in};
+use std::io::Stdout;
 use update_calls::correcting::correct;
 
 fn match_in(
@@ -65,44 +66,52 @@ fn correct_in(
 }
 
 // The row that is corrected, and what the correction comes to.
-fn show_correction(line: &[u8], c: Outcome) {
-    write(b", row ");
-    number(number_in(line, 4));
-    list(b" becomes", list_in(line, 5), 64, true);
-    character(b'\n');
-    outcome(c);
+fn show_correction(to: Stdout, line: &[u8], c: Outcome) {
+    write(to, b", row ");
+    number(to, number_in(line, 4));
+    list(to, b" becomes", list_in(line, 5), 64, true);
+    character(to, b'\n');
+    outcome(to, c);
 }
 
 // All answers and the correction, with the totals in between.
-fn show_both(rules: Rules, line: &[u8], tree: &[u8], m: Outcome, c: Outcome) {
-    outcome(m);
-    character(b',');
-    totals_in(rules, line, tree);
-    character(b',');
-    outcome(c);
+fn show_both(to: Stdout, rules: Rules, line: &[u8], tree: &[u8], m: Outcome, c: Outcome) {
+    outcome(to, m);
+    character(to, b',');
+    totals_in(to, rules, line, tree);
+    character(to, b',');
+    outcome(to, c);
 }
 
 // All answers, of a case by their numbers; the correction; the states afterwards.
-fn show_outcomes(rules: Rules, kind: u8, line: &[u8], tree: &[u8], m: Outcome, c: Outcome) {
+fn show_outcomes(
+    to: Stdout,
+    rules: Rules,
+    kind: u8,
+    line: &[u8],
+    tree: &[u8],
+    m: Outcome,
+    c: Outcome,
+) {
     match kind {
-        b'v' => write(b" all"),
-        b'c' => show_correction(line, c),
-        _ => show_both(rules, line, tree, m, c),
+        b'v' => write(to, b" all"),
+        b'c' => show_correction(to, line, c),
+        _ => show_both(to, rules, line, tree, m, c),
     }
 }
 
 // The states, and behind a word the answers.
-fn show_two(word: &[u8], states: &[u8; 64], s: usize, answers: &[u8; 64], a: usize) {
-    list(b"\n states", states, s, true);
-    list(word, answers, a, false);
+fn show_two(to: Stdout, word: &[u8], states: &[u8; 64], s: usize, answers: &[u8; 64], a: usize) {
+    list(to, b"\n states", states, s, true);
+    list(to, word, answers, a, false);
 }
 
 // The lists afterwards.
-fn show_lists(kind: u8, states: &[u8; 64], s: usize, answers: &[u8; 64], a: usize) {
+fn show_lists(to: Stdout, kind: u8, states: &[u8; 64], s: usize, answers: &[u8; 64], a: usize) {
     match kind {
-        b'v' => list(b"", answers, a, false),
-        b'c' => show_two(b"\n answers", states, s, answers, a),
-        _ => show_two(b" answers", states, s, answers, a),
+        b'v' => list(to, b"", answers, a, false),
+        b'c' => show_two(to, b"\n answers", states, s, answers, a),
+        _ => show_two(to, b" answers", states, s, answers, a),
     }
 }
 
@@ -113,6 +122,7 @@ fn same(list: [u8; 64]) -> [u8; 64] {
 
 // The correction of the states, and of the answers as `match_all` left them, which came to m.
 fn lend_behind(
+    to: Stdout,
     rules: Rules,
     kind: u8,
     line: &[u8],
@@ -127,15 +137,15 @@ fn lend_behind(
     let mut states = copy_of(list_in(line, 3));
     let s = least(list_in(line, 3).len());
     let c = correct_in(rules, line, tree, &mut states[0..s], &mut answers[0..a]);
-    show_outcomes(rules, kind, line, tree, m, c);
-    show_lists(kind, &states, s, &answers, a);
+    show_outcomes(to, rules, kind, line, tree, m, c);
+    show_lists(to, kind, &states, s, &answers, a);
 }
 
 // All answers, and a correction. Words 3 and 6 are the states and the answers that are lent; word 7 says how many
 // numbers tried are lent. There are as many flags as answers, and as many times as numbers tried. Of a case only one of
 // the two calls is not refused: without a new row there is no correction, and with no number tried lent there are no
 // answers.
-pub fn lend(rules: Rules, kind: u8, line: &[u8], tree: &[u8]) {
+pub fn lend(to: Stdout, rules: Rules, kind: u8, line: &[u8], tree: &[u8]) {
     let mut answers = copy_of(list_in(line, 6));
     let a = least(list_in(line, 6).len());
     let mut tried = [7u32; 64];
@@ -151,39 +161,39 @@ pub fn lend(rules: Rules, kind: u8, line: &[u8], tree: &[u8]) {
         &mut given[0..a],
         &mut began[0..t],
     );
-    lend_behind(rules, kind, line, tree, m, answers, a);
-    show_tried(kind, &tried, t);
-    show_began(kind, &given, a, &began, t);
+    lend_behind(to, rules, kind, line, tree, m, answers, a);
+    show_tried(to, kind, &tried, t);
+    show_began(to, kind, &given, a, &began, t);
 }
 
 // The numbers tried.
-fn show_tried(kind: u8, tried: &[u32; 64], t: usize) {
+fn show_tried(to: Stdout, kind: u8, tried: &[u32; 64], t: usize) {
     if kind != b'c' {
-        list_tried(tried, t);
+        list_tried(to, tried, t);
     }
-    character(b'\n');
+    character(to, b'\n');
 }
 
 // The first times where matches began.
-fn list_began(entries: &[u64], count: usize) {
-    write(b" began");
+fn list_began(to: Stdout, entries: &[u64], count: usize) {
+    write(to, b" began");
     let mut i: usize = 0;
     while i < entries.len() {
         if i >= count {
             return;
         }
-        character(b' ');
-        number(entries[i] as usize);
+        character(to, b' ');
+        number(to, entries[i] as usize);
         i += 1;
     }
 }
 
 // Whether a time is given, and the times.
-fn show_began(kind: u8, given: &[u8; 64], a: usize, began: &[u64; 64], t: usize) {
+fn show_began(to: Stdout, kind: u8, given: &[u8; 64], a: usize, began: &[u64; 64], t: usize) {
     if kind == b'c' {
         return;
     }
-    list(b" given", given, a, false);
-    list_began(began, t);
-    character(b'\n');
+    list(to, b" given", given, a, false);
+    list_began(to, began, t);
+    character(to, b'\n');
 }

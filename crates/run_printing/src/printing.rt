@@ -1,18 +1,19 @@
-// Words, characters, numbers, refusals, and how much is done.
+// Words, characters, numbers, refusals, and how much is done. What standard output does not take is missed where the
+// output is compared, so no write says whether it failed.
 use basics::{Outcome, Refusal};
-use libc::STDOUT_FILENO;
+use std::io::Stdout;
 
-pub fn write(text: &[u8]) {
-    io::write_all(STDOUT_FILENO, text);
+pub fn write(to: Stdout, text: &[u8]) {
+    let _ = to.write_all(text);
 }
 
-pub fn character(b: u8) {
+pub fn character(to: Stdout, b: u8) {
     let one = [b];
-    write(&one);
+    write(to, &one);
 }
 
-pub fn number(n: usize) {
-    io::print_decimal(STDOUT_FILENO, n as u64);
+pub fn number(to: Stdout, n: usize) {
+    let _ = to.print(n);
 }
 
 pub fn small(n: u8) -> usize {
@@ -24,41 +25,41 @@ pub fn wide(n: u32) -> usize {
 }
 
 // How many bytes are refused, where there are any.
-fn extent(n: usize) {
+fn extent(to: Stdout, n: usize) {
     if n != 0 {
-        write(b" of ");
-        number(n);
+        write(to, b" of ");
+        number(to, n);
     }
 }
 
 // A word, the number and place of a refusal, and how many bytes are refused.
-pub fn refused(word: &[u8], r: Refusal) {
-    write(word);
-    number(small(r.number));
-    write(b" at ");
-    number(r.place);
-    extent(r.extent);
+pub fn refused(to: Stdout, word: &[u8], r: Refusal) {
+    write(to, word);
+    number(to, small(r.number));
+    write(to, b" at ");
+    number(to, r.place);
+    extent(to, r.extent);
 }
 
 // A refusal by its number and place.
-pub fn refusal(r: Refusal) {
-    refused(b" refused ", r);
+pub fn refusal(to: Stdout, r: Refusal) {
+    refused(to, b" refused ", r);
 }
 
 // How much is done.
-pub fn outcome(r: Outcome) {
+pub fn outcome(to: Stdout, r: Outcome) {
     match r {
         Outcome::Done(n) => {
-            write(b" done ");
-            number(n);
+            write(to, b" done ");
+            number(to, n);
         }
-        Outcome::Refused(f) => refusal(f),
+        Outcome::Refused(f) => refusal(to, f),
     }
 }
 
 // A line that cannot be read.
-pub fn broken(line: &[u8]) {
-    write(b"? ");
-    write(line);
-    character(b'\n');
+pub fn broken(to: Stdout, line: &[u8]) {
+    write(to, b"? ");
+    write(to, line);
+    character(to, b'\n');
 }

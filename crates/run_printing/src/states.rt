@@ -1,6 +1,7 @@
 // States by their letters, and lists.
 use crate::printing::{character, number, refusal, small, wide, write};
 use basics::Outcome;
+use std::io::Stdout;
 
 // The letter or digit of a state, and of any other byte 0.
 fn letter_of(code: u8) -> u8 {
@@ -17,59 +18,59 @@ fn letter_of(code: u8) -> u8 {
 }
 
 // A state by its letter; a byte that is no state as a number.
-pub fn letter(code: u8) {
+pub fn letter(to: Stdout, code: u8) {
     if code < 8 {
-        character(letter_of(code));
+        character(to, letter_of(code));
     } else {
-        number(small(code));
+        number(to, small(code));
     }
 }
 
 // An entry of a list of states, or of another list.
-pub fn entry(code: u8, states: bool) {
-    character(b' ');
+pub fn entry(to: Stdout, code: u8, states: bool) {
+    character(to, b' ');
     if states {
-        letter(code);
+        letter(to, code);
     } else {
-        number(small(code));
+        number(to, small(code));
     }
 }
 
 // A word and the first entries of a list, which are states or numbers.
-pub fn list(word: &[u8], entries: &[u8], count: usize, states: bool) {
-    write(word);
+pub fn list(to: Stdout, word: &[u8], entries: &[u8], count: usize, states: bool) {
+    write(to, word);
     let mut i: usize = 0;
     while i < entries.len() {
         if i >= count {
             return;
         }
-        entry(entries[i], states);
+        entry(to, entries[i], states);
         i += 1;
     }
 }
 
 // The first numbers tried.
-pub fn list_tried(entries: &[u32], count: usize) {
-    write(b" tried");
+pub fn list_tried(to: Stdout, entries: &[u32], count: usize) {
+    write(to, b" tried");
     let mut i: usize = 0;
     while i < entries.len() {
         if i >= count {
             return;
         }
-        character(b' ');
-        number(wide(entries[i]));
+        character(to, b' ');
+        number(to, wide(entries[i]));
         i += 1;
     }
 }
 
 // A state that is answered.
-pub fn state(r: Outcome) {
+pub fn state(to: Stdout, r: Outcome) {
     match r {
         Outcome::Done(n) => {
             if n < 8 {
-                entry(n as u8, true);
+                entry(to, n as u8, true);
             }
         }
-        Outcome::Refused(f) => refusal(f),
+        Outcome::Refused(f) => refusal(to, f),
     }
 }

@@ -12,15 +12,17 @@ use run_calls::rows::{at_row, at_rows, totals_first};
 use run_printing::printing::character;
 use run_words::lists::narrow;
 use run_words::words::{list_in, number_in};
+use std::io::Stdout;
 
 // At the row of a line.
-pub fn row_in(rules: Rules, call: u8, line: &[u8], tree: &[u8]) {
+pub fn row_in(to: Stdout, rules: Rules, call: u8, line: &[u8], tree: &[u8]) {
     let names = number_in(line, 1);
     let n = number_in(line, 2);
     let row = narrow(number_in(line, 4));
     let times = times_of(is_behind(line, b'-'));
     let c = count_of(line, n);
     at_row(
+        to,
         rules,
         call,
         names,
@@ -30,16 +32,17 @@ pub fn row_in(rules: Rules, call: u8, line: &[u8], tree: &[u8]) {
         list_in(line, 3),
         RowNo(row),
     );
-    character(b',');
+    character(to, b',');
 }
 
 // At the rows of a line from a row on.
-pub fn rows_in(rules: Rules, call: u8, line: &[u8], tree: &[u8], from: usize) {
+pub fn rows_in(to: Stdout, rules: Rules, call: u8, line: &[u8], tree: &[u8], from: usize) {
     let names = number_in(line, 1);
     let n = number_in(line, 2);
     let times = times_of(is_behind(line, b'-'));
     let c = count_of(line, n);
     at_rows(
+        to,
         rules,
         call,
         names,
@@ -49,27 +52,27 @@ pub fn rows_in(rules: Rules, call: u8, line: &[u8], tree: &[u8], from: usize) {
         list_in(line, 3),
         from,
     );
-    character(b'\n');
+    character(to, b'\n');
 }
 
-pub fn queue_in(rules: Rules, line: &[u8], tree: &[u8]) {
+pub fn queue_in(to: Stdout, rules: Rules, line: &[u8], tree: &[u8]) {
     let early = is_behind(line, b'-');
-    by_queue(rules, number_in(line, 1), tree, early, list_in(line, 3));
-    character(b'\n');
+    by_queue(to, rules, number_in(line, 1), tree, early, list_in(line, 3));
+    character(to, b'\n');
 }
 
 // The totals.
-pub fn totals_in(rules: Rules, line: &[u8], tree: &[u8]) {
+pub fn totals_in(to: Stdout, rules: Rules, line: &[u8], tree: &[u8]) {
     let names = number_in(line, 1);
     let n = number_in(line, 2);
-    counting(totals(rules, names, n, tree, list_in(line, 3)));
+    counting(to, totals(rules, names, n, tree, list_in(line, 3)));
 }
 
 // The totals on so many rows of a name that is 0.
-pub fn zeros_in(rules: Rules, line: &[u8], tree: &[u8]) {
-    let zeros = io::large_buffer();
-    totals_first(rules, number_in(line, 2), tree, &zeros);
-    character(b'\n');
+pub fn zeros_in(to: Stdout, rules: Rules, line: &[u8], tree: &[u8]) {
+    let zeros = [0u8; 65536];
+    totals_first(to, rules, number_in(line, 2), tree, &zeros);
+    character(to, b'\n');
 }
 
 // The first entry, or 0.
@@ -81,11 +84,12 @@ fn first_of(list: &[u8]) -> u8 {
 }
 
 // A push of the new row onto a queue that keeps so many rows as word 2 says, and whose first state is that of word 3.
-pub fn push_in(rules: Rules, line: &[u8], tree: &[u8]) {
+pub fn push_in(to: Stdout, rules: Rules, line: &[u8], tree: &[u8]) {
     let names = number_in(line, 1);
     let kept = narrow(number_in(line, 2));
-    character(b':');
+    character(to, b':');
     by_push(
+        to,
         rules,
         names,
         tree,

@@ -9,18 +9,19 @@ use run_printing::printing::{character, outcome};
 use run_printing::states::list;
 use run_words::lists::{copy_of, least};
 use run_words::words::{list_in, number_in};
+use std::io::Stdout;
 
 // All values of a case; or what they come to, and the list afterwards.
-fn show_values(kind: u8, v: Outcome, out: &[u8; 64], a: usize) {
+fn show_values(to: Stdout, kind: u8, v: Outcome, out: &[u8; 64], a: usize) {
     if kind == b'b' {
-        return list(b" values", out, a, true);
+        return list(to, b" values", out, a, true);
     }
-    outcome(v);
-    list(b"\n out", out, a, false);
+    outcome(to, v);
+    list(to, b"\n out", out, a, false);
 }
 
 // The values of all rows. Word 6 is the list that is lent.
-pub fn lend_out(rules: Rules, kind: u8, line: &[u8], tree: &[u8]) {
+pub fn lend_out(to: Stdout, rules: Rules, kind: u8, line: &[u8], tree: &[u8]) {
     let mut out = copy_of(list_in(line, 6));
     let a = least(list_in(line, 6).len());
     let v = values(
@@ -31,6 +32,6 @@ pub fn lend_out(rules: Rules, kind: u8, line: &[u8], tree: &[u8]) {
         list_in(line, 3),
         &mut out[0..a],
     );
-    show_values(kind, v, &out, a);
-    character(b'\n');
+    show_values(to, kind, v, &out, a);
+    character(to, b'\n');
 }

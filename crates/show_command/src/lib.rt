@@ -8,16 +8,16 @@ ghost use Rattle.std.specs.Prelude.{◌≡◌, ◌+◌, ◌<◌, min};
 use activity::texts::activity_part;
 use basics::Outcome;
 use complaints::refused;
-use console::output::say_front;
+use console::output::{Console, say_front};
 
 // How many rows are shown at a time.
 const ROWS: usize = 1000;
 
 // What was made is printed, or it is said why there is nothing.
-fn tell(out: &[u8], o: Outcome) {
+fn tell(console: &Console, out: &[u8], o: Outcome) {
     match o {
-        Outcome::Done(n) => say_front(out, n),
-        Outcome::Refused(r) => refused(b"trace", r),
+        Outcome::Done(n) => say_front(console, out, n),
+        Outcome::Refused(r) => refused(console, b"trace", r),
     }
 }
 
@@ -35,27 +35,34 @@ fn end_of(r: usize, n: usize) -> usize
 }
 
 // The rows from row r on.
-fn show_some(names: &[u8], times: &[u64], states: &[u8], r: usize, out: &mut [u8]) {
+fn show_some(
+    console: &Console,
+    names: &[u8],
+    times: &[u64],
+    states: &[u8],
+    r: usize,
+    out: &mut [u8],
+) {
     let n = times.len();
     let o = activity_part(names, times, states, n, r, end_of(r, n), out);
-    tell(out, o);
+    tell(console, out, o);
 }
 
-fn show_all(names: &[u8], times: &[u64], states: &[u8], out: &mut [u8]) {
+fn show_all(console: &Console, names: &[u8], times: &[u64], states: &[u8], out: &mut [u8]) {
     let mut r: usize = 0;
     while r < times.len() {
-        show_some(names, times, states, r, out);
+        show_some(console, names, times, states, r, out);
         r += ROWS;
     }
 }
 
-fn lent(names: &[u8], times: &[u64], states: &[u8], out: &mut [u8; 1145069]) {
-    show_all(names, times, states, out);
+fn lent(console: &Console, names: &[u8], times: &[u64], states: &[u8], out: &mut [u8; 1145069]) {
+    show_all(console, names, times, states, out);
 }
 
 // Room for the longest: the head, and 1,000 rows with times of ten digits and 32 names of 32 bytes that change at each
 // row (part_fits in activity/proofs/Longest).
-pub fn show(names: &[u8], times: &[u64], states: &[u8]) {
+pub fn show(console: &Console, names: &[u8], times: &[u64], states: &[u8]) {
     let mut out = [0u8; 1145069];
-    lent(names, times, states, &mut out);
+    lent(console, names, times, states, &mut out);
 }

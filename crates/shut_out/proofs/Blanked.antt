@@ -8,6 +8,7 @@
 --   pin_forgotten              a pin that the text's expression names, and that is not kept
 --   pin_invented               a pin that is kept, though the text does not name it and it was not kept before
 --   blank_attached, keep_text_attached     the contracts
+use Rattle.std.specs.Prelude.{if◌then◌else◌}
 use Prim.Native.Nat.{ℕ, ◌<◌}
 use native.Mathlib.Nat.{zero-add}
 use native.Mathlib.Omega.{arith}
@@ -21,7 +22,7 @@ use Rattle.basics.specs.declared.Refusal.{Refusal}
 use Rattle.basics.specs.declared.Outcome.{Outcome}
 use Rattle.basics.specs.declared.Outcome.TheVariants as outcome
 use Rattle.basics.specs.Memory.{after}
-use Rattle.basics.specs.Words.{if◌then◌else◌, listed}
+use Rattle.basics.specs.Words.{listed}
 use Rattle.basics.proofs.Bools.{never}
 use Rattle.basics.proofs.Listed.{listed_at}
 use Rattle.alf.specs.declared.Rules.{Rules}

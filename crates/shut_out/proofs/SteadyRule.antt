@@ -4,6 +4,7 @@
 --   rule_dropped, rule_dropped_under      with the rule on, no call answers unknown there: case 2, case 3
 --   rule_dropped_counted                  nor counts an unknown in case 2
 --   rule_forced, rule_forced_under        with the rule off, no call answers no there
+use Rattle.std.specs.Prelude.{if◌then◌else◌}
 use Prim.Native.Nat.{ℕ, ◌<◌}
 use native.Mathlib.Omega.{arith}
 use mathlib.Core.Path.{◌≡◌, refl, sym, ap, ◌∙◌, subst}
@@ -13,7 +14,7 @@ use lib.Dec.{eqb}
 use lib.ListN.{get_or}
 use native.Mathlib.Nat.{zero-add}
 use Rattle.basics.specs.Memory.{after}
-use Rattle.basics.specs.Words.{if◌then◌else◌, listed, count}
+use Rattle.basics.specs.Words.{listed, count}
 use Rattle.basics.proofs.AllEntries.{All, more}
 use Rattle.basics.proofs.Counts.{count_same}
 use Rattle.basics.proofs.Listed.{listed_at}

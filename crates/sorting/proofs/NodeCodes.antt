@@ -2,14 +2,15 @@
 --   operand_code, prefix_code, binary_code, question_code   what the kind of a token says of its code
 --   formed_nodes                                            each node of a tree has the code of a node
 --   node_leaf, node_two, node_one                           what a node's code is in its range
+use Rattle.std.specs.Prelude.{if◌then◌else◌}
 use mathlib.Core.Path.{◌≡◌, refl, sym, ◌∙◌}
 use mathlib.Core.Bool.{Bool, true, false, ◌&&◌, ◌||◌}
 use mathlib.Core.List.{List, [], ◌∷◌}
-use Prim.Native.Nat.{ℕ, ◌-◌, ◌≤◌, ◌<◌}
+use Prim.Native.Nat.{ℕ, ◌≤◌, ◌<◌}
 use native.Mathlib.Omega.{arith}
 use lib.Dec.{eqb, ltb, leb}
 use borrow.Author.Tests.{ltb-true, leb-true, lt-leb, le-leb, ne_eqb}
-use Rattle.basics.specs.Words.{if◌then◌else◌, all}
+use Rattle.basics.specs.Words.{all}
 use Rattle.basics.proofs.Bools.{never, and_left, and_right, below?}
 use Rattle.basics.proofs.Choices.{every, every_at}
 use Rattle.basics.proofs.AllEntries.{All, none, more, all_append}

@@ -2,6 +2,7 @@
 --   MadeBy, made-shows                          what is made, its sort and its bytes, and how the pass shows it
 --   made_leaf, made_one, made_two, made_three   by a name or literal, and by an operator of one, two, three
 --   fault_two                                   operands that are not taken
+use Rattle.std.specs.Prelude.{if◌then◌else◌}
 use mathlib.Core.Path.{◌≡◌, refl, sym, ap, ◌∙◌}
 use mathlib.Core.Bool.{Bool, true, false, not, ◌||◌}
 use mathlib.Core.List.{List, [], ◌∷◌, ◌++◌, append_assoc}
@@ -10,7 +11,6 @@ use native.Mathlib.Omega.{arith}
 use lib.Dec.{eqb, ltb, leb}
 use lib.ListN.{length}
 use borrow.Author.Tests.{eqb-true, eqb-false, ltb-true, ltb-false, leb-true, ne_eqb}
-use Rattle.basics.specs.Words.{if◌then◌else◌}
 use Rattle.alf.specs.Expressions.{Boolean, name, literal, negated, binary, choice, Vector, edge, join, while}
 use Rattle.alf.specs.Expressions.{with, or_else, on-right, on-left, Expression, boolean, vector}
 use Rattle.alf.specs.Bytes.{bytes_of, boolean_bytes, vector_bytes, join_byte}

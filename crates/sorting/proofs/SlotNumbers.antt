@@ -4,6 +4,7 @@
 --   Found, number_found_lem, number_here, number-none, number_small    the number of a name is its first slot's
 --   word_part, word_fits                                the name that stands at a byte
 --   holds_told, slot_told, unknown_other, unknown_name  what the functions of lookup answer
+use Rattle.std.specs.Prelude.{if◌then◌else◌}
 use mathlib.Core.Path.{◌≡◌, refl, sym, ap, ◌∙◌}
 use mathlib.Core.Bool.{Bool, true, false}
 use mathlib.Core.List.{List}
@@ -14,7 +15,7 @@ use lib.ListN.{length, take, drop, length-drop}
 use borrow.Author.Tests.{eq-eqb, ne_eqb}
 use Rattle.basics.specs.Deciding.{Decides}
 use Rattle.basics.proofs.Deciding.{decided_by}
-use Rattle.basics.specs.Words.{if◌then◌else◌, same}
+use Rattle.basics.specs.Words.{same}
 use Rattle.basics.proofs.Entries.{same_sound, same_true, same_false}
 use Rattle.alf.specs.Names.{names_in, name_at, until_zero}
 use Rattle.basics.proofs.Bools.{never}

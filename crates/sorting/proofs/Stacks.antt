@@ -15,7 +15,6 @@ use lib.Seq.{take-suc-set, take-take, take_at, get_or-take, get_or_at}
 use Rattle.alf.specs.Expressions.{Expression}
 use Rattle.alf.specs.Bytes.{bytes_of}
 use Rattle.grammar.specs.Answers.{padded}
-use Rattle.basics.specs.Memory.{front}
 use Rattle.basics.proofs.Stores.{front_next}
 use Rattle.sorting.specs.declared.sorts.Sorting.{Sorting}
 use Rattle.sorting.specs.Passes.{going, stopped, is_vector, sorts_of, stack_bytes, Shows, goes, stops}

@@ -4,8 +4,8 @@
 --   first                     the first number that passes a test
 --   slot_number, number_at        the number of a name, and of the name at a byte
 --   is_unknown, unknown_at      a token is a name that no slot holds; the first that is
-use Rattle.std.specs.Prelude.{ℕ, zero, suc, ◌/◌, Bool, ◌&&◌, List, eqb, length, take, drop, get_or}
-use Rattle.basics.specs.Words.{if◌then◌else◌, same}
+use Rattle.std.specs.Prelude.{ℕ, zero, suc, Bool, ◌&&◌, List, eqb, take, drop, get_or, if◌then◌else◌}
+use Rattle.basics.specs.Words.{same}
 use Rattle.alf.specs.Names.{names_in, name_at}
 use Rattle.token_steps.specs.Taking.{name_bytes}
 

@@ -6,8 +6,7 @@
 --   pair_byte, sort_at, leaf_byte, leaf_in          bytes and sorts that the code computes
 --   Deep, Room, Put, Ready, Took, Asked, Stepped, Halted, Started     a single step each
 --   Named, Listed, Handed, Shown                the lookup of a name, some tokens, the nodes of a tree, the whole pass
-use Rattle.std.specs.Prelude.{ℕ, ◌-◌, ◌+◌, ◌≤◌, ◌<◌, ◌≡◌, Bool, true, false, ◌||◌, List, [], ◌∷◌, ◌++◌, eqb, ltb, length, take, get_or}
-use Rattle.basics.specs.Words.{if◌then◌else◌}
+use Rattle.std.specs.Prelude.{ℕ, ◌-◌, ◌+◌, ◌≤◌, ◌<◌, ◌≡◌, Bool, true, false, ◌||◌, List, [], ◌∷◌, ◌++◌, eqb, ltb, length, take, get_or, if◌then◌else◌}
 use Rattle.alf.specs.Names.{names_in, between}
 use Rattle.alf.specs.Expressions.{Expression, boolean, vector}
 use Rattle.alf.specs.Bytes.{bytes_of}

@@ -4,11 +4,10 @@
 --   atom, of_one, of_two, of_three     what a node makes of its operands
 --   given, sorted                   an operand and what is made of it; the whole tree
 --   asked, sorted_for                the sort that the call asks for
-use Rattle.std.specs.Prelude.{ℕ, ◌-◌, eqb, ltb}
+use Rattle.std.specs.Prelude.{ℕ, ◌-◌, eqb, ltb, if◌then◌else◌}
 use Rattle.alf.specs.declared.Sort.{Sort}
 use Rattle.alf.specs.declared.Sort.TheVariants as the-sort
-use Rattle.basics.specs.Words.{if◌then◌else◌}
-use Rattle.alf.specs.Expressions.{Boolean, name, literal, negated, binary, choice, Vector, edge, join, while}
+use Rattle.alf.specs.Expressions.{Boolean, name, literal, negated, binary, choice, edge, join, while}
 use Rattle.alf.specs.Expressions.{with, or_else, on-right, on-left, Expression, boolean, vector}
 use Rattle.alf.specs.Decoder.{binary_at, join_at, edge_at}
 use Rattle.grammar.specs.declared.Token.{Token}

@@ -2,6 +2,7 @@
 --   signs_spellable   the signs of tokens that can be written can be spelled
 --   line_text         their line is the tokens' text
 --   text_short        a text has at most 33 bytes for each token
+use Rattle.std.specs.Prelude.{if◌then◌else◌}
 use Prim.Native.Nat.{ℕ, zero, suc, ◌*◌, ◌/◌, ◌<◌, ◌≤◌}
 use native.Mathlib.Omega.{arith}
 use mathlib.Core.Path.{◌≡◌, refl}
@@ -10,7 +11,6 @@ use mathlib.Core.List.{List, [], ◌∷◌, map}
 use lib.Dec.{eqb, ltb}
 use lib.ListN.{length, get_or, take, drop, length-append, length-take}
 use borrow.Author.Tests.{ltb-true, lt-ltb, le-ltb, ne_eqb}
-use Rattle.basics.specs.Words.{if◌then◌else◌}
 use Rattle.alf.specs.Names.{until_zero, slot, name_at}
 use Rattle.basics.proofs.Ranges.{all_from, all_from_law}
 use Rattle.grammar.specs.declared.Token.{Token}

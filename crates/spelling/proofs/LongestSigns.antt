@@ -3,7 +3,7 @@
 --   Behind           what stands behind a written token
 --   Sign             the codes of tokens that are no names
 --   taken_by_step, sign_taken
-use Prim.Native.Nat.{ℕ, ◌+◌, ◌<◌, ◌≤◌}
+use Prim.Native.Nat.{ℕ, ◌<◌, ◌≤◌}
 use native.Mathlib.Omega.{arith}
 use mathlib.Core.Path.{◌≡◌, refl}
 use mathlib.Core.Bool.{Bool, true, ◌&&◌}

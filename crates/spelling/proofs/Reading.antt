@@ -102,13 +102,13 @@ unfolding is_blank_lem among
 space = refl
 
 -- the text of some tokens from place p on
-following_reads : (p : ℕ) {names : List ℕ} {ts : List Token} → AllKnown names ts
+following_reads : {names : List ℕ} (p : ℕ) {ts : List Token} → AllKnown names ts
     → Reads p (following names ts) (tokens_from names (suc p) ts)
 unfolding following tokens_from
 following_reads p none = Reads.done
-following_reads p {names} (more {t = t} {ts = ts} k a) =
+following_reads {names} p (more {t = t} {ts = ts} k a) =
     Reads.blank space
-    (taken_reads (spelled names t) (spelled_taken k (following_behind names ts)) (following_reads _ a))
+    (taken_reads (spelled names t) (spelled_taken k (following_behind names ts)) (following_reads (suc p + length (spelled names t)) a))
 
 pub text_reads : {names : List ℕ} {ts : List Token} → AllKnown names ts
     → Reads 0 (text_of_lem names ts) (tokens_from names 0 ts)

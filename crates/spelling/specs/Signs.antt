@@ -3,8 +3,7 @@
 --   word, mark_at_lem     a sign's spelling, and where the code's table has it
 --   gap, line_from    the blank before a word, and the words of some signs
 -- That the line of some tokens' signs is their text is a law.
-use Rattle.std.specs.Prelude.{ℕ, suc, ◌-◌, List, [], ◌∷◌, ◌++◌, eqb, ltb}
-use Rattle.basics.specs.Words.{if◌then◌else◌}
+use Rattle.std.specs.Prelude.{ℕ, suc, ◌-◌, List, [], ◌∷◌, ◌++◌, eqb, ltb, if◌then◌else◌}
 use Rattle.alf.specs.Names.{name_at}
 use Rattle.grammar.specs.declared.Token.{Token}
 use Rattle.spelling.specs.Spelled.{sign_spelled}

@@ -4,8 +4,7 @@
 --   operators, marks, prefixes              the other tokens that are no names
 --   sign_spelled, spelled                    a token that is no name, and any token
 --   following, text_of_lem                       the text of some tokens behind a token, and by themselves
-use Rattle.std.specs.Prelude.{ℕ, ◌-◌, ◌/◌, ◌%◌, ◌&&◌, List, [], ◌∷◌, ◌++◌, eqb, ltb, get_or}
-use Rattle.basics.specs.Words.{if◌then◌else◌}
+use Rattle.std.specs.Prelude.{ℕ, ◌-◌, ◌/◌, ◌%◌, ◌&&◌, List, [], ◌∷◌, ◌++◌, eqb, ltb, get_or, if◌then◌else◌}
 use Rattle.alf.specs.Names.{name_at}
 use Rattle.token_steps.specs.Spelling.{based}
 use Rattle.grammar.specs.declared.Token.{Token}

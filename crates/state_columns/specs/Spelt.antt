@@ -2,8 +2,7 @@
 --   states_from             the states from some row on
 --   SpellAsked, Spelt      what writing them asks and promises
 --   PartsOf                how many parts an operator takes
-use Rattle.std.specs.Prelude.{ℕ, ◌+◌, ◌*◌, ◌<◌, ◌≤◌, ◌≡◌, List, ltb, length, get_or}
-use Rattle.basics.specs.Words.{if◌then◌else◌}
+use Rattle.std.specs.Prelude.{ℕ, ◌+◌, ◌*◌, ◌<◌, ◌≤◌, ◌≡◌, List, ltb, length, get_or, if◌then◌else◌}
 use Rattle.alf.specs.declared.Rules.{Rules}
 use Rattle.trees.specs.Parts.{EndsBoolean}
 use Rattle.evaluator.specs.Rows.{Within, state_of}

@@ -1,7 +1,6 @@
 -- The letters of the states, 0 1 X H L W Z U, in either case, and their codes.
 --   state_of    the code of a letter's state
-use Rattle.std.specs.Prelude.{ℕ}
-use Rattle.basics.specs.Words.{if◌then◌else◌}
+use Rattle.std.specs.Prelude.{ℕ, if◌then◌else◌}
 use Rattle.alf.specs.States.{among, X, H, L, W, Z, U}
 use Rattle.basics.specs.Text.{bytes}
 

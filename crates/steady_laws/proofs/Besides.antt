@@ -4,11 +4,12 @@
 --   front_beside, back_beside    and with the operands of p before it, in either direction
 --   run_beside                   a step gets the same tests
 --   filled_beside_lem                so the two ways to fill are one
+use Rattle.std.specs.Prelude.{if◌then◌else◌}
 use mathlib.Core.Path.{◌≡◌, refl, ap, sym, ◌∙◌}
 use mathlib.Core.Bool.{Bool, true, false, not, ◌&&◌, ◌||◌}
 use mathlib.Core.List.{List, [], ◌∷◌, ◌++◌, reverse_aux, append_assoc}
 use Prim.Native.Nat.{ℕ, zero, suc}
-use Rattle.basics.specs.Words.{if◌then◌else◌, all}
+use Rattle.basics.specs.Words.{all}
 use Rattle.alf.specs.Expressions.{Vector, edge, join, while, Join}
 use Rattle.alf.specs.Steady.{is_then, is_step_lem, moves, has_edge_on, some_of, operands, row, run, kept, is_steady}
 use Rattle.alf.specs.Steady.{steadied, filled_in, filled}

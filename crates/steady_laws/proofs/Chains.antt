@@ -4,11 +4,12 @@
 --   filled_then, filled_step, filled_other     filling a join by its kind
 --   filled_list, operands_filled  the operands of a filled chain are those of the chain, each filled in its place
 --   grouped                      two chains of the same operands, filled, have the same alternatives
+use Rattle.std.specs.Prelude.{if◌then◌else◌}
 use mathlib.Core.Path.{◌≡◌, refl, ap, sym, ◌∙◌}
 use mathlib.Core.Bool.{Bool, true, false}
 use mathlib.Core.List.{List, [], ◌∷◌, ◌++◌, map, reverse_aux, append-nil, append_assoc}
 use Prim.Native.Nat.{ℕ, zero, suc}
-use Rattle.basics.specs.Words.{if◌then◌else◌, all}
+use Rattle.basics.specs.Words.{all}
 use Rattle.alf.specs.Expressions.{Boolean, name, Edge, stays, Vector, edge, join, while}
 use Rattle.alf.specs.Expressions.{Join, followed-by, either_order, with-or-then, any_order, with, or_else}
 use Rattle.alf.specs.Alternatives.{Alternative, each, chained, rewritten, alternatives}

@@ -4,6 +4,7 @@
 --   steadied-..                  the same of a step in its run
 --   filled_of_step, step_kept    filling fills a step in its run, and keeps what is a step
 --   filled_back, moves_before, moves_after     the operands beside one, filled, change as before
+use Rattle.std.specs.Prelude.{if◌then◌else◌}
 use mathlib.Core.Path.{◌≡◌, refl, ap, sym, ◌∙◌}
 use mathlib.Core.Bool.{Bool, true, false, not, ◌&&◌, ◌||◌, or-false, and-true}
 use mathlib.Core.List.{List, [], ◌∷◌}
@@ -12,7 +13,7 @@ use Prim.Native.Nat.{ℕ, zero, suc, ◌<◌}
 use native.Mathlib.Omega.{arith}
 use lib.Dec.{eqb}
 use borrow.Author.Tests.{eq-eqb, eqb-true}
-use Rattle.basics.specs.Words.{if◌then◌else◌, all}
+use Rattle.basics.specs.Words.{all}
 use Rattle.alf.specs.Expressions.{name, stays, Vector, edge, join, while, with}
 use Rattle.alf.specs.Alternatives.{is_name}
 use Rattle.alf.specs.Steady.{is_then, is_with, is_step_lem, is_changing, moves, has_edge_on, some_of, row, run, is_steady, kept}

@@ -2,11 +2,12 @@
 --   one_step                     a step that is a run by itself gets no test
 --   part_lone                    a part of a chain of which no two neighbours are both steps
 --   lone_filled                  the expression
+use Rattle.std.specs.Prelude.{if◌then◌else◌}
 use mathlib.Core.Path.{◌≡◌, refl, ap, sym, ◌∙◌}
 use mathlib.Core.Bool.{Bool, true, false, not, ◌&&◌, ◌||◌}
 use mathlib.Core.List.{List, [], ◌∷◌, ◌++◌, reverse_aux, append-nil, append_assoc}
 use Prim.Native.Nat.{ℕ}
-use Rattle.basics.specs.Words.{if◌then◌else◌, all}
+use Rattle.basics.specs.Words.{all}
 use Rattle.alf.specs.Expressions.{Vector, edge, join, while}
 use Rattle.alf.specs.Steady.{is_then, is_step_lem, moves, has_edge_on, some_of, operands, row, run, is_steady, kept}
 use Rattle.alf.specs.Steady.{steadied, filled_in, filled}

@@ -9,12 +9,12 @@
 --   meant_limit                  an expression over a limit of 8 is over one as it is read
 --   meant_answer, meant_best     no answer is above the one of the expression as written
 --   meant_tries_bound            no more alternatives are tried than it has as written
+use Rattle.std.specs.Prelude.{if◌then◌else◌}
 use mathlib.Core.Path.{◌≡◌, refl}
 use mathlib.Core.Bool.{Bool, true, false}
 use mathlib.Core.List.{map}
 use Prim.Native.Nat.{ℕ, ◌≤◌}
 use native.Mathlib.Omega.{arith}
-use Rattle.basics.specs.Words.{if◌then◌else◌}
 use Rattle.alf.specs.declared.Rules.{Rules}
 use Rattle.alf.specs.Expressions.{Boolean, Vector, VectorOver}
 use Rattle.alf.specs.Windows.{answer, best}

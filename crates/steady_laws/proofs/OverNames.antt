@@ -2,12 +2,12 @@
 --   named_over                   a name with an edge in an expression over n names is one of them
 --   Among                        the names beside a part of a chain are some of n
 --   filled_over                  the filled expression is over n names
+use Rattle.std.specs.Prelude.{if◌then◌else◌}
 use mathlib.Core.Path.{◌≡◌, refl}
 use mathlib.Core.Bool.{Bool, true, false, not, ◌&&◌, ◌||◌}
 use Prim.Native.Nat.{ℕ, zero, suc, ◌<◌}
 use native.Mathlib.Omega.{arith}
 use borrow.Author.Tests.{eqb-true}
-use Rattle.basics.specs.Words.{if◌then◌else◌}
 use Rattle.alf.specs.Expressions.{Boolean, name, literal, negated, binary, choice, stays, Vector, edge, join, while}
 use Rattle.alf.specs.Expressions.{with, Over, EdgeKnown, VectorOver}
 use Rattle.alf.specs.Alternatives.{is_name}

@@ -3,6 +3,7 @@
 --   filled_best, filled_answer   the answer of the expression, at a row and on a window
 --   filled_no, filled_yes        as document 01 numbers them: a no stays no, and a yes was yes
 --   filled_tries, tries_bound, filled_tries_bound     no fewer alternatives are tried, and no more than there are
+use Rattle.std.specs.Prelude.{if◌then◌else◌}
 use mathlib.Core.Path.{◌≡◌, refl}
 use mathlib.Core.Bool.{Bool, true, false}
 use mathlib.Core.List.{List, [], ◌∷◌, map}
@@ -12,7 +13,7 @@ use native.Mathlib.Omega.{arith}
 use lib.Dec.{eqb, leb}
 use lib.ListN.{length, length-map, get_or}
 use borrow.Author.Tests.{eq-eqb, ne_eqb}
-use Rattle.basics.specs.Words.{if◌then◌else◌, greatest_of, least_of}
+use Rattle.basics.specs.Words.{greatest_of, least_of}
 use Rattle.alf.specs.Expressions.{Boolean, Vector}
 use Rattle.alf.specs.Windows.{YES, answer, best, numbered, row_answer}
 use Rattle.alf.specs.Alternatives.{Step, Alternative, alternatives, step_at, steps_from, on_window, at_row, best_of}

@@ -3,13 +3,14 @@
 --   filled_number, filled_steps  the number of alternatives and K stay
 --   filled_limit                 an expression over a limit of 8 is over one when filled
 --   filled_contradictory         an alternative is contradictory where it was
+use Rattle.std.specs.Prelude.{if◌then◌else◌}
 use mathlib.Core.Path.{◌≡◌, refl, ap, sym}
 use mathlib.Core.Bool.{true, not}
 use mathlib.Core.List.{List, [], ◌∷◌, ◌++◌, map}
 use Prim.Native.Nat.{ℕ, zero, suc, ◌+◌, ◌≤◌}
 use native.Mathlib.Omega.{arith}
 use lib.ListN.{length}
-use Rattle.basics.specs.Words.{if◌then◌else◌, greatest_of, sum_of, some}
+use Rattle.basics.specs.Words.{greatest_of, sum_of, some}
 use Rattle.alf.specs.Expressions.{Half, pair, changes, stays, Vector}
 use Rattle.alf.specs.Alternatives.{test, Step, Alternative, alternatives, is_name, halves, literals_at, possible}
 use Rattle.alf.specs.Alternatives.{contradictory, number_of_alternatives, steps_of, tests, over_limit}

@@ -3,12 +3,13 @@
 --   filled_fills                 the alternatives of the filled expression: as many, of as many steps, each so filled
 --   step_one, kept_one           a step is one alternative of one step: its written tests, then the added ones by
 --                                rising name
+use Rattle.std.specs.Prelude.{if◌then◌else◌}
 use mathlib.Core.Path.{◌≡◌, refl, ap, ◌∙◌}
 use mathlib.Core.Bool.{Bool, true, false, ◌&&◌}
 use mathlib.Core.List.{List, [], ◌∷◌, ◌++◌, map, reverse_aux, append-nil, append_assoc}
 use Prim.Native.Nat.{ℕ, zero, suc, ◌-◌}
 use lib.ListN.{length, replicate}
-use Rattle.basics.specs.Words.{if◌then◌else◌, all}
+use Rattle.basics.specs.Words.{all}
 use Rattle.alf.specs.Expressions.{Boolean, name, Edge, stays, Vector, edge, join, while}
 use Rattle.alf.specs.Expressions.{Side, Join, followed-by, either_order, with-or-then, any_order, with, or_else}
 use Rattle.alf.specs.Alternatives.{Test, test, Step, Alternative, each, padded, zipped, overlaid, conditioned}

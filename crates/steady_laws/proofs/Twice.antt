@@ -4,12 +4,13 @@
 --   back_filled                  the operands before a part, filled
 --   part_stays                   a part of a chain, with the operands beside it filled, stays
 --   filled_twice                 filled (filled p) is filled p
+use Rattle.std.specs.Prelude.{if◌then◌else◌}
 use mathlib.Core.Path.{◌≡◌, refl, sym, ◌∙◌}
 use mathlib.Core.Bool.{Bool, true, false, ◌&&◌, ◌||◌}
 use mathlib.Core.List.{List, [], ◌∷◌, ◌++◌, reverse_aux, append_assoc}
 use mathlib.Core.Logic.{◌⊎◌, inl, inr}
 use Prim.Native.Nat.{ℕ, ◌<◌}
-use Rattle.basics.specs.Words.{if◌then◌else◌, all}
+use Rattle.basics.specs.Words.{all}
 use Rattle.alf.specs.Expressions.{Vector, edge, join, while}
 use Rattle.alf.specs.Steady.{is_then, is_step_lem, moves, has_edge_on, some_of, operands, row, run, is_steady, kept}
 use Rattle.alf.specs.Steady.{steadied, filled_in, filled}

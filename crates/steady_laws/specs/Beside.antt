@@ -5,8 +5,7 @@
 --   held                         the names that get `?-` at a step
 --   filled_beside                 a part of a chain, filled
 -- That this is `filled` of alf/specs/Steady.antt is shown in proofs/Besides.antt.
-use Rattle.std.specs.Prelude.{ℕ, Bool, true, false, not, ◌&&◌, ◌||◌}
-use Rattle.basics.specs.Words.{if◌then◌else◌}
+use Rattle.std.specs.Prelude.{ℕ, Bool, true, false, not, ◌&&◌, ◌||◌, if◌then◌else◌}
 use Rattle.alf.specs.Expressions.{Vector, edge, join, while}
 use Rattle.alf.specs.Steady.{is_then, is_step_lem, moves, has_edge_on, kept}
 

@@ -3,8 +3,7 @@
 --   read_as                       the expression of a case, as it is read under some rules
 --   steady_cases, cases_under      the cases with steady pins on; the cases under some rules
 -- That a case holds is said in alf/specs/TableT.antt.
-use Rattle.std.specs.Prelude.{Bool, List, [], ◌∷◌, ◌++◌, take, drop}
-use Rattle.basics.specs.Words.{if◌then◌else◌}
+use Rattle.std.specs.Prelude.{Bool, List, [], ◌∷◌, ◌++◌, take, drop, if◌then◌else◌}
 use Rattle.basics.specs.Text.{bytes}
 use Rattle.alf.specs.declared.Rules.{Rules}
 use Rattle.alf.specs.Expressions.{while, on-right}

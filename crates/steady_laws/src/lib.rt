@@ -1,3 +1,2 @@
 // Steady pins between events: the laws of the filled expression. Nothing but proofs.
 #![tactic(auto)]
-

@@ -4,6 +4,7 @@
 --   lone_apart, then_apart                  an edge; two parts of a chain
 --   before_apart, condition_apart, other_apart     the other expressions
 --   first_walk                              where the walk over a tree starts
+use Rattle.std.specs.Prelude.{if◌then◌else◌}
 use Prim.Native.Nat.{ℕ, ◌+◌, ◌-◌, ◌*◌, ◌<◌, ◌≤◌}
 use native.Mathlib.Omega.{arith}
 use mathlib.Core.Path.{◌≡◌, refl, ap, sym, ◌∙◌, subst}
@@ -13,7 +14,6 @@ use mathlib.Core.Logic.{◌⊎◌, inl, inr}
 use lib.Dec.{eqb}
 use lib.ListN.{length, get_or, replicate, length-replicate}
 use borrow.Author.Tests.{eq-eqb}
-use Rattle.basics.specs.Words.{if◌then◌else◌}
 use Rattle.basics.proofs.Bools.{equal?, and_left, and_right}
 use Rattle.alf.specs.Expressions.{Vector}
 use Rattle.alf.specs.Decoder.{join_at}

@@ -1,13 +1,13 @@
 -- The pins of a tree are those of document 02, [2].
 --   found_means              a tree with its pins is what is meant: the filled expression where the rules say so
 --   found_pins               each pin is a place where a boolean expression ends
+use Rattle.std.specs.Prelude.{if◌then◌else◌}
 use Prim.Native.Nat.{ℕ, ◌≤◌}
 use native.Mathlib.Omega.{arith}
 use mathlib.Core.Path.{◌≡◌, sym, ◌∙◌}
 use mathlib.Core.Bool.{Bool, true, false}
 use mathlib.Core.List.{List}
 use lib.ListN.{replicate, length-replicate}
-use Rattle.basics.specs.Words.{if◌then◌else◌}
 use Rattle.alf.specs.declared.Rules.{Rules}
 use Rattle.alf.specs.Expressions.{Vector}
 use Rattle.alf.specs.Steady.{meant, filled}

@@ -1,6 +1,7 @@
 -- The pins of a tree are document 02's, [2]: the tree with its pins is the filled expression, and each pin is a place
 -- where a boolean expression ends.
 --   part_found               a part of a chain, between what is beside it
+use Rattle.std.specs.Prelude.{if◌then◌else◌}
 use Prim.Native.Nat.{ℕ, ◌+◌, ◌-◌, ◌*◌, ◌<◌, ◌≤◌}
 use native.Mathlib.Omega.{arith}
 use mathlib.Core.Path.{◌≡◌, refl, ap, ◌∙◌}
@@ -8,7 +9,6 @@ use mathlib.Core.Bool.{Bool, true, false}
 use mathlib.Core.List.{List}
 use mathlib.Core.Logic.{inl, inr}
 use lib.ListN.{length, get_or}
-use Rattle.basics.specs.Words.{if◌then◌else◌}
 use Rattle.alf.specs.Expressions.{Boolean, Edge, Vector, edge, join, while, Join, on-right, on-left}
 use Rattle.alf.specs.Steady.{is_then, is_step_lem, kept}
 use Rattle.steady_laws.specs.Beside as filling

@@ -2,6 +2,7 @@
 --   agrees_kept              where each entry agrees with a test, the tests of the pins are those of the names
 --   row-agrees               the entries of a step agree with `held`
 --   step_found               so a step with its pins is the filled step
+use Rattle.std.specs.Prelude.{if◌then◌else◌}
 use Prim.Native.Nat.{ℕ, zero, suc, ◌-◌, ◌*◌, ◌<◌, ◌≤◌}
 use native.Mathlib.Omega.{arith}
 use mathlib.Core.Path.{◌≡◌, refl}
@@ -13,7 +14,6 @@ use lib.ListN.{length, get_or, replicate}
 use lib.Seq.{sets}
 use native.Mathlib.Nat.{zero-add}
 use borrow.Author.Tests.{eq-eqb, ne_eqb}
-use Rattle.basics.specs.Words.{if◌then◌else◌}
 use Rattle.basics.proofs.Bools.{equal?}
 use Rattle.basics.proofs.Listed.{listed_at}
 use Rattle.basics.proofs.Stores.{sets_inside}

@@ -4,6 +4,7 @@
 --   last_of, last_on, last_off                the tests that step j of n gets
 --   lastly_none, lastly_twice                no tests, and tests behind others
 --   overlaid_lastly, each_lastly             `&` with one step is such an alternative
+use Rattle.std.specs.Prelude.{if◌then◌else◌}
 use Prim.Native.Nat.{ℕ, zero, suc, ◌+◌, ◌-◌, ◌<◌}
 use native.Mathlib.Omega.{arith}
 use mathlib.Core.Path.{◌≡◌, refl, ap, sym, ◌∙◌}
@@ -12,7 +13,7 @@ use mathlib.Core.List.{List, [], ◌∷◌, ◌++◌, map, append-nil, append_as
 use lib.Dec.{eqb}
 use lib.ListN.{length, get_or, length-append}
 use borrow.Author.Tests.{eq-eqb, ne_eqb}
-use Rattle.basics.specs.Words.{if◌then◌else◌, sum_of}
+use Rattle.basics.specs.Words.{sum_of}
 use Rattle.basics.proofs.Bools.{equal?}
 use Rattle.basics.proofs.AllEntries.{none, more}
 use Rattle.alf.specs.Alternatives.{Step, Alternative, each, padded, zipped, overlaid, tests}

@@ -1,13 +1,13 @@
 -- The table of a tree: how long it is, and what it is by the rules.
 --   step_long, marked_long             the table stays as long as it is
 --   found_on, found_off                the pins of a tree, by its rules
+use Rattle.std.specs.Prelude.{if◌then◌else◌}
 use Prim.Native.Nat.{ℕ, ◌-◌, ◌*◌}
 use mathlib.Core.Path.{◌≡◌, refl, ap, ◌∙◌}
 use mathlib.Core.Bool.{Bool, true, false, ◌&&◌}
 use mathlib.Core.List.{List}
 use lib.ListN.{length, replicate}
 use lib.Seq.{sets}
-use Rattle.basics.specs.Words.{if◌then◌else◌}
 use Rattle.alf.specs.declared.Rules.{Rules}
 use Rattle.alf.specs.Expressions.{Vector, edge, join, while, on-right, on-left}
 use Rattle.alf.specs.Bytes.{vector_bytes}

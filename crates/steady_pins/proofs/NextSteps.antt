@@ -2,6 +2,7 @@
 --   Next                                    a step is next
 --   step_settled                            the table then
 --   step_ready, step_onward                 what the walk is then ready for; all that it gives
+use Rattle.std.specs.Prelude.{if◌then◌else◌}
 use Prim.Native.Nat.{ℕ, ◌+◌, ◌-◌, ◌*◌, ◌<◌, ◌≤◌}
 use native.Mathlib.Omega.{arith}
 use mathlib.Core.Path.{◌≡◌, refl, ap, sym, ◌∙◌, subst}
@@ -12,7 +13,6 @@ use lib.Dec.{eqb}
 use lib.ListN.{length, get_or, set, replicate, length-set}
 use lib.Seq.{get_or-set_same, get_or-set_other}
 use borrow.Author.Tests.{eq-eqb, ne_eqb}
-use Rattle.basics.specs.Words.{if◌then◌else◌}
 use Rattle.basics.proofs.Bools.{equal?}
 use Rattle.alf.specs.Expressions.{Vector}
 use Rattle.alf.specs.Steady.{is_step_lem, moves}

@@ -1,12 +1,13 @@
 -- The pins of a part, counted one after the other.
 -- Main names: Counted, none_counted, next_counted, all_counted.
+use Rattle.std.specs.Prelude.{if◌then◌else◌}
 use Prim.Native.Nat.{ℕ, ◌+◌, ◌<◌, ◌≤◌}
 use native.Mathlib.Omega.{arith}
 use mathlib.Core.Path.{◌≡◌, refl, ap, ◌∙◌}
 use mathlib.Core.Bool.{not}
 use mathlib.Core.List.{List}
 use lib.Dec.{eqb}
-use Rattle.basics.specs.Words.{if◌then◌else◌, count}
+use Rattle.basics.specs.Words.{count}
 use Rattle.basics.proofs.Counts.{count_next, count_small}
 use Rattle.steady_pins.specs.Pinned.{pin_at, pin_count_lem}
 use Rattle.steady_pins.specs.Entries.{PinNumber}

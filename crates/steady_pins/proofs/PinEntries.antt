@@ -2,6 +2,7 @@
 --   Entries                  each entry of a list that is not 0 is so
 --   zeros_entries, set_entries, sets_entries, listed_entries     lists made of such entries
 --   own_entries, front_entries, back_entries, marked_entries     what is beside a part; the pins
+use Rattle.std.specs.Prelude.{if◌then◌else◌}
 use Prim.Native.Nat.{ℕ, suc, ◌-◌, ◌*◌, ◌<◌, ◌≤◌}
 use native.Mathlib.Omega.{arith}
 use native.Mathlib.Nat.{zero-add}
@@ -12,7 +13,7 @@ use mathlib.Core.Logic.{◌⊎◌, inl, inr}
 use lib.Dec.{eqb}
 use lib.ListN.{length, get_or, set, replicate, length-set, get_or-eq_default}
 use lib.Seq.{sets, get_or-set_same, get_or-set_other}
-use Rattle.basics.specs.Words.{if◌then◌else◌, listed}
+use Rattle.basics.specs.Words.{listed}
 use Rattle.basics.proofs.Bools.{equal?, below?}
 use Rattle.basics.proofs.Listed.{listed_at, listed_length}
 use Rattle.alf.specs.Expressions.{Boolean, name, literal, negated, binary, choice}

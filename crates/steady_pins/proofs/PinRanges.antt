@@ -3,6 +3,7 @@
 --   marked_outside           an entry of no part of the expression stays
 --   places_same              the same entries, the same expression
 --   places_none              no pins, the expression as it is
+use Rattle.std.specs.Prelude.{if◌then◌else◌}
 use Prim.Native.Nat.{ℕ, zero, suc, ◌+◌, ◌-◌, ◌*◌, ◌<◌, ◌≤◌}
 use native.Mathlib.Omega.{arith}
 use mathlib.Core.Path.{◌≡◌, refl, ◌∙◌}
@@ -12,7 +13,6 @@ use mathlib.Core.Logic.{◌⊎◌, inl, inr}
 use lib.ListN.{length, get_or}
 use lib.Seq.{sets}
 use borrow.Author.Tests.{eq-eqb}
-use Rattle.basics.specs.Words.{if◌then◌else◌}
 use Rattle.basics.proofs.Listed.{listed_length}
 use Rattle.basics.proofs.Stores.{sets_before, sets_behind}
 use Rattle.alf.specs.Expressions.{Boolean, Vector, edge, join, Join}

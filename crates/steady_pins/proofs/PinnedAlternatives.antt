@@ -5,6 +5,7 @@
 --   placed_number, placed_length             those of the expression with all its pins
 --   tests_counted, pin_count_small           how many tests the pins of a part are
 --   has_step                                 each alternative has a step
+use Rattle.std.specs.Prelude.{if◌then◌else◌}
 use Prim.Native.Nat.{ℕ, zero, suc, ◌+◌, ◌-◌, ◌<◌, ◌≤◌}
 use native.Mathlib.Omega.{arith}
 use mathlib.Core.Path.{◌≡◌, refl, ap, ap₂, sym, ◌∙◌}
@@ -12,7 +13,7 @@ use mathlib.Core.Bool.{Bool, true, false, not}
 use mathlib.Core.List.{List, [], ◌∷◌, ◌++◌, map, append-nil}
 use lib.Dec.{eqb}
 use lib.ListN.{length, get_or, length-append, length-map}
-use Rattle.basics.specs.Words.{if◌then◌else◌, count}
+use Rattle.basics.specs.Words.{count}
 use Rattle.basics.proofs.AllEntries.{none, more}
 use Rattle.basics.proofs.Counts.{count_small}
 use Rattle.alf.specs.Expressions.{Boolean, stays, Vector, edge, join, while, with, Side, on-right, on-left}

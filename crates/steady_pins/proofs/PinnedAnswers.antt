@@ -2,6 +2,7 @@
 --   last_event       P & Q, where Q answers on windows of one event alone
 --   stays_with       P & ?- c
 --   pinned_answer    a part with the pins of its first n entries
+use Rattle.std.specs.Prelude.{if◌then◌else◌}
 use Prim.Native.Nat.{ℕ, zero, suc, ◌+◌, ◌-◌, ◌<◌, ◌≤◌, min, max}
 use native.Mathlib.Omega.{arith}
 use mathlib.Core.Path.{◌≡◌, refl, sym, ◌∙◌}
@@ -10,7 +11,7 @@ use mathlib.Core.Logic.{◌⊎◌, inl, inr}
 use mathlib.Core.List.{List}
 use lib.Dec.{eqb}
 use borrow.Author.Tests.{eq-eqb, ne_eqb}
-use Rattle.basics.specs.Words.{if◌then◌else◌, some}
+use Rattle.basics.specs.Words.{some}
 use Rattle.alf.specs.Expressions.{Boolean, Vector, edge, join, with, stays}
 use Rattle.alf.specs.Windows.{Window, NO, edge_on, together, joined, answer}
 use Rattle.basics.proofs.Bools.{equal?, below?}

@@ -5,6 +5,7 @@
 --   settling_first, settling_rows, settling_next, settling_end
 --   settled_off, settled_none               nothing is done if a step of the run does not change, or if it has no steps
 --   by_cells, settled_alone                 tables with the same entries; nothing is done if nothing comes after
+use Rattle.std.specs.Prelude.{if◌then◌else◌}
 use Prim.Native.Nat.{ℕ, ◌+◌, ◌*◌, ◌/◌, ◌%◌, ◌<◌, ◌≤◌}
 use native.Mathlib.Omega.{arith}
 use native.Mathlib.Numerals.{add-one}
@@ -16,7 +17,7 @@ use lib.Dec.{eqb, ltb}
 use lib.ListN.{length, get_or, set, replicate, length-set}
 use lib.Seq.{get_or-set_same, get_or-set_other, ext_get_or}
 use borrow.Author.Tests.{eq-eqb, ne_eqb, lt-ltb, le-ltb}
-use Rattle.basics.specs.Words.{if◌then◌else◌, some}
+use Rattle.basics.specs.Words.{some}
 use Rattle.basics.proofs.Bools.{equal?, below?}
 use Rattle.steady_pins.specs.Walking.{cell, among, over, settled_entry, Settled, Rows, NameRows, Column, Named}
 use Rattle.steady_pins.proofs.BesideLike.{zeros}

@@ -3,6 +3,7 @@
 --   passed_moving, passed_still, alone_passed    the step, and then what was before it
 --   still_run, still_step, moving_row       its row, by what was tested
 --   own_entry, earlier_entry                an entry of its row, and of an earlier one, once more is known
+use Rattle.std.specs.Prelude.{if◌then◌else◌}
 use Prim.Native.Nat.{ℕ, ◌*◌, ◌<◌}
 use mathlib.Core.Path.{◌≡◌, refl, sym, ◌∙◌}
 use mathlib.Core.Bool.{Bool, true, false, ◌&&◌}
@@ -12,7 +13,7 @@ use lib.Dec.{eqb}
 use lib.ListN.{length, get_or, replicate}
 use lib.Seq.{sets}
 use borrow.Author.Tests.{eq-eqb, ne_eqb}
-use Rattle.basics.specs.Words.{if◌then◌else◌, listed}
+use Rattle.basics.specs.Words.{listed}
 use Rattle.basics.proofs.Bools.{equal?}
 use Rattle.alf.specs.Expressions.{Vector}
 use Rattle.alf.specs.Steady.{moves}

@@ -3,6 +3,7 @@
 --   left_walk, right_walk, part_walk, before_walk, begun_walk     the walk comes to a part
 --   then_walked                              two parts of a chain
 --   stop_walked                              what is neither a step nor a chain: it ends the run
+use Rattle.std.specs.Prelude.{if◌then◌else◌}
 use Prim.Native.Nat.{ℕ, ◌-◌, ◌<◌, ◌≤◌}
 use native.Mathlib.Omega.{arith}
 use mathlib.Core.Path.{◌≡◌, refl, ap, sym, ◌∙◌, subst}
@@ -10,7 +11,6 @@ use mathlib.Core.Bool.{Bool, true, false}
 use mathlib.Core.List.{List}
 use mathlib.Core.Logic.{◌⊎◌, inl, inr}
 use lib.ListN.{length, get_or}
-use Rattle.basics.specs.Words.{if◌then◌else◌}
 use Rattle.basics.proofs.Bools.{never, equal?}
 use Rattle.alf.specs.Expressions.{Vector, edge, join, while, on-right, on-left}
 use Rattle.alf.specs.Steady.{is_then, is_step_lem}

@@ -4,6 +4,7 @@
 --   rowed_own, rowed_other      its entries in that row, and in the other rows
 --   rowed_long, rowed_behind    its length; nothing stands behind that row
 --   settled_kept, settled_blank what is settled stays as it was in the rows that are none of the run's
+use Rattle.std.specs.Prelude.{if◌then◌else◌}
 use Prim.Native.Nat.{ℕ, zero, suc, ◌+◌, ◌*◌, ◌/◌, ◌%◌, ◌<◌, ◌≤◌}
 use native.Mathlib.Omega.{arith}
 use native.Mathlib.Nat.{zero-add}
@@ -16,7 +17,7 @@ use lib.Dec.{eqb}
 use lib.ListN.{length, get_or, set, get_or-eq_default}
 use lib.Seq.{sets, get_or-set_same, get_or-set_other}
 use borrow.Author.Tests.{ne_eqb}
-use Rattle.basics.specs.Words.{if◌then◌else◌, some, listed}
+use Rattle.basics.specs.Words.{some, listed}
 use Rattle.basics.proofs.Bools.{below?}
 use Rattle.basics.proofs.Listed.{listed_at, listed_length}
 use Rattle.basics.proofs.Stores.{sets_length, sets_before, sets_behind, sets_inside}

@@ -7,9 +7,9 @@
 --   pin_entry, pin_row, step_marked    the pins of a step, between what is before it and what is after it
 --   marked, pins_of            the pins of an expression, over others; those of a tree
 --   Tree, StepAt              what is asked
-use Rattle.std.specs.Prelude.{ℕ, ◌-◌, ◌*◌, ◌≤◌, ◌≡◌, true, ◌&&◌, List, eqb, length, get_or, set, replicate}
+use Rattle.std.specs.Prelude.{ℕ, ◌-◌, ◌*◌, ◌≤◌, ◌≡◌, true, ◌&&◌, List, eqb, length, get_or, set, replicate, if◌then◌else◌}
 use Rattle.std.proofs.lemmas.List.Edits.{sets}
-use Rattle.basics.specs.Words.{if◌then◌else◌, listed}
+use Rattle.basics.specs.Words.{listed}
 use Rattle.alf.specs.declared.Rules.{Rules}
 use Rattle.alf.specs.Expressions.{Boolean, name, literal, negated, binary, choice}
 use Rattle.alf.specs.Expressions.{Vector, edge, join, while, on-right, on-left}

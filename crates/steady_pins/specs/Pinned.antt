@@ -6,8 +6,8 @@
 --   pinned, by_places         a part with its pins' tests; the expression with them, its operands by their places
 --   pin_tests, pin_count_lem       the tests that a part's pins are, and how many
 --   Pins                     each entry is a place where a boolean expression ends
-use Rattle.std.specs.Prelude.{ℕ, zero, suc, ◌+◌, ◌-◌, ◌*◌, ◌<◌, ◌≡◌, not, List, [], ◌∷◌, ◌++◌, eqb, length, get_or}
-use Rattle.basics.specs.Words.{if◌then◌else◌, count}
+use Rattle.std.specs.Prelude.{ℕ, zero, suc, ◌+◌, ◌-◌, ◌*◌, ◌<◌, ◌≡◌, not, List, [], ◌∷◌, ◌++◌, eqb, length, get_or, if◌then◌else◌}
+use Rattle.basics.specs.Words.{count}
 use Rattle.alf.specs.Expressions.{Boolean, stays, Vector, edge, join, while, with, on-right, on-left}
 use Rattle.alf.specs.Bytes.{boolean_bytes, vector_bytes}
 use Rattle.alf.specs.Alternatives.{test, Step}

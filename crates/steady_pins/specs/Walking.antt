@@ -8,9 +8,9 @@
 --   own_row, begun             the row of a step, while nothing comes after it; a run without steps
 --   Ready, Walk, StepWalk     what is asked where the walk of an expression starts
 --   Walked, Apart             what the walk gives, and with nothing beside the expression
-use Rattle.std.specs.Prelude.{ℕ, ◌-◌, ◌+◌, ◌*◌, ◌<◌, ◌≤◌, ◌≡◌, Bool, true, ◌&&◌, List, eqb, length, get_or}
+use Rattle.std.specs.Prelude.{ℕ, ◌-◌, ◌+◌, ◌*◌, ◌<◌, ◌≤◌, ◌≡◌, Bool, true, ◌&&◌, List, eqb, length, get_or, if◌then◌else◌}
 use Rattle.std.proofs.lemmas.List.Edits.{sets}
-use Rattle.basics.specs.Words.{if◌then◌else◌, some, listed}
+use Rattle.basics.specs.Words.{some, listed}
 use Rattle.alf.specs.Expressions.{Vector}
 use Rattle.alf.specs.Bytes.{vector_bytes}
 use Rattle.alf.specs.Steady.{is_step_lem}

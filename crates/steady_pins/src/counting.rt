@@ -1,6 +1,5 @@
 // How many pins a part of a tree has.
-ghost use Rattle.std.specs.Prelude.{◌≡◌, not, eqb};
-ghost use Rattle.basics.specs.Words.{if◌then◌else◌};
+ghost use Rattle.std.specs.Prelude.{◌≡◌, not, eqb, if◌then◌else◌};
 ghost use Rattle.steady_pins.specs.Entries.{Entries, PinNumber};
 
 // 1 for a pin, 0 for none.

@@ -2,13 +2,13 @@
 -- has the same alternatives with each test's edge and operand exchanged so, where g keeps `11`, which rewriting adds.
 -- An expression by its places, with pins, and its operands exchanged is the one by its places with the operands so.
 -- Main names: tests_on, test_on, alternatives_on; pinned_on_lem, placed_on; placed_same.
+use Rattle.std.specs.Prelude.{if◌then◌else◌}
 use Prim.Native.Nat.{ℕ, zero, suc, ◌-◌}
 use mathlib.Core.Path.{◌≡◌, refl, ap, sym, ◌∙◌}
 use mathlib.Core.Bool.{Bool, true, false}
 use mathlib.Core.List.{List, [], ◌∷◌, map, map-append}
 use lib.Dec.{eqb}
 use lib.ListN.{length}
-use Rattle.basics.specs.Words.{if◌then◌else◌}
 use Rattle.alf.specs.Expressions.{Boolean, literal, the, Edge, pair, stays, Vector, edge, join, while, with}
 use Rattle.alf.specs.Expressions.{on-right, on-left}
 use Rattle.alf.specs.Bytes.{boolean_bytes, vector_bytes}

@@ -3,6 +3,7 @@
 --   no_tests                     where there is no pin
 --   no_pin, a_pin, pin_fits      one entry
 --   Pinning, first_pin, pin_room, next_pin, all_pins     those of some entries, one after the other
+use Rattle.std.specs.Prelude.{if◌then◌else◌}
 use Prim.Native.Nat.{ℕ, zero, suc, ◌+◌, ◌<◌, ◌≤◌}
 use native.Mathlib.Omega.{arith}
 use native.Mathlib.Numerals.{add-one}
@@ -13,7 +14,6 @@ use mathlib.Core.List.{List, [], ◌∷◌, ◌++◌}
 use lib.Dec.{eqb}
 use lib.ListN.{length, length-append}
 use borrow.Author.Tests.{eq-eqb, ne_eqb}
-use Rattle.basics.specs.Words.{if◌then◌else◌}
 use Rattle.basics.proofs.Bools.{equal?, below?}
 use Rattle.alf.specs.Expressions.{name, stays}
 use Rattle.alf.specs.Bytes.{edge_number}

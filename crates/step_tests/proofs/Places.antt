@@ -1,6 +1,7 @@
 -- An operand named by its place is the expression that ends there: the expression with its operands as places, read
 -- back, is the expression by its places, and a boolean expression ends at each of its places.
 -- Main names: edge_back, operand_back, Each, Known, Stands, stands.
+use Rattle.std.specs.Prelude.{if◌then◌else◌}
 use Prim.Native.Nat.{ℕ, zero, suc, ◌+◌, ◌-◌, ◌*◌, ◌<◌, ◌≤◌}
 use native.Mathlib.Omega.{arith}
 use mathlib.Core.Path.{◌≡◌, refl, ◌∙◌}
@@ -9,7 +10,6 @@ use mathlib.Core.List.{List}
 use lib.Dec.{eqb}
 use lib.ListN.{get_or}
 use borrow.Author.Tests.{eqb-false}
-use Rattle.basics.specs.Words.{if◌then◌else◌}
 use Rattle.alf.specs.Expressions.{Boolean, name, Edge, stays, Vector, edge, join, while, Join, with, Side}
 use Rattle.alf.specs.Bytes.{edge_number}
 use Rattle.alf.specs.Decoder.{edge_at}

@@ -1,6 +1,7 @@
 -- Step j of alternative a of the expression that ends at a place, with its pins, its operands as places, from its
 -- operands' steps.
 -- Main names: edge_step, before_step, condition_step, join_step, join_length, only_step, only_length.
+use Rattle.std.specs.Prelude.{if◌then◌else◌}
 use Prim.Native.Nat.{ℕ, zero, suc, ◌+◌, ◌-◌, ◌<◌, ◌≤◌}
 use native.Mathlib.Omega.{arith}
 use mathlib.Core.Path.{◌≡◌, refl, ap, ap₂, sym, ◌∙◌}
@@ -8,7 +9,6 @@ use mathlib.Core.Bool.{Bool, true, false}
 use mathlib.Core.List.{List, [], ◌∷◌, ◌++◌}
 use lib.Dec.{eqb}
 use lib.ListN.{length, get_or}
-use Rattle.basics.specs.Words.{if◌then◌else◌}
 use Rattle.alf.specs.Expressions.{Boolean, name, the, Edge, pair, Vector, edge, join, while, Side, on-right, on-left}
 use Rattle.alf.specs.Expressions.{Join}
 use Rattle.alf.specs.Decoder.{edge_at, join_at}

@@ -5,9 +5,8 @@
 --   Behind, Split        a step behind empty ones, and a step of an alternative that is put together of two
 --   Fits, OnePut         one test
 --   one_pin, PinFits, PinsFit, entries_at     the tests of a part's pins
-use Rattle.std.specs.Prelude.{ℕ, ◌+◌, ◌<◌, ◌≤◌, ◌≡◌, Bool, true, false, List, [], ◌∷◌, ◌++◌, eqb, length, get_or, set}
+use Rattle.std.specs.Prelude.{ℕ, ◌+◌, ◌<◌, ◌≤◌, ◌≡◌, Bool, true, false, List, [], ◌∷◌, ◌++◌, eqb, length, get_or, set, if◌then◌else◌}
 use Rattle.std.proofs.lemmas.List.Edits.{sets}
-use Rattle.basics.specs.Words.{if◌then◌else◌}
 use Rattle.alf.specs.Expressions.{name, stays}
 use Rattle.alf.specs.Alternatives.{test, Step, Alternative, padded, alternatives, steps_of}
 use Rattle.trees.specs.Parts.{vector_at}

@@ -1,16 +1,21 @@
 // The command's words: patterns, and behind `-f` files of patterns. On a terminal it is told how far long work is.
 use alf::Rules;
 use complaints::unfit;
-use console::output::{note, note_number};
-use loading::files::{Filled, take_argument};
+use console::output::{Console, note, note_number};
+use loading::arguments::{arg, take_argument};
+use loading::files::Filled;
 use loading::patterns::fill_patterns;
 use pattern_lines::accounts::pattern;
 use pattern_lines::patterns::lines;
+use std::io::{Input, IsTerminal};
+use std::rt::{Env, Files};
 use table_lines::lines::Sums;
 use text_parts::parts::front;
 
 // The patterns of a file; one that is not read to its end is not used at all.
-fn file_lines(
+fn file_lines<R: Files + Input>(
+    rt: &R,
+    console: &Console,
     rules: Rules,
     names: &[u8],
     n: usize,
@@ -19,14 +24,16 @@ fn file_lines(
     data: &mut [u8],
     s: Sums,
 ) -> Sums {
-    let filled = fill_patterns(path, data);
+    let filled = fill_patterns(rt, console, path, data);
     match filled {
         Filled::Failed => s,
-        Filled::Bytes(m) => lines(rules, names, n, states, front(data, m), s),
+        Filled::Bytes(m) => lines(console, rules, names, n, states, front(data, m), s),
     }
 }
 
-fn file_lent(
+fn file_lent<R: Files + Input>(
+    rt: &R,
+    console: &Console,
     rules: Rules,
     names: &[u8],
     n: usize,
@@ -35,16 +42,27 @@ fn file_lent(
     data: &mut [u8; 1048577],
     s: Sums,
 ) -> Sums {
-    file_lines(rules, names, n, states, path, data, s)
+    file_lines(rt, console, rules, names, n, states, path, data, s)
 }
 
-fn file(rules: Rules, names: &[u8], n: usize, states: &[u8], path: &[u8], s: Sums) -> Sums {
+fn file<R: Files + Input>(
+    rt: &R,
+    console: &Console,
+    rules: Rules,
+    names: &[u8],
+    n: usize,
+    states: &[u8],
+    path: &[u8],
+    s: Sums,
+) -> Sums {
     let mut data = [0u8; 1048577];
-    file_lent(rules, names, n, states, path, &mut data, s)
+    file_lent(rt, console, rules, names, n, states, path, &mut data, s)
 }
 
 // Argument i: a pattern; behind `-f` a file of patterns.
-fn argument(
+fn argument<R: Env + Files + Input>(
+    rt: &R,
+    console: &Console,
     rules: Rules,
     names: &[u8],
     n: usize,
@@ -53,60 +71,62 @@ fn argument(
     behind: bool,
     s: Sums,
 ) -> Sums {
-    let mut text = io::large_buffer();
-    let m = take_argument(i, &mut text);
+    let mut text = [0u8; 65536];
+    let m = take_argument(rt, i, &mut text);
     if behind {
-        return file(rules, names, n, states, &text[..m], s);
+        return file(rt, console, rules, names, n, states, &text[..m], s);
     }
-    pattern(rules, names, n, states, &text[..m], s)
+    pattern(console, rules, names, n, states, &text[..m], s)
 }
 
 // Whether argument i is `-f`; behind `-f` it is a file.
-fn is_option(i: usize, behind: bool) -> bool {
+fn is_option<R: Env>(rt: &R, i: usize, behind: bool) -> bool {
     if behind {
         return false;
     }
     let mut word = [0u8; 4];
-    let n = os::arg(i, &mut word);
+    let n = arg(rt, i, &mut word);
     check::same(&word[..n], b"-f")
 }
 
 // Whether it is told how far long work is: on a terminal, and where the table's lines go elsewhere.
-fn is_watched(n: usize) -> bool {
+fn is_watched(console: &Console, n: usize) -> bool {
     if n < 10000 {
         return false;
     }
-    if libc::isatty(libc::STDOUT_FILENO) == 1 {
+    if console.out().is_terminal() {
         return false;
     }
-    libc::isatty(libc::STDERR_FILENO) == 1
+    console.err().is_terminal()
 }
 
-fn progress(i: usize, count: usize, n: usize) {
+fn progress(console: &Console, i: usize, count: usize, n: usize) {
     if count <= i {
         return;
     }
-    if is_watched(n) {
-        note(b"\rargument ");
-        note_number(i);
-        note(b" of ");
-        note_number(count - 1);
-        note(b"\r");
+    if is_watched(console, n) {
+        note(console, b"\rargument ");
+        note_number(console, i);
+        note(console, b" of ");
+        note_number(console, count - 1);
+        note(console, b"\r");
     }
 }
 
 // The last argument was `-f` where `behind`.
-fn finish(behind: bool, n: usize) {
-    if is_watched(n) {
-        note(b"\r                              \r");
+fn finish(console: &Console, behind: bool, n: usize) {
+    if is_watched(console, n) {
+        note(console, b"\r                              \r");
     }
     if behind {
-        unfit(b"table: -f", b"FILE", 0);
+        unfit(console, b"table: -f", b"FILE", 0);
     }
 }
 
 // All patterns of the command's words, from argument `first` on.
-pub fn arguments(
+pub fn arguments<R: Env + Files + Input>(
+    rt: &R,
+    console: &Console,
     rules: Rules,
     first: usize,
     names: &[u8],
@@ -119,14 +139,14 @@ pub fn arguments(
     let mut behind = false;
     let mut i: usize = first;
     while i < count {
-        progress(i, count, n);
-        let option = is_option(i, behind);
+        progress(console, i, count, n);
+        let option = is_option(rt, i, behind);
         if !option {
-            sums = argument(rules, names, n, states, i, behind, sums);
+            sums = argument(rt, console, rules, names, n, states, i, behind, sums);
         }
         behind = option;
         i += 1;
     }
-    finish(behind, n);
+    finish(console, behind, n);
     sums
 }

@@ -3,54 +3,77 @@
 #![tactic(auto)]
 
 use alf::Rules;
-use console::output::say;
+use console::output::{Console, say};
 use jobs::sums::no_sums;
+use loading::arguments::arg_count;
 use pattern_lines::accounts::{say_heading, say_total};
 use pattern_lines::patterns::lines;
 use states::rules::old_rules;
+use std::io::Input;
+use std::rt::{Env, Files};
 use table_arguments::arguments::arguments;
 use table_lines::lines::Sums;
 
-fn begin(n: usize, line: &mut [u8; 4096]) -> Sums {
-    say_heading(line);
+fn begin(console: &Console, n: usize, line: &mut [u8; 4096]) -> Sums {
+    say_heading(console, line);
     no_sums(n)
 }
 
-fn end(s: Sums, line: &mut [u8; 4096]) {
-    say_total(line, s);
+fn end(console: &Console, s: Sums, line: &mut [u8; 4096]) {
+    say_total(console, line, s);
 }
 
 // A last line says which of document 02's rules the table is by. Without that line it is by document 01's rules.
-fn say_rules(rules: Rules) {
+fn say_rules(console: &Console, rules: Rules) {
     if !rules.equal_branches && !rules.steady_pins {
         return;
     }
-    say(b"rules");
+    say(console, b"rules");
     if rules.equal_branches {
-        say(b"\tequal-branches");
+        say(console, b"\tequal-branches");
     }
     if rules.steady_pins {
-        say(b"\tsteady-pins");
+        say(console, b"\tsteady-pins");
     }
-    say(b"\n");
+    say(console, b"\n");
 }
 
 // The words from argument `first` on are patterns.
-pub fn table(rules: Rules, first: usize, names: &[u8], n: usize, states: &[u8]) {
-    let mut line = io::buffer();
-    let s = begin(n, &mut line);
+pub fn table<R: Env + Files + Input>(
+    rt: &R,
+    console: &Console,
+    rules: Rules,
+    first: usize,
+    names: &[u8],
+    n: usize,
+    states: &[u8],
+) {
+    let mut line = [0u8; 4096];
+    let s = begin(console, n, &mut line);
     end(
-        arguments(rules, first, names, n, states, os::arg_count(), s),
+        console,
+        arguments(
+            rt,
+            console,
+            rules,
+            first,
+            names,
+            n,
+            states,
+            arg_count(rt),
+            s,
+        ),
         &mut line,
     );
-    say_rules(rules);
+    say_rules(console, rules);
 }
 
 // A first look: the vector expressions of document 01's table T on T, names A B C and rows 011 111 10X X01 1Z1 10H.
-pub fn first_look() {
-    let mut line = io::buffer();
-    let s = begin(6, &mut line);
+pub fn first_look(console: &Console) {
+    let mut line = [0u8; 4096];
+    let s = begin(console, 6, &mut line);
     let t = lines(
+        console,
         old_rules(),
         b"A\0\0\0\0\0\0\0\0\0\0\0\0\0\0\0\0\0\0\0\0\0\0\0\0\0\0\0\0\0\0\0\
           B\0\0\0\0\0\0\0\0\0\0\0\0\0\0\0\0\0\0\0\0\0\0\0\0\0\0\0\0\0\0\0\
@@ -61,5 +84,5 @@ pub fn first_look() {
           10 C & ( 01 A -> 10 B )\n",
         s,
     );
-    end(t, &mut line);
+    end(console, t, &mut line);
 }

@@ -5,8 +5,7 @@
 --   columns, refused_columns, total_columns
 --   heading_line, pattern_line, refused_line, total_line
 -- The share's rule stands in figures, Share.antt.
-use Rattle.std.specs.Prelude.{ℕ, List, [], ◌∷◌, map, ltb}
-use Rattle.basics.specs.Words.{if◌then◌else◌}
+use Rattle.std.specs.Prelude.{ℕ, List, [], ◌∷◌, map, ltb, if◌then◌else◌}
 use Rattle.basics.specs.Text.{bytes, joined}
 use Rattle.figures.specs.Numbers.{decimal}
 use Rattle.figures.specs.Share.{share}

@@ -1,6 +1,7 @@
 -- The names of a head, counted word by word.
 --   count_left       how many names there are, where i words are passed and the last `changed` of them is known
 --   Counting, counting_first, counting_next, counted_all, counted_some     the words before the i-th are passed
+use Rattle.std.specs.Prelude.{if◌then◌else◌}
 use Prim.Native.Nat.{ℕ, zero, suc, ◌+◌, ◌-◌, ◌<◌, ◌≤◌}
 use native.Mathlib.Omega.{arith}
 use native.Mathlib.Numerals.{add-one}
@@ -11,7 +12,6 @@ use lib.Dec.{ltb}
 use lib.ListN.{length, get_or, take, drop, drop_of_length-le}
 use lib.Seq.{drop-cons}
 use borrow.Author.Tests.{lt-ltb}
-use Rattle.basics.specs.Words.{if◌then◌else◌}
 use Rattle.trace_texts.specs.Words.{Word}
 use Rattle.trace_texts.specs.Texts.{is_changed, tells, named, none, name_words, wide}
 use Rattle.trace_texts.specs.Finding.{from, Finds}

@@ -1,6 +1,5 @@
 // How many names a head has: they end at the last word `changed`, or at the line's end.
-ghost use Rattle.std.specs.Prelude.{◌≡◌, ◌+◌, ◌<◌, ◌≤◌, length};
-ghost use Rattle.basics.specs.Words.{if◌then◌else◌};
+ghost use Rattle.std.specs.Prelude.{◌≡◌, ◌+◌, ◌<◌, ◌≤◌, length, if◌then◌else◌};
 ghost use Rattle.trace_texts.specs.Texts.{is_changed};
 ghost use Rattle.trace_texts.specs.Finding.{from};
 ghost use Rattle.text_heads.specs.Heads.{CountsNames};

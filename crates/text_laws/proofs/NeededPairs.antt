@@ -2,6 +2,7 @@
 --   bare_written         a tree is written by the codes of its tokens
 --   fewer_other          tokens with fewer brackets are not that tree, whatever their places
 --   pair_left_out        nor are the written tokens with an opening and a closing bracket left out
+use Rattle.std.specs.Prelude.{if◌then◌else◌}
 use Prim.Native.Nat.{ℕ, pred, ◌+◌, ◌<◌}
 use native.Mathlib.Omega.{arith}
 use mathlib.Core.Path.{◌≡◌, refl, sym, ap, ◌∙◌}
@@ -9,7 +10,6 @@ use mathlib.Core.Bool.{Bool, true, false}
 use mathlib.Core.List.{List, [], ◌∷◌, ◌++◌, map, map-append, append_assoc}
 use lib.Dec.{leb}
 use lib.ListN.{length}
-use Rattle.basics.specs.Words.{if◌then◌else◌}
 use Rattle.grammar.specs.declared.Token.{Token}
 use Rattle.grammar.specs.Tokens.{opening, closing, kind_of}
 use Rattle.grammar.specs.Grammar.{Tree, leaf, one, two, three, nodes, Expression}
@@ -49,7 +49,7 @@ bare_fitted l m ts = go (leb m l)
         → (if b then map bare_token ts else made 62 ∷ (map bare_token ts ++ (made 63 ∷ [])))
         ≡ map bare_token (if b then ts else made 62 ∷ (ts ++ (made 63 ∷ [])))
     go true = refl
-    go false = rw map-append refl
+    go false = ap (λ (us : List Token). made 62 ∷ us) (sym (map-append bare_token ts (made 63 ∷ [])))
 
 bare_seam : (ts us : List Token) (t : Token) {ts' us' : List Token} → ts' ≡ map bare_token ts
     → us' ≡ map bare_token us → ts' ++ (bare_token t ∷ us') ≡ map bare_token (ts ++ (t ∷ us))

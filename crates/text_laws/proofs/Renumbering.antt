@@ -4,13 +4,13 @@
 --   bare                         a tree without the places of its tokens
 --   parses_by, codes_by, nodes_by, formed_by, depth_by   what parses at one place parses at another, and so on
 --   Matched, matched             tokens that are the same up to places are the same tree up to places
+use Rattle.std.specs.Prelude.{if◌then◌else◌}
 use Prim.Native.Nat.{ℕ, pred, max}
 use native.Mathlib.Omega.{arith}
 use mathlib.Core.Path.{◌≡◌, refl, sym, ap, ap₂, ◌∙◌}
 use mathlib.Core.List.{List, [], ◌∷◌, map, map-append}
 use lib.Dec.{eqb}
 use lib.ListN.{length}
-use Rattle.basics.specs.Words.{if◌then◌else◌}
 use Rattle.grammar.specs.declared.Token.{Token}
 use Rattle.grammar.specs.Tokens.{kind_of}
 use Rattle.grammar.specs.Grammar.{Tree, leaf, one, two, three, nodes, Expression}

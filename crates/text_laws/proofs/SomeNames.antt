@@ -1,6 +1,7 @@
 -- A good list of n names, for n from 1 to 32: the letters A to Z and a to f, one to a slot.
 --   letter, some_names          the letters, and the list of them
 --   some_counted, some_good    it has n names, and is good
+use Rattle.std.specs.Prelude.{if◌then◌else◌}
 use Prim.Native.Nat.{ℕ, zero, suc, ◌+◌, ◌*◌, ◌<◌, ◌≤◌}
 use native.Mathlib.Omega.{arith}
 use mathlib.Core.Path.{◌≡◌, refl, sym, ap, ◌∙◌}
@@ -11,7 +12,7 @@ use lib.Dec.{ltb}
 use lib.ListN.{length, get_or, length-append}
 use lib.Seq.{take_at, drop_at, drop-drop}
 use borrow.Author.Tests.{lt-ltb, le-ltb, ne_eqb}
-use Rattle.basics.specs.Words.{if◌then◌else◌, all}
+use Rattle.basics.specs.Words.{all}
 use Rattle.alf.specs.Names.{names_in, slot, slot_of, until_zero, name_at, is_name, starts_name, is_letter, GoodSlot}
 use Rattle.alf.specs.Refusals.{Passed, Comes}
 use Rattle.basics.proofs.Bools.{below?}

@@ -1,6 +1,7 @@
 -- The tree of a text and the tree of the expression that it is sorted as have the same tokens, places aside.
 --   sorted_bare      a tree that is sorted as an expression is bare that expression's tree
 --   same_depth, same_size      what does not hang on places: how deep brackets nest, how many nodes there are
+use Rattle.std.specs.Prelude.{if◌then◌else◌}
 use Prim.Native.Nat.{ℕ, ◌+◌, ◌-◌, ◌<◌, ◌≤◌}
 use native.Mathlib.Omega.{arith}
 use mathlib.Core.Path.{◌≡◌, refl, sym, ap, ap₂, ◌∙◌}
@@ -8,7 +9,6 @@ use mathlib.Core.Bool.{Bool, true, false, ◌&&◌}
 use lib.Dec.{eqb, ltb, leb}
 use lib.ListN.{length, length-map}
 use borrow.Author.Tests.{eqb-true, eqb-false, ltb-true, ltb-false, leb-true, le-leb}
-use Rattle.basics.specs.Words.{if◌then◌else◌}
 use Rattle.alf.specs.Expressions.{name, literal, negated, binary, edge, join, while}
 use Rattle.alf.specs.Expressions.{with, or_else, on-right, on-left, Expression, boolean, vector}
 use Rattle.alf.specs.Decoder.{binary_at, join_at, edge_at}

@@ -2,6 +2,7 @@
 --   Agree, sorted_renumbered   with numbers for places the sort pass says the same, but for the places of faults
 --   tree_sorted                the tree of an expression is sorted as the expression
 --   matched_sorted             and so is every tree that is the same up to places
+use Rattle.std.specs.Prelude.{if◌then◌else◌}
 use Prim.Native.Nat.{ℕ, ◌+◌, ◌-◌, ◌<◌}
 use native.Mathlib.Omega.{arith}
 use mathlib.Core.Path.{◌≡◌, refl, sym, ap, ◌∙◌}
@@ -9,7 +10,6 @@ use mathlib.Core.Bool.{Bool, true, false}
 use mathlib.Core.List.{List}
 use lib.Dec.{eqb, ltb}
 use borrow.Author.Tests.{ne_eqb, lt-ltb}
-use Rattle.basics.specs.Words.{if◌then◌else◌}
 use Rattle.alf.specs.Expressions.{Boolean, name, literal, negated, binary, choice, Vector, edge, join, while}
 use Rattle.alf.specs.Expressions.{Binary, and, or, xor, xnor, equals, differs, above, below, is_at_least, is_at_most}
 use Rattle.alf.specs.Expressions.{Join, followed-by, either_order, with-or-then, any_order, with, or_else}

@@ -3,6 +3,7 @@
 --   opens                             a token opens or closes brackets by its code as by its kind
 --   never_deep, never_many            so a text with few brackets and tokens is not refused
 --   depth_renumbered, counted_renumbered   depth and count do not see places
+use Rattle.std.specs.Prelude.{if◌then◌else◌}
 use Prim.Native.Nat.{ℕ, ◌+◌, ◌-◌, ◌<◌, ◌≤◌, max}
 use native.Mathlib.Omega.{arith}
 use native.Mathlib.Numerals.{sub-one}
@@ -12,12 +13,10 @@ use mathlib.Core.List.{List, [], ◌∷◌, map}
 use mathlib.Core.Logic.{◌⊎◌, inl, inr}
 use lib.Dec.{eqb, leb}
 use borrow.Author.Tests.{ne_eqb}
-use Rattle.basics.specs.Words.{if◌then◌else◌}
 use Rattle.basics.proofs.Bools.{never, below?, equal?}
 use Rattle.basics.proofs.Choices.{every, every_at}
 use Rattle.tokens.specs.Texts as text
 use Rattle.tokens.specs.Texts.{running, deep, many}
-use Rattle.tokens.specs.Tokenizing as reading
 use Rattle.grammar.specs.declared.Token.{Token}
 use Rattle.grammar.specs.Tokens.{Kind, operand, prefix, question, colon, opening, closing, other, binary}
 use Rattle.grammar.specs.Tokens.{table, kind_in, kind, kind_of, weight, counted, tokens}

@@ -9,6 +9,7 @@ use run_printing::states::list;
 use run_printing::texts::{quote, say_text};
 use run_words::pieces::expand;
 use run_words::words::number_from;
+use std::io::Stdout;
 use text_parts::lines::{behind_line, line_at};
 use text_parts::parts::{find, front};
 
@@ -21,50 +22,50 @@ fn sort_of(kind: u8) -> Sort {
 }
 
 // A text over the first n bytes of a list.
-fn show_over(words: &[u8], n: usize, text: &[u8], sort: Sort) {
+fn show_over(to: Stdout, words: &[u8], n: usize, text: &[u8], sort: Sort) {
     let names = list_of(words);
     if n <= 1056 {
-        show(&names[0..n], text, sort);
+        show(to, &names[0..n], text, sort);
     }
 }
 
 // A text over the usual names.
-fn show_usual(usual: &[u8], text: &[u8], sort: Sort) {
-    say_sort(sort);
-    write(b": ");
-    say_text(text);
-    character(b'\n');
-    show_over(usual, 288, text, sort);
+fn show_usual(to: Stdout, usual: &[u8], text: &[u8], sort: Sort) {
+    say_sort(to, sort);
+    write(to, b": ");
+    say_text(to, text);
+    character(to, b'\n');
+    show_over(to, usual, 288, text, sort);
 }
 
 // A list of so many bytes as the text's number says; behind `;` its names.
-fn show_sized(size: &[u8], words: &[u8]) {
-    write(b"list: ");
-    write(size);
-    character(b'\n');
-    show_over(words, number_from(size, 0), b"A", Sort::Boolean);
+fn show_sized(to: Stdout, size: &[u8], words: &[u8]) {
+    write(to, b"list: ");
+    write(to, size);
+    character(to, b'\n');
+    show_over(to, words, number_from(size, 0), b"A", Sort::Boolean);
 }
 
 // A list of three names, and behind `; text: ` a text.
-fn show_three(whole: &[u8], words: &[u8], text: &[u8]) {
-    write(b"list: ");
-    quote(whole);
-    character(b'\n');
-    show_over(words, 96, text, Sort::Boolean);
+fn show_three(to: Stdout, whole: &[u8], words: &[u8], text: &[u8]) {
+    write(to, b"list: ");
+    quote(to, whole);
+    character(to, b'\n');
+    show_over(to, words, 96, text, Sort::Boolean);
 }
 
-fn write_over(usual: &[u8], tree: &[u8], sort: Sort, room: usize) {
+fn write_over(to: Stdout, usual: &[u8], tree: &[u8], sort: Sort, room: usize) {
     let names = list_of(usual);
-    show_tree(&names[0..288], b"", tree, sort, room);
+    show_tree(to, &names[0..288], b"", tree, sort, room);
 }
 
 // A tree over the usual names, and behind `; room ` the room to write it in.
-fn show_nodes(usual: &[u8], tree: &[u8], room: &[u8], sort: Sort) {
-    say_sort(sort);
-    list(b" tree:", tree, tree.len(), false);
-    write(room);
-    character(b'\n');
-    write_over(usual, tree, sort, number_from(room, 0));
+fn show_nodes(to: Stdout, usual: &[u8], tree: &[u8], room: &[u8], sort: Sort) {
+    say_sort(to, sort);
+    list(to, b" tree:", tree, tree.len(), false);
+    write(to, room);
+    character(to, b'\n');
+    write_over(to, usual, tree, sort, number_from(room, 0));
 }
 
 // The part from `at` on; nothing where the text ends before.
@@ -77,17 +78,17 @@ fn from(text: &[u8], at: usize) -> &[u8] {
 }
 
 // A text by its kind; `at` is where `;` stands, or the length.
-fn show_parts(kind: u8, usual: &[u8], text: &[u8], at: usize) {
+fn show_parts(to: Stdout, kind: u8, usual: &[u8], text: &[u8], at: usize) {
     if at > text.len() {
         return;
     }
     let first = &text[0..at];
     match kind {
-        b'b' | b'v' => show_usual(usual, text, sort_of(kind)),
-        b's' => show_sized(first, from(text, at + 2)),
-        b't' => show_three(text, first, from(text, at + 8)),
-        b'B' | b'V' => show_nodes(usual, first, from(text, at), sort_of(kind)),
-        _ => broken(text),
+        b'b' | b'v' => show_usual(to, usual, text, sort_of(kind)),
+        b's' => show_sized(to, first, from(text, at + 2)),
+        b't' => show_three(to, text, first, from(text, at + 8)),
+        b'B' | b'V' => show_nodes(to, usual, first, from(text, at), sort_of(kind)),
+        _ => broken(to, text),
     }
 }
 
@@ -95,19 +96,19 @@ fn fill(out: &mut [u8; 4200], text: &[u8]) -> usize {
     expand(out, text)
 }
 
-fn show_filled(kind: u8, usual: &[u8], text: &[u8; 4200], n: usize) {
+fn show_filled(to: Stdout, kind: u8, usual: &[u8], text: &[u8; 4200], n: usize) {
     let whole = front(text, n);
-    show_parts(kind, usual, whole, find(whole, 0, b';'));
+    show_parts(to, kind, usual, whole, find(whole, 0, b';'));
 }
 
-fn show_expanded(kind: u8, usual: &[u8], text: &[u8]) {
+fn show_expanded(to: Stdout, kind: u8, usual: &[u8], text: &[u8]) {
     let mut out = [0u8; 4200];
     let n = fill(&mut out, text);
-    show_filled(kind, usual, &out, n);
+    show_filled(to, kind, usual, &out, n);
 }
 
 // A line's text: from behind the kind to the blank before `#`. A line that is empty or starts with `#` is a remark.
-fn show_line(usual: &[u8], line: &[u8]) {
+fn show_line(to: Stdout, usual: &[u8], line: &[u8]) {
     if line.len() == 0 {
         return;
     }
@@ -116,13 +117,13 @@ fn show_line(usual: &[u8], line: &[u8]) {
         return;
     }
     if hash < 3 {
-        return broken(line);
+        return broken(to, line);
     }
     if hash == line.len() {
-        return broken(line);
+        return broken(to, line);
     }
     let end = hash - 1;
-    show_expanded(line[0], usual, &line[2..end]);
+    show_expanded(to, line[0], usual, &line[2..end]);
 }
 
 // The usual names, behind the `# ` of the first line.
@@ -134,11 +135,11 @@ fn usual_in(input: &[u8]) -> &[u8] {
     &input[2..end]
 }
 
-pub fn show_lines(input: &[u8]) {
+pub fn show_lines(to: Stdout, input: &[u8]) {
     let usual = usual_in(input);
     let mut at: usize = 0;
     while at < input.len() {
-        show_line(usual, line_at(input, at));
+        show_line(to, usual, line_at(input, at));
         at = behind_line(input, at);
     }
 }

@@ -7,10 +7,12 @@ mod lines;
 mod names;
 mod shown;
 
-use libc::STDIN_FILENO;
+use std::io;
+use std::io::Read;
 
-fn main() {
-    let mut input = io::large_buffer();
-    let n = io::read_full(STDIN_FILENO, &mut input);
-    crate::lines::show_lines(&input[..n]);
+fn main(rt: HostRuntime) -> io::Result<()> {
+    let mut input = Vec::new(rt.alloc());
+    rt.reader().read_to_end(&mut input)?;
+    crate::lines::show_lines(rt.stdout(), &input);
+    Ok(())
 }

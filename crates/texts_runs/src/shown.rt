@@ -5,35 +5,36 @@ use reader::read_expression;
 use run_printing::printing::{character, refused, write};
 use run_printing::texts::say_text;
 use states::rules::old_rules;
+use std::io::Stdout;
 use text_parts::parts::front;
 use writer::write_expression;
 
-pub fn say_sort(sort: Sort) {
+pub fn say_sort(to: Stdout, sort: Sort) {
     match sort {
-        Sort::Boolean => write(b"boolean"),
-        Sort::Vector => write(b"vector"),
+        Sort::Boolean => write(to, b"boolean"),
+        Sort::Vector => write(to, b"vector"),
     }
 }
 
-fn say_refusal(word: &[u8], r: Refusal) {
-    refused(word, r);
-    character(b'\n');
+fn say_refusal(to: Stdout, word: &[u8], r: Refusal) {
+    refused(to, word, r);
+    character(to, b'\n');
 }
 
 // What was written for a text.
-fn say_written(text: &[u8], written: &[u8]) {
-    write(b"  = ");
+fn say_written(to: Stdout, text: &[u8], written: &[u8]) {
+    write(to, b"  = ");
     if written.len() > 64 && check::same(text, written) {
-        write(b"the same ");
+        write(to, b"the same ");
     }
-    say_text(written);
-    character(b'\n');
+    say_text(to, written);
+    character(to, b'\n');
 }
 
-fn say_outcome(text: &[u8], out: &[u8; 4096], r: Outcome) {
+fn say_outcome(to: Stdout, text: &[u8], out: &[u8; 4096], r: Outcome) {
     match r {
-        Outcome::Refused(f) => say_refusal(b"  not written: ", f),
-        Outcome::Done(n) => say_written(text, front(out, n)),
+        Outcome::Refused(f) => say_refusal(to, b"  not written: ", f),
+        Outcome::Done(n) => say_written(to, text, front(out, n)),
     }
 }
 
@@ -50,22 +51,22 @@ fn write_room(names: &[u8], tree: &[u8], sort: Sort, out: &mut [u8; 4096], room:
     write_in(names, tree, sort, out, room)
 }
 
-pub fn show_tree(names: &[u8], text: &[u8], tree: &[u8], sort: Sort, room: usize) {
-    let mut out = io::buffer();
+pub fn show_tree(to: Stdout, names: &[u8], text: &[u8], tree: &[u8], sort: Sort, room: usize) {
+    let mut out = [0u8; 4096];
     let r = write_room(names, tree, sort, &mut out, room);
-    say_outcome(text, &out, r);
+    say_outcome(to, text, &out, r);
 }
 
 // What a text is read as over a list of names, or its refusal.
-pub fn show(names: &[u8], text: &[u8], sort: Sort) {
+pub fn show(to: Stdout, names: &[u8], text: &[u8], sort: Sort) {
     let r = read_expression(old_rules(), names, text, sort);
     let refused = r.refused;
     if refused {
         let refusal = r.refusal;
-        say_refusal(b"  refused ", refusal);
+        say_refusal(to, b"  refused ", refusal);
         return;
     }
     let len = r.len;
     let tree = r.tree;
-    show_tree(names, text, front(&tree, len), sort, 4096);
+    show_tree(to, names, text, front(&tree, len), sort, 4096);
 }

@@ -3,6 +3,7 @@
 --   plain_unnamed, plain_unquoted, quote_unnamed   no two of them
 --   half_zero       half 0 is `?`
 --   and_both, contrary   two tests at once; a test with two answers
+use Rattle.std.specs.Prelude.{if◌then◌else◌}
 use mathlib.Core.Path.{◌≡◌, refl}
 use mathlib.Core.Bool.{Bool, true, false, ◌&&◌}
 use mathlib.Core.List.{[], ◌∷◌}
@@ -11,7 +12,6 @@ use Prim.Native.Nat.{ℕ, ◌≤◌}
 use native.Mathlib.Omega.{arith}
 use lib.Dec.{eqb}
 use borrow.Author.Tests.{eqb-true, ltb-true}
-use Rattle.basics.specs.Words.{if◌then◌else◌}
 use Rattle.alf.specs.Names.{is_letter, starts_name}
 use Rattle.alf.specs.States.{among}
 use Rattle.token_steps.specs.Classes.{half_of}

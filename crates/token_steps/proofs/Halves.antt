@@ -2,6 +2,7 @@
 --   half_small, half_at_small   a half's number is at most 9
 --   no_quote, no_b, name_byte_lem   no half
 --   half                        a half
+use Rattle.std.specs.Prelude.{if◌then◌else◌}
 use mathlib.Core.Path.{◌≡◌, refl}
 use mathlib.Core.Bool.{Bool, true, false, ◌&&◌}
 use mathlib.Core.List.{List}
@@ -9,7 +10,6 @@ use Prim.Native.Nat.{ℕ, ◌+◌, ◌≤◌}
 use native.Mathlib.Omega.{arith}
 use lib.Dec.{eqb, ltb}
 use borrow.Author.Tests.{eq-eqb, ne_eqb, ltb-false}
-use Rattle.basics.specs.Words.{if◌then◌else◌}
 use Rattle.alf.specs.Names.{goes_on_name}
 use Rattle.alf.specs.States.{among}
 use Rattle.token_steps.specs.Classes.{half_of}

@@ -1,13 +1,14 @@
 -- A byte string is a token with one code at most.
 --   code_of_lem        the code, computed from the bytes
 --   token_unique   one code
+use Rattle.std.specs.Prelude.{if◌then◌else◌}
 use mathlib.Core.Path.{◌≡◌, refl, sym, ◌∙◌}
 use mathlib.Core.Bool.{true, ◌&&◌}
 use mathlib.Core.List.{List, [], ◌∷◌}
 use Prim.Native.Nat.{ℕ, ◌+◌}
 use lib.Dec.{eqb}
 use borrow.Author.Tests.{eqb-true, lt-ltb}
-use Rattle.basics.specs.Words.{if◌then◌else◌, all}
+use Rattle.basics.specs.Words.{all}
 use Rattle.alf.specs.Names.{is_letter, is_decimal, starts_name, goes_on_name, is_name}
 use Rattle.alf.specs.States.{among}
 use Rattle.token_steps.specs.Classes.{half_of}

@@ -1,4 +1,5 @@
 -- The step at a name is right. Main names: right_name; names_le: name bytes stand inside the text.
+use Rattle.std.specs.Prelude.{if◌then◌else◌}
 use mathlib.Core.Path.{◌≡◌, refl, sym, ap}
 use mathlib.Core.Bool.{Bool, true, false}
 use mathlib.Core.List.{List, [], ◌∷◌}
@@ -8,7 +9,7 @@ use lib.Dec.{eqb, leb}
 use lib.ListN.{length, take, drop, take-append-drop}
 use lib.Seq.{length-take-le}
 use borrow.Author.Tests.{ne_eqb, leb-true, leb-false, lt-ltb}
-use Rattle.basics.specs.Words.{if◌then◌else◌, all}
+use Rattle.basics.specs.Words.{all}
 use Rattle.alf.specs.Names.{starts_name, goes_on_name, is_name}
 use Rattle.token_steps.specs.Spelling.IsToken.{name}
 use Rattle.token_steps.specs.Taking.{byte_at, name_bytes, Taken}

@@ -1,4 +1,5 @@
 -- The step at any other byte is right: two of `0 1 ?`, or one of the spellings. Main name: right_plain.
+use Rattle.std.specs.Prelude.{if◌then◌else◌}
 use mathlib.Core.Path.{◌≡◌, refl, sym, ap}
 use mathlib.Core.Bool.{Bool, true, false, ◌&&◌}
 use mathlib.Core.List.{List, [], ◌∷◌}
@@ -8,7 +9,6 @@ use lib.Dec.{eqb, ltb}
 use lib.ListN.{length, take, drop, take-append-drop}
 use lib.Seq.{take-append_seam}
 use borrow.Author.Tests.{eq-eqb, ltb-true}
-use Rattle.basics.specs.Words.{if◌then◌else◌}
 use Rattle.alf.specs.Names.{starts_name}
 use Rattle.alf.specs.States.{among}
 use Rattle.basics.proofs.Bools.{and_left, and_right}

@@ -2,13 +2,13 @@
 --   no_half, bad_second, both_halves, lone, based_literal   `based`
 --   not_plain, not-second, third, pair                      `plain`
 --   by_class, short_name, long_name                         `take_token`
+use Rattle.std.specs.Prelude.{if◌then◌else◌}
 use mathlib.Core.Path.{◌≡◌, refl}
 use mathlib.Core.Bool.{Bool, true, false}
 use mathlib.Core.List.{List}
 use Prim.Native.Nat.{ℕ, ◌+◌, ◌≤◌, ◌<◌}
 use lib.Dec.{eqb}
 use borrow.Author.Tests.{eq-eqb, ne_eqb, lt-ltb, le-ltb, le-leb, lt-leb}
-use Rattle.basics.specs.Words.{if◌then◌else◌}
 use Rattle.alf.specs.Names.{starts_name, is_decimal}
 use Rattle.token_steps.specs.declared.Class.{Class}
 use Rattle.token_steps.specs.declared.Class.TheVariants.{Letter, Quote, Digit, Blank, Operator, Other}

@@ -2,8 +2,7 @@
 --   is_blank_lem, is_operator     two of the classes as tests
 --   class_of                 the class of a byte
 --   half_of                  the half of an edge that a byte stands for
-use Rattle.std.specs.Prelude.{ℕ, Bool, [], ◌∷◌, eqb}
-use Rattle.basics.specs.Words.{if◌then◌else◌}
+use Rattle.std.specs.Prelude.{ℕ, Bool, [], ◌∷◌, eqb, if◌then◌else◌}
 use Rattle.alf.specs.Names.{starts_name, is_decimal}
 use Rattle.alf.specs.States.{among}
 use Rattle.token_steps.specs.declared.Class.{Class}

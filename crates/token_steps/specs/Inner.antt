@@ -2,8 +2,7 @@
 --   Near, Begun     a byte near a place of the text; a place, and a byte that a spelling can begin with
 --   HalfAt          a half at a byte
 --   word_of, rows    a spelling as up to three bytes with zeros behind them; the table of spellings in rows of four
-use Rattle.std.specs.Prelude.{ℕ, ◌≤◌, ◌<◌, ◌≡◌, List, [], ◌∷◌, eqb, length, get_or}
-use Rattle.basics.specs.Words.{if◌then◌else◌}
+use Rattle.std.specs.Prelude.{ℕ, ◌≤◌, ◌<◌, ◌≡◌, List, [], ◌∷◌, eqb, length, get_or, if◌then◌else◌}
 use Rattle.token_steps.specs.Spelling.{Spelling}
 use Rattle.token_steps.specs.Steps.{half_at}
 

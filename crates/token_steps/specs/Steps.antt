@@ -5,8 +5,7 @@
 --   name_step, based_step, plain_step      the step at a name, at a `'`, at any other byte
 --   half_at, pair_step, lone_step          parts of the step at a `'`
 --   step_of                   the step
-use Rattle.std.specs.Prelude.{ℕ, ◌+◌, Bool, true, false, ◌&&◌, List, [], ◌∷◌, eqb, leb, length}
-use Rattle.basics.specs.Words.{if◌then◌else◌}
+use Rattle.std.specs.Prelude.{ℕ, ◌+◌, Bool, true, false, ◌&&◌, List, [], ◌∷◌, eqb, leb, length, if◌then◌else◌}
 use Rattle.alf.specs.Names.{starts_name}
 use Rattle.token_steps.specs.declared.Step.{Step}
 use Rattle.token_steps.specs.Classes.{half_of}

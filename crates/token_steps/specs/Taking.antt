@@ -4,8 +4,7 @@
 --   is_plain, is_based, is_half     one of `0 1 ?`; `'b` and a literal; the same with no name byte right after it
 --   Barred                       what bars a token, and the byte that is refused
 --   Taken, Tokenless, NoToken    the longest token is taken; none starts; none is taken
-use Rattle.std.specs.Prelude.{ℕ, suc, ◌+◌, ◌<◌, ◌≤◌, Bool, true, false, not, ◌&&◌, ◌≡◌, List, [], ◌∷◌, ◌++◌, eqb, ltb, length, get_or}
-use Rattle.basics.specs.Words.{if◌then◌else◌}
+use Rattle.std.specs.Prelude.{ℕ, suc, ◌+◌, ◌<◌, ◌≤◌, Bool, true, false, not, ◌&&◌, ◌≡◌, List, [], ◌∷◌, ◌++◌, eqb, ltb, length, get_or, if◌then◌else◌}
 use Rattle.alf.specs.Names.{starts_name, goes_on_name}
 use Rattle.token_steps.specs.Classes.{half_of}
 use Rattle.token_steps.specs.Spelling.{IsToken}

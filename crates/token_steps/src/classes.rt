@@ -5,6 +5,7 @@ ghost use Rattle.token_steps.specs.Classes.{is_blank_lem, class_of, half_of};
 
 use crate::Class;
 
+#[tactic(auto, unfolding(crate::specs::Classes::class_of, crate::specs::Classes::is_blank_lem, crate::specs::Classes::is_operator, alf::specs::Names::starts_name, alf::specs::Names::is_letter, alf::specs::Names::is_decimal, alf::specs::States::among))]
 pub fn class_of(b: u8) -> Class
     ensures { result ≡ class_of b }
 {
@@ -46,6 +47,7 @@ pub fn is_name_byte(b: u8) -> bool
 }
 
 // Which of `? 0 1 X H L W Z U`, in either case, counted from 0; 9 where it is none of them.
+#[tactic(auto, unfolding(crate::specs::Classes::half_of, alf::specs::States::among))]
 pub fn half_of(b: u8) -> u8
     ensures { result ≡ half_of b }
 {

@@ -8,7 +8,6 @@ use mathlib.Core.List.{List, [], ◌∷◌, ◌++◌, map, map-append}
 use Prim.Native.Nat.{ℕ, ◌≤◌, ◌<◌}
 use native.Mathlib.Omega.{arith}
 use lib.ListN.{length, take, get_or, set, length-map, length-replicate}
-use Rattle.basics.specs.Memory.{front}
 use Rattle.basics.proofs.Stores.{front_take, front_at, front_holds, front_next}
 use Rattle.tokens.specs.Texts.{Token}
 use Rattle.tokens.specs.Tokenizing.{zeros, filled}

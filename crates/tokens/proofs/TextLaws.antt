@@ -3,6 +3,7 @@
 --   no_token_unique, taken_not_none   or none is, at one place
 --   reads_unique, stuck_unique, reads_not_stuck   the same of texts
 --   reads_or_stuck  every text has the one or the other
+use Rattle.std.specs.Prelude.{if◌then◌else◌}
 use mathlib.Core.Path.{◌≡◌, refl, sym, ap, ◌∙◌}
 use mathlib.Core.Bool.{Bool, true, false, ◌&&◌}
 use mathlib.Core.Logic.{◌⊎◌, inl, inr}
@@ -13,7 +14,6 @@ use lib.Dec.{eqb}
 use lib.ListN.{length, take, drop, length-append}
 use lib.Seq.{take-append_seam, drop-append_seam}
 use borrow.Author.Tests.{eq-eqb, ne_eqb, eqb-true, eqb-false}
-use Rattle.basics.specs.Words.{if◌then◌else◌}
 use Rattle.token_steps.specs.Classes.{is_blank_lem}
 use Rattle.token_steps.specs.Taking.{byte_at, is_half, Barred, Taken, NoToken}
 use Rattle.token_steps.specs.Taking.Barred.{together, overlong, loose, lone, bad_half}
@@ -105,6 +105,7 @@ stuck_unique (here h n) (token-then k u r) = absurd (taken_not_none u n)
 stuck_unique (here {p = p} h n) (here k m) = ap (λ (x : ℕ). p + x) (no_token_unique n m)
 
 pub reads_not_stuck : {p q : ℕ} {bs : List ℕ} {ts : List Token} → Reads p bs ts → Stuck p bs q → ⊥
+reads_not_stuck {q = q} (done {p = p}) s = elim s [ ]
 reads_not_stuck (blank h r) (blank-then k s) = reads_not_stuck r s
 reads_not_stuck (blank h r) (token-then k u s) = contrary h k
 reads_not_stuck (blank h r) (here k n) = contrary h k

@@ -4,8 +4,7 @@
 --   Extent          the bytes that a refusal with a number at a place shows
 --   RefusedIn       a refusal of a call that reads a text
 -- That there is one extent for a number and a place is a law.
-use Rattle.std.specs.Prelude.{ℕ, suc, true, false, ◌≡◌, List, [], ◌∷◌, length, drop}
-use Rattle.basics.specs.Words.{if◌then◌else◌}
+use Rattle.std.specs.Prelude.{ℕ, suc, true, false, ◌≡◌, List, [], ◌∷◌, length, drop, if◌then◌else◌}
 use Rattle.basics.specs.declared.Refusal.{Refusal}
 use Rattle.alf.specs.States.{among}
 use Rattle.alf.specs.Refusals.{Order, RefusedWith}

@@ -2,8 +2,7 @@
 --   stopped_at, Scan    the refusal where bytes form no token; the text's tokens, limits aside
 --   changed, over_at    brackets open or tokens counted behind a token; the first token behind which there are too many
 --   Counting           codes that can be counted
-use Rattle.std.specs.Prelude.{ℕ, suc, ◌≤◌, Bool, true, false, List, [], ◌∷◌, ltb, length, drop}
-use Rattle.basics.specs.Words.{if◌then◌else◌}
+use Rattle.std.specs.Prelude.{ℕ, suc, ◌≤◌, Bool, true, false, List, [], ◌∷◌, ltb, length, drop, if◌then◌else◌}
 use Rattle.basics.specs.declared.Refusal.{Refusal}
 use Rattle.basics.specs.Refusing.{refusal_over_lem}
 use Rattle.tokens.specs.declared.Tokens.{Tokens}

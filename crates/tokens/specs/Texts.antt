@@ -5,8 +5,7 @@
 --   opened, counted, running  brackets open and tokens counted, behind a token and up to a byte
 --   deep, many                rows 3 and 4
 --   OfTokens, order           a row that speaks of the text's tokens; all rows in their order
-use Rattle.std.specs.Prelude.{ℕ, suc, ◌+◌, ◌-◌, true, false, ◌||◌, ◌≡◌, List, [], ◌∷◌, eqb, leb, length}
-use Rattle.basics.specs.Words.{if◌then◌else◌}
+use Rattle.std.specs.Prelude.{ℕ, suc, ◌+◌, ◌-◌, true, false, ◌||◌, ◌≡◌, List, [], ◌∷◌, eqb, leb, length, if◌then◌else◌}
 use Rattle.alf.specs.Refusals.{Row, Order, check, too_long, no_token, too_deep, too_many_tokens}
 use Rattle.token_steps.specs.Classes.{is_blank_lem}
 use Rattle.token_steps.specs.Taking.{Taken, NoToken}

@@ -3,9 +3,10 @@
 
 ghost use Rattle.std.specs.Prelude.{◌≤◌};
 
-use libc::STDIN_FILENO;
 use run_printing::printing::{character, number, refusal, small, write};
 use run_printing::texts::length;
+use std::io;
+use std::io::{Read, Stdout};
 use text_parts::lines::{behind_line, line_at};
 
 fn wide16(n: u16) -> usize {
@@ -13,56 +14,57 @@ fn wide16(n: u16) -> usize {
 }
 
 // The first `count` tokens.
-fn list(codes: &[u8; 4096], places: &[u16; 4096], count: usize)
+fn list(to: Stdout, codes: &[u8; 4096], places: &[u16; 4096], count: usize)
     requires { count ≤ 4096 }
 {
     let mut i: usize = 0;
     while i < count {
-        character(b' ');
-        number(small(codes[i]));
-        character(b'@');
-        number(wide16(places[i]));
+        character(to, b' ');
+        number(to, small(codes[i]));
+        character(to, b'@');
+        number(to, wide16(places[i]));
         i += 1;
     }
 }
 
 // A text with its tokens or its refusal; of a long one how long it is, of many tokens how many.
-fn show(text: &[u8]) {
+fn show(to: Stdout, text: &[u8]) {
     if text.len() <= 40 {
-        write(text);
+        write(to, text);
     } else {
-        length(text);
+        length(to, text);
     }
-    write(b"\n ");
+    write(to, b"\n ");
     let t = tokens::read_tokens(text);
     let refused = t.refused;
     if refused {
-        refusal(t.refusal);
-        return character(b'\n');
+        refusal(to, t.refusal);
+        return character(to, b'\n');
     }
     let count = t.count;
     if count <= 10 {
         let codes = t.codes;
         let places = t.places;
-        list(&codes, &places, count);
+        list(to, &codes, &places, count);
     } else {
-        write(b" tokens ");
-        number(count);
+        write(to, b" tokens ");
+        number(to, count);
     }
-    character(b'\n');
+    character(to, b'\n');
 }
 
 // Each line of the input.
-fn show_lines(input: &[u8]) {
+fn show_lines(to: Stdout, input: &[u8]) {
     let mut at: usize = 0;
     while at < input.len() {
-        show(line_at(input, at));
+        show(to, line_at(input, at));
         at = behind_line(input, at);
     }
 }
 
-fn main() {
-    let mut input = io::large_buffer();
-    let n = io::read_full(STDIN_FILENO, &mut input);
-    show_lines(&input[..n]);
+fn main(rt: HostRuntime) -> io::Result<()> {
+    let mut input = Vec::new(rt.alloc());
+    rt.reader().read_to_end(&mut input)?;
+    show_lines(rt.stdout(), &input);
+    Ok(())
 }

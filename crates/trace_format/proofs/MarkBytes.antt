@@ -2,6 +2,7 @@
 --   marks_name, marks_row, marks_end   the bytes of each kind
 --   row_kind, row_long                 a row's time has four bytes or eight
 --   letter_long, letter_short          which, by the second letter
+use Rattle.std.specs.Prelude.{if◌then◌else◌}
 use mathlib.Core.Path.{◌≡◌, refl, sym, subst}
 use mathlib.Core.Bool.{Bool, true, false, ◌&&◌}
 use mathlib.Core.Logic.{◌⊎◌, inl, inr, ⊎_elim}
@@ -9,7 +10,6 @@ use Prim.Native.Nat.{ℕ, ◌≤◌}
 use native.Mathlib.Omega.{arith}
 use lib.Dec.{eqb}
 use borrow.Author.Tests.{eqb-true}
-use Rattle.basics.specs.Words.{if◌then◌else◌}
 use Rattle.trace_format.specs.declared.Mark.{Mark}
 use Rattle.trace_format.specs.declared.Mark.TheVariants.{Name, Row, End, Other}
 use Rattle.trace_format.specs.Format.{row_letter}

@@ -8,8 +8,7 @@
 --   name_records, codes_of, row_records    of the first names; a row's codes; of the first rows
 --   file_in, fewest, file_of              the bytes of a trace with given widths; the writer's widths, and its bytes
 --   Lists, Trace                        lists of the right lengths; a trace
-use Rattle.std.specs.Prelude.{ℕ, zero, suc, ◌*◌, ◌/◌, ◌%◌, ◌^◌, ◌<◌, ◌≤◌, ◌≡◌, List, [], ◌∷◌, ◌++◌, ◌⊎◌, eqb, ltb, length, get_or, take, drop}
-use Rattle.basics.specs.Words.{if◌then◌else◌}
+use Rattle.std.specs.Prelude.{ℕ, zero, suc, ◌*◌, ◌/◌, ◌%◌, ◌^◌, ◌<◌, ◌≤◌, ◌≡◌, List, [], ◌∷◌, ◌++◌, ◌⊎◌, eqb, ltb, length, get_or, take, drop, if◌then◌else◌}
 use Rattle.alf.specs.Names.{names_in, name_at, GoodSlot}
 use Rattle.names.specs.Check.{Slots}
 

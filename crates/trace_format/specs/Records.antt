@@ -7,8 +7,7 @@
 --   Due, size_of, GoodName, BadCode    what may stand there, how many bytes it has, what its contents must be
 --   contents, marked_order, record_order     the order of the checks of a record
 --   Good, GoodRow, Before             a good record; a file that begins with good ones
-use Rattle.std.specs.Prelude.{ℕ, zero, suc, ◌+◌, ◌-◌, ◌*◌, ◌<◌, ◌≤◌, true, ◌≡◌, List, [], ◌∷◌, eqb, ◌&&◌, length, get_or, take, drop}
-use Rattle.basics.specs.Words.{if◌then◌else◌}
+use Rattle.std.specs.Prelude.{ℕ, zero, suc, ◌+◌, ◌-◌, ◌*◌, ◌<◌, ◌≤◌, true, ◌≡◌, List, [], ◌∷◌, eqb, ◌&&◌, length, get_or, take, drop, if◌then◌else◌}
 use Rattle.alf.specs.Names.{is_name}
 use Rattle.alf.specs.Refusals.{Order, check, First, wrong_mark, bad_name, early_time, cut_short, wrong_count}
 use Rattle.alf.specs.Refusals.{bytes_after, Passed}

@@ -1,8 +1,7 @@
 -- Document 02, "Longer times": a row marked `RL` whose time would fit behind `RW`.
 --   needless       1 for such a row, by the bytes of its time and by the time, else 0
 --   needless_rows   how many of the first rows behind k names of a file are such
-use Rattle.std.specs.Prelude.{ℕ, zero, suc, ◌+◌, ◌&&◌, List, eqb, ltb}
-use Rattle.basics.specs.Words.{if◌then◌else◌}
+use Rattle.std.specs.Prelude.{ℕ, zero, suc, ◌+◌, ◌&&◌, List, eqb, ltb, if◌then◌else◌}
 use Rattle.trace_format.specs.Records.{width_in, time_in}
 
 unfoldable pub needless : ℕ → ℕ → ℕ

@@ -5,8 +5,7 @@
 --   time_in, codes_in, times_of, states_of              what rows hold
 --   size_of, contents, marked_order, record_order      the order of the checks of a record
 --   Good, Before, Accepted, FileRefused             a good record, good ones before; what the pass over a file comes to
-use Rattle.std.specs.Prelude.{ℕ, zero, suc, ◌+◌, ◌-◌, ◌*◌, ◌<◌, ◌≤◌, ◌&&◌, ◌≡◌, List, [], ◌∷◌, ◌++◌, eqb, length, get_or, take, drop}
-use Rattle.basics.specs.Words.{if◌then◌else◌}
+use Rattle.std.specs.Prelude.{ℕ, zero, suc, ◌+◌, ◌-◌, ◌*◌, ◌<◌, ◌≤◌, ◌&&◌, ◌≡◌, List, [], ◌∷◌, ◌++◌, eqb, length, get_or, take, drop, if◌then◌else◌}
 use Rattle.alf.specs.Refusals.{Order, check, First, wrong_mark, bad_name, early_time, cut_short, wrong_count}
 use Rattle.alf.specs.Refusals.{bytes_after, RefusedWith, Passed}
 use Rattle.trace_format.specs.declared.Mark.{Mark}

@@ -4,35 +4,60 @@
 
 use basics::Outcome;
 use complaints::refused;
-use console::output::failed;
+use console::output::Console;
 use console::saving::save_front;
+use loading::arguments::path_argument;
+use std::rt::{Env, Files};
 use trace_writer::write::write_trace;
 
 // A file that was made is saved, or it is said why there is none.
-fn save_made(path: &[u8], out: &[u8], o: Outcome) {
+fn save_made<R: Files>(rt: &R, console: &Console, path: &[u8], out: &[u8], o: Outcome) {
     match o {
-        Outcome::Done(n) => save_front(path, out, n),
-        Outcome::Refused(r) => refused(b"trace", r),
+        Outcome::Done(n) => save_front(rt, console, path, out, n),
+        Outcome::Refused(r) => refused(console, b"trace", r),
     }
 }
 
-fn write_file(names: &[u8], times: &[u64], states: &[u8], path: &[u8], out: &mut [u8]) {
+fn write_file<R: Files>(
+    rt: &R,
+    console: &Console,
+    names: &[u8],
+    times: &[u64],
+    states: &[u8],
+    path: &[u8],
+    out: &mut [u8],
+) {
     let o = write_trace(names, times, states, times.len(), out);
-    save_made(path, out, o);
+    save_made(rt, console, path, out, o);
 }
 
-fn write_lent(names: &[u8], times: &[u64], states: &[u8], path: &[u8], out: &mut [u8; 2753596]) {
-    write_file(names, times, states, path, out);
+fn write_lent<R: Files>(
+    rt: &R,
+    console: &Console,
+    names: &[u8],
+    times: &[u64],
+    states: &[u8],
+    path: &[u8],
+    out: &mut [u8; 2753596],
+) {
+    write_file(rt, console, names, times, states, path, out);
 }
 
 // The trace is written to the file that argument i names. There is room for the longest file.
-pub fn write_to(i: usize, names: &[u8], times: &[u64], states: &[u8]) {
-    let mut path = io::buffer();
-    let n = os::arg(i, &mut path);
-    if os::errno() != 0 {
-        failed(b"the name of the trace to write");
-        return;
+pub fn write_to<R: Env + Files>(
+    rt: &R,
+    console: &Console,
+    i: usize,
+    names: &[u8],
+    times: &[u64],
+    states: &[u8],
+) {
+    let mut path = [0u8; 4096];
+    match path_argument(rt, console, i, b"the name of the trace to write", &mut path) {
+        Some(n) => {
+            let mut out = [0u8; 2753596];
+            write_lent(rt, console, names, times, states, &path[..n], &mut out);
+        }
+        None => {}
     }
-    let mut out = [0u8; 2753596];
-    write_lent(names, times, states, &path[..n], &mut out);
 }

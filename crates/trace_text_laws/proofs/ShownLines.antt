@@ -1,13 +1,14 @@
 -- The activity listing of a trace in words: its lines, and that it is spelt by them.
 --   picked, head_words, state_words, row_words    the names of a set, the words of the head and of a row's line
 --   listing_spelt                              the listing of a trace is the text of these lines
+use Rattle.std.specs.Prelude.{if◌then◌else◌}
 use Prim.Native.Nat.{ℕ, zero, suc, ◌+◌, ◌*◌, ◌<◌, ◌≤◌}
 use native.Mathlib.Omega.{arith}
 use mathlib.Core.Path.{◌≡◌, refl, sym, ap, ◌∙◌}
 use mathlib.Core.Bool.{Bool, true, false}
 use mathlib.Core.List.{List, [], ◌∷◌, ◌++◌, append_assoc}
 use lib.ListN.{get_or}
-use Rattle.basics.specs.Words.{if◌then◌else◌, All, all, listed}
+use Rattle.basics.specs.Words.{All, all, listed}
 use Rattle.basics.specs.Text.{bytes, joined}
 use Rattle.alf.specs.Names.{names_in, name_at, is_decimal, starts_name, goes_on_name, is_name, is_letter}
 use Rattle.alf.specs.Traces.{changed, change_count}

@@ -2,6 +2,7 @@
 --   Passing, passing_first, passing_next, passes-end, passes_all    bytes of a line are passed, up to LF
 --   says_first        whether a line says something is told by the first byte of its first word
 --   Seeking, seeking_first, seeking_next, next_found, next-none     lines that say nothing are passed
+use Rattle.std.specs.Prelude.{if◌then◌else◌}
 use Prim.Native.Nat.{ℕ, ◌+◌, ◌<◌, ◌≤◌}
 use native.Mathlib.Omega.{arith}
 use mathlib.Core.Path.{◌≡◌, refl, sym, ap, ◌∙◌}
@@ -10,7 +11,6 @@ use mathlib.Core.List.{List, [], ◌∷◌}
 use lib.Dec.{eqb}
 use lib.ListN.{length, get_or, drop_of_length-le}
 use borrow.Author.Tests.{eq-eqb, ne_eqb, eqb-false}
-use Rattle.basics.specs.Words.{if◌then◌else◌}
 use Rattle.basics.proofs.Bools.{never}
 use Rattle.trace_texts.specs.Words.{Word, Lines, word, line, lines, is_blank_lem, joins, before, lines_from}
 use Rattle.trace_texts.specs.Words.{says, saying}

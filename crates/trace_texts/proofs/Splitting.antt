@@ -3,6 +3,7 @@
 --   trail                     words, each behind a blank
 --   Laid, laid                the words behind a word, up to LF, and the lines behind that
 --   Spelt, spelt              a text of whole lines; the lines that say something are these
+use Rattle.std.specs.Prelude.{if◌then◌else◌}
 use Prim.Native.Nat.{ℕ, ◌+◌, ◌≤◌}
 use native.Mathlib.Omega.{arith}
 use mathlib.Core.Path.{◌≡◌, refl, ap, ◌∙◌}
@@ -11,7 +12,7 @@ use mathlib.Core.List.{List, [], ◌∷◌, ◌++◌, map, append_assoc}
 use lib.Dec.{eqb}
 use lib.ListN.{length, get_or}
 use borrow.Author.Tests.{eq-eqb, ne_eqb}
-use Rattle.basics.specs.Words.{if◌then◌else◌, All}
+use Rattle.basics.specs.Words.{All}
 use Rattle.trace_texts.specs.Words.{Word, Line, Lines, word, line, lines, is_blank_lem, joins, before, lines_from}
 use Rattle.trace_texts.specs.Words.{says, saying}
 

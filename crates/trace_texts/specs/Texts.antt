@@ -12,9 +12,9 @@
 --   NewName, name_order, names_order, head_order                      what is asked of the head
 --   states_order, row_order, rows_order, text_order                    of the rows; of a text
 -- The numbers are those of document 01 for a trace file; docs/DECISIONS.md says why each is given where it is.
-use Rattle.std.specs.Prelude.{ℕ, zero, suc, ◌+◌, ◌-◌, ◌<◌, ◌≤◌, ◌≡◌, Bool, true, false, ◌&&◌, ◌||◌, not, List, [], ◌∷◌, ◌++◌, map, ltb, length, get_or, drop}
+use Rattle.std.specs.Prelude.{ℕ, zero, suc, ◌+◌, ◌-◌, ◌<◌, ◌≤◌, ◌≡◌, Bool, true, false, ◌&&◌, ◌||◌, not, List, [], ◌∷◌, ◌++◌, map, ltb, length, get_or, drop, if◌then◌else◌}
 use Rattle.basics.specs.Text.{bytes, joined}
-use Rattle.basics.specs.Words.{if◌then◌else◌, all, same, listed}
+use Rattle.basics.specs.Words.{all, same, listed}
 use Rattle.alf.specs.Names.{is_decimal, is_name, slot_of}
 use Rattle.alf.specs.Refusals.{Order, check, At}
 use Rattle.figures.specs.Numbers.{reading}

@@ -5,8 +5,7 @@
 --   is_blank_lem, joins, before   a byte before words, before lines
 --   lines_from                the lines of a text
 --   says, saying, lines_of    the lines that say something
-use Rattle.std.specs.Prelude.{ℕ, ◌+◌, Bool, false, ◌||◌, not, List, [], ◌∷◌, eqb, get_or}
-use Rattle.basics.specs.Words.{if◌then◌else◌}
+use Rattle.std.specs.Prelude.{ℕ, ◌+◌, Bool, false, ◌||◌, not, List, [], ◌∷◌, eqb, get_or, if◌then◌else◌}
 
 pub record Word : Type 0 where
   pub at : ℕ

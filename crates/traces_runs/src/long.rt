@@ -2,6 +2,7 @@
 ghost use Rattle.std.specs.Prelude.{◌<◌};
 
 use crate::show_reading;
+use std::io::Stdout;
 use text_parts::parts::front;
 use text_parts::puts::put_byte;
 use trace_reader::read::read_trace;
@@ -45,15 +46,15 @@ fn put_file(out: &mut [u8], n: u32) -> usize
     at + 6
 }
 
-fn read_long(file: &[u8]) {
+fn read_long(to: Stdout, file: &[u8]) {
     let mut names = [0u8; 32];
     let mut times = [0u64; 65536];
     let mut states = [0u8; 65536];
-    show_reading(read_trace(file, &mut names, &mut times, &mut states));
+    show_reading(to, read_trace(file, &mut names, &mut times, &mut states));
 }
 
-fn read_file(file: &[u8; 458776], n: usize) {
-    read_long(front(file, n));
+fn read_file(to: Stdout, file: &[u8; 458776], n: usize) {
+    read_long(to, front(file, n));
 }
 
 fn fill_file(file: &mut [u8; 458776], n: u32) -> usize
@@ -63,10 +64,10 @@ fn fill_file(file: &mut [u8; 458776], n: u32) -> usize
 }
 
 // A file of one name and so many rows.
-pub fn read_rows(n: u32)
+pub fn read_rows(to: Stdout, n: u32)
     requires { n < 65537 }
 {
     let mut file = [0u8; 458776];
     let size = fill_file(&mut file, n);
-    read_file(&file, size);
+    read_file(to, &file, size);
 }

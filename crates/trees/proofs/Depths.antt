@@ -1,5 +1,6 @@
 -- The depth of the brackets of an expression, from its operands', by its last byte; counted no further than 33.
 -- Main names: Depth, Placed, depth_small, bracket_is; leaf_depth, one_depth, pair_depth, three_depth.
+use Rattle.std.specs.Prelude.{if◌then◌else◌}
 use Prim.Native.Nat.{ℕ, ◌+◌, ◌-◌, ◌<◌, ◌≤◌, min, max}
 use native.Mathlib.Omega.{arith}
 use mathlib.Core.Path.{◌≡◌, refl, ◌∙◌}
@@ -7,7 +8,6 @@ use mathlib.Core.Bool.{Bool, true, false}
 use mathlib.Core.List.{List}
 use lib.Dec.{ltb}
 use lib.ListN.{get_or}
-use Rattle.basics.specs.Words.{if◌then◌else◌}
 use Rattle.alf.specs.Decoder.{Stack, under, stack_at}
 use Rattle.basics.proofs.Bools.{never}
 use Rattle.alf.proofs.Made.{Made, a_name, a_literal, a_negation, a_binary, a_choice, an_edge, a_join}

@@ -1,6 +1,7 @@
 -- The kind of what a byte makes, from its operands' kinds, and where it starts.
 -- Main names: none, leaf_found, one_found, pair_found, three_found; no_right, no_left, no_first, where an operand is
 -- missing; ending_unique.
+use Rattle.std.specs.Prelude.{if◌then◌else◌}
 use Prim.Native.Nat.{ℕ, ◌-◌, ◌<◌, ◌≤◌}
 use native.Mathlib.Omega.{arith}
 use mathlib.Core.Path.{◌≡◌, refl, ap, sym, ◌∙◌}
@@ -10,7 +11,6 @@ use lib.ListN.{get_or, length}
 use lib.Dec.{ltb, eqb}
 use native.Mathlib.Nat.{zero-add}
 use borrow.Author.Tests.{ltb-true, ltb-false, ne_eqb}
-use Rattle.basics.specs.Words.{if◌then◌else◌}
 use Rattle.alf.specs.Expressions.{Boolean, boolean, Vector, vector}
 use Rattle.alf.specs.Decoder.{Stack, empty, broken, push, Operation, leaf_at, pair_at, three_at, one_at}
 use Rattle.alf.specs.Decoder.{is_boolean, is_vector, under, if_so, run, arity_at, stack_at}

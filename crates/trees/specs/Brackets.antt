@@ -2,8 +2,7 @@
 -- brackets nest in an expression's text with only needed brackets. A name or a literal has level 0.
 --   binary_level, join_level, level_of, level_at     levels of operators, of an expression, of the operator at a byte
 --   bracketed, boolean_depth, vector_depth, depth_of        how deep brackets nest
-use Rattle.std.specs.Prelude.{ℕ, ◌+◌, ◌-◌, max, ltb}
-use Rattle.basics.specs.Words.{if◌then◌else◌}
+use Rattle.std.specs.Prelude.{ℕ, ◌+◌, ◌-◌, max, ltb, if◌then◌else◌}
 use Rattle.alf.specs.Expressions.{Binary, and, or, xor, xnor, equals, differs, above, below, is_at_least, is_at_most}
 use Rattle.alf.specs.Expressions.{Boolean, name, literal, negated, binary, choice, Vector, edge, join, while}
 use Rattle.alf.specs.Expressions.{Join, followed-by, either_order, with-or-then, any_order, with, or_else}

@@ -3,8 +3,7 @@
 --   given_one, given_two, leaf_kind, one_kind, pair_kind, three_kind   the kind that a byte makes of its operands' kinds
 --   start_of, Ending                       what the bytes before a place end with, and where that starts
 --   Holds                                which expressions something holds of, by the kind
-use Rattle.std.specs.Prelude.{ℕ, ◌<◌, ◌≡◌, ◌&&◌, List, eqb, ltb, length}
-use Rattle.basics.specs.Words.{if◌then◌else◌}
+use Rattle.std.specs.Prelude.{ℕ, ◌<◌, ◌≡◌, ◌&&◌, List, eqb, ltb, length, if◌then◌else◌}
 use Rattle.alf.specs.Expressions.{Expression, boolean, vector}
 use Rattle.alf.specs.Expressions as expressions
 use Rattle.alf.specs.Decoder.{Stack, empty, broken, push, stack_at}

@@ -1,6 +1,5 @@
 // How deep the brackets nest in an expression's text with only needed brackets.
-ghost use Rattle.std.specs.Prelude.{◌≡◌, ◌+◌, ◌<◌, ◌≤◌, min, max, ltb};
-ghost use Rattle.basics.specs.Words.{if◌then◌else◌};
+ghost use Rattle.std.specs.Prelude.{◌≡◌, ◌+◌, ◌<◌, ◌≤◌, min, max, ltb, if◌then◌else◌};
 ghost use Rattle.trees.specs.Parts.{Ends, expression_at};
 ghost use Rattle.trees.specs.Brackets.{level_at, depth_of};
 

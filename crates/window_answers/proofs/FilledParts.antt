@@ -4,6 +4,7 @@
 --   while_filled, joined_filled          an operator, when its operands are filled; one of two vectors is held
 --   vector_ends, boolean_ends            which expression it is
 --   leaf_ready, part_held, right_fillable, left_fillable, part_ready     what is asked before
+use Rattle.std.specs.Prelude.{if◌then◌else◌}
 use Prim.Native.Nat.{ℕ, ◌+◌, ◌-◌, ◌*◌, ◌<◌, ◌≤◌}
 use native.Mathlib.Omega.{arith}
 use mathlib.Core.Path.{◌≡◌, refl, ◌∙◌}
@@ -11,7 +12,6 @@ use mathlib.Core.Bool.{Bool, true, false, not}
 use mathlib.Core.List.{List}
 use lib.Dec.{eqb}
 use lib.ListN.{length}
-use Rattle.basics.specs.Words.{if◌then◌else◌}
 use Rattle.alf.specs.Windows.{NO}
 use Rattle.trees.specs.Parts.{EndsBoolean, EndsVector, Start}
 use Rattle.trees.proofs.Starts.{ends_pos}

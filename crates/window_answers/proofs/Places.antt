@@ -1,11 +1,11 @@
 -- The answer of an expression with its pins, from those of its operands: by places, as the table has them.
 --   edge_placed, join_placed        an edge, an operator of two vectors: no where a pin moves
 --   right_placed, left_placed       a condition behind the vector, and before it
+use Rattle.std.specs.Prelude.{if◌then◌else◌}
 use Prim.Native.Nat.{ℕ, ◌-◌, min}
 use mathlib.Core.Path.{◌≡◌, refl}
 use mathlib.Core.List.{List}
 use lib.ListN.{length}
-use Rattle.basics.specs.Words.{if◌then◌else◌}
 use Rattle.alf.specs.Expressions.{Boolean, Edge, Join, Vector, edge, join, while, on-right, on-left}
 use Rattle.alf.specs.Bytes.{boolean_bytes, vector_bytes}
 use Rattle.alf.specs.Windows.{NO, held, joined, answer}

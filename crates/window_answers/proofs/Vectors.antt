@@ -5,6 +5,7 @@
 --   operator_byte                         it is an edge, or an operator of bytes 50 to 57
 --   edge_answer, joined_answer, held_answer     its answer: an edge, an operator of two vectors, one with a condition
 --   operands_off                          two vector expressions answer no on windows without an event
+use Rattle.std.specs.Prelude.{if◌then◌else◌}
 use Prim.Native.Nat.{ℕ, ◌-◌, ◌<◌, ◌≤◌, min}
 use native.Mathlib.Omega.{arith}
 use mathlib.Core.Path.{◌≡◌, sym}
@@ -17,7 +18,6 @@ use Rattle.alf.specs.declared.Rules.{Rules}
 use Rattle.alf.specs.Values.{state_at}
 use Rattle.alf.specs.Windows.{Window, NO, answer}
 use Rattle.alf.specs.Decoder.{edge_at, join_at, is_boolean, is_vector, top_boolean, top_vector, under, stack_at}
-use Rattle.basics.specs.Words.{if◌then◌else◌}
 use Rattle.basics.proofs.Bools.{below?, equal?}
 use Rattle.alf.proofs.Made.{Made}
 use Rattle.alf.proofs.Parts.{made_last}

@@ -1,6 +1,7 @@
 -- The tokens that are written for an expression over the names are names of the list and signs, and few.
 --   TreeKnown, tree_known, written_known   tokens that can be written: a tree, an expression, what is written of it
 --   written_short, nodes_bytes             at most four tokens for each node, and as many nodes as bytes
+use Rattle.std.specs.Prelude.{if◌then◌else◌}
 use Prim.Native.Nat.{ℕ, pred, ◌+◌, ◌*◌, ◌/◌, ◌<◌, ◌≤◌}
 use native.Mathlib.Omega.{arith}
 use mathlib.Core.Path.{◌≡◌, refl}
@@ -8,7 +9,6 @@ use mathlib.Core.Bool.{Bool, true, false}
 use mathlib.Core.List.{List, [], ◌∷◌, ◌++◌}
 use lib.Dec.{leb, lit≤}
 use lib.ListN.{length, length-append}
-use Rattle.basics.specs.Words.{if◌then◌else◌}
 use Rattle.alf.specs.Names.{is_name, name_at}
 use Rattle.alf.specs.Expressions.{Boolean, name, literal, negated, binary, choice, Vector, edge, join, while}
 use Rattle.alf.specs.Expressions.{Binary, and, or, xor, xnor, equals, differs, above, below, is_at_least, is_at_most}

@@ -1,7 +1,8 @@
 -- The signs of a tree, part by part, where the functions over the tree's bytes look for them.
 --   leaf_signs, one_signs, Two, Three        the signs of a node, from those of its operands
 --   one_start, two_start, three_start        where the writing of a node's parts begins
-use Prim.Native.Nat.{ℕ, zero, suc, ◌+◌, ◌-◌, ◌<◌, ◌≤◌}
+use Rattle.std.specs.Prelude.{if◌then◌else◌}
+use Prim.Native.Nat.{ℕ, zero, suc, ◌-◌, ◌<◌, ◌≤◌}
 use native.Mathlib.Omega.{arith}
 use native.Mathlib.Numerals.{sub-one}
 use mathlib.Core.Path.{◌≡◌, refl, sym, ap, ◌∙◌}
@@ -11,7 +12,6 @@ use mathlib.Core.List.{List, [], ◌∷◌, ◌++◌, map, map-append, append_as
 use lib.Dec.{eqb, ltb, leb}
 use lib.ListN.{get_or, length}
 use borrow.Author.Tests.{ne_eqb}
-use Rattle.basics.specs.Words.{if◌then◌else◌}
 use Rattle.alf.specs.Decoder.{stack_at}
 use Rattle.basics.proofs.Choices.{if_all}
 use Rattle.alf.proofs.Parts.{made_last}

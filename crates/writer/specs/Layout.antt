@@ -3,8 +3,7 @@
 --   code_at, level_at             an operator's token and level, by the tree's byte
 --   bracket, opener, closer     a bracket, where it is needed
 --   Emitting, EmittingTwo, EmittingThree, Emitted   the signs of an expression are to be written; they are written
-use Rattle.std.specs.Prelude.{ℕ, ◌-◌, ◌≤◌, ◌<◌, List, [], ◌∷◌, map, eqb, ltb, leb, get_or}
-use Rattle.basics.specs.Words.{if◌then◌else◌}
+use Rattle.std.specs.Prelude.{ℕ, ◌-◌, ◌≤◌, ◌<◌, List, [], ◌∷◌, map, eqb, ltb, leb, get_or, if◌then◌else◌}
 use Rattle.basics.specs.Memory.{Put, Room}
 use Rattle.grammar.specs.Tokens.{kind}
 use Rattle.grammar.specs.Grammar.{Tree}

@@ -1,7 +1,8 @@
 use borrow.Author.Rules.{rules}
 use borrow.Author.Count.{below_none, below_more}
 use native.Mathlib.Omega.{arith}
-use mathlib.Core.Path.{refl}
+use mathlib.Core.Path.{refl, ap}
+use mathlib.Core.Bool.{not}
 use Rattle.basics.proofs.Deciding.{decided_no, decided_yes}
 use Rattle.names.proofs.Outcomes.{names_18, names_12, names_done}
 use Rattle.names.proofs.check_names.Goals as goal
@@ -26,14 +27,14 @@ returns-then-not-good_slot c =
     rw c.refuse-then-not-good_slot.ensures
     (names_12 _ _ c.loop-i.invariant.1 _ c.loop-i-test.true
     c.loop-i.invariant.2
-    (decided_no _ c.good_slot.ensures c.if-not-good_slot.true))
+    (decided_no _ c.good_slot.ensures (ap not c.if-not-good_slot.true)))
 
 pub loop-i-preserved : goal.loop-i-preserved
 loop-i-preserved c = (
   search rules,
   c.loop-i.invariant.1,
   below_more _ _ c.loop-i.invariant.2
-      (decided_yes _ c.good_slot.ensures c.if-not-good_slot.false),
+      (decided_yes _ c.good_slot.ensures (ap not c.if-not-good_slot.false)),
 )
 
 pub returns : goal.returns

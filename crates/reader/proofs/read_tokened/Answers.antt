@@ -1,60 +1,55 @@
 -- `read_tokened` meets its contract.
-use borrow.Author.Rules.{rules}
+use borrow.Author.Tests.{not-true, not-false}
 use native.Mathlib.Omega.{arith}
 use Rattle.reader.proofs.TokenedTexts.{parse_asked, names_asked, count_small, short, five_inside}
 use Rattle.reader.proofs.TokenedTexts.{whole_five, whole_six, grown, whole_sorted}
 use Rattle.reader.proofs.read_tokened.Goals as goal
-
--- where the function begins, from where the text is parsed
-abbrev begun : (p : goal.After-parse-parsed) → tie.Start
-begun p = c
 
 pub parse-parsed-requires : goal.parse-parsed-requires
 parse-parsed-requires c = parse_asked c.requires
 
 pub refuse_token-requires : goal.refuse_token-requires
 refuse_token-requires c =
-    five_inside (begun c.before.before).requires (begun c.before.before).args.sort c.parse-parsed.ensures c.if-not-parsed.true
+    five_inside c.requires c.args.sort c.parse-parsed.ensures (not-true _ c.if-not-parsed.true)
 
 pub returns-then-not-parsed : goal.returns-then-not-parsed
 returns-then-not-parsed c =
-    whole_five (begun c.before.before.before).requires _ c.parse-parsed.ensures (begun c.before.before.before).args.rules
-    c.if-not-parsed.true c.refuse_token.ensures
+    whole_five c.requires _ c.parse-parsed.ensures c.args.rules
+    (not-true _ c.if-not-parsed.true) c.refuse_token.ensures
 
 pub first_unknown-u-requires : goal.first_unknown-u-requires
-first_unknown-u-requires c = names_asked (begun c.before.before.before.before).requires
+first_unknown-u-requires c = names_asked c.requires
 
 -- the number of an unknown name, and its place
 pub bounds-places-u : goal.bounds-places-u
 bounds-places-u c =
-    omega (arith, count_small (begun c.before.before.before.before.before.before).requires, c.if-u-count.true)
+    omega (arith, count_small c.requires, c.if-u-count.true)
 
 pub offset_bounds-places-u : goal.offset_bounds-places-u
 offset_bounds-places-u c = let small = bounds-places-u c in omega arith
 
 pub overflow_cast-places : goal.overflow_cast-places
 overflow_cast-places c =
-    let k = (begun c.before.before.before.before.before.before).requires in
+    let k = c.requires in
     omega (arith, (names_asked k).inside c.first_unknown-u.result c.if-u-count.true, short k)
 
 pub refuse_token-requires-then-u-count : goal.refuse_token-requires-then-u-count
 refuse_token-requires-then-u-count c =
-    (names_asked (begun c.before.before.before.before.before.before).requires).inside c.first_unknown-u.result c.if-u-count.true
+    (names_asked c.requires).inside c.first_unknown-u.result c.if-u-count.true
 
 pub returns-then-u-count : goal.returns-then-u-count
 returns-then-u-count c =
-    whole_six (begun c.before.before.before.before.before.before.before).requires _ c.parse-parsed.ensures c.if-not-parsed.false
-    c.first_unknown-u.ensures (begun c.before.before.before.before.before.before.before).args.rules c.if-u-count.true
+    whole_six c.requires _ c.parse-parsed.ensures (not-false _ c.if-not-parsed.false)
+    c.first_unknown-u.ensures c.args.rules c.if-u-count.true
     c.refuse_token-then-u-count.ensures
 
 pub read_nodes-requires : goal.read_nodes-requires
 read_nodes-requires c =
-    let start = begun c.before.before.before.before.before.before in
-    grown start.pre start.args.sort c.parse-parsed.ensures c.if-not-parsed.false
+    grown c.requires c.args.sort c.parse-parsed.ensures (not-false _ c.if-not-parsed.false)
     c.first_unknown-u.ensures
 
 pub returns : goal.returns
 returns c =
-    whole_sorted (begun c.before.before.before.before.before.before.before).requires _ c.parse-parsed.ensures c.if-not-parsed.false
-    c.first_unknown-u.ensures (begun c.before.before.before.before.before.before.before).args.rules c.if-u-count.false
+    whole_sorted c.requires _ c.parse-parsed.ensures (not-false _ c.if-not-parsed.false)
+    c.first_unknown-u.ensures c.args.rules c.if-u-count.false
     c.read_nodes.ensures

@@ -9,4 +9,4 @@ pub returns : goal.returns
 returns c =
     c.hand_on.ensures ∙ ap refused_by c.refusal_over.ensures
     ∙ ap (λ (k : ℕ). refused_by (refusal_over_lem 2 c.args.place k))
-    c.to_blank_rule.ensures
+    c.to_blank.ensures

@@ -9,7 +9,7 @@ use Rattle.tokens.proofs.scan.Goals as goal
 
 -- where a token was taken: it has a byte, and ends in the text
 fits :
-    (c : goal.Else-code →
+    (c : goal.Else-code) →
     (0 < c.take_token-s.result.size) ×
     (c.loop-at.at + c.take_token-s.result.size ≤ length c.args.text.now)
 fits c =

@@ -1,5 +1,5 @@
 -- `write_tree` meets its contract: refused with 10, or laid out, spelled and delivered.
-use Rattle.basics.proofs.Deciding.{decided_no, decided_yes}
+use Rattle.basics.proofs.Deciding.{told, not_told}
 use Rattle.basics.proofs.PartByPart.{holds_within, holds_count}
 use Rattle.writer.proofs.Calls.{under_old, not_old, refused_tree, laid, lined, wrote}
 use Rattle.writer.proofs.write_tree.Goals as goal
@@ -7,22 +7,21 @@ use Rattle.writer.proofs.write_tree.Goals as goal
 pub returns-then-not-accepts : goal.returns-then-not-accepts
 returns-then-not-accepts c =
     refused_tree c.requires
-    (not_old c.old_rules_rule.ensures
-    (decided_no _ c.accepts.ensures c.if-not-accepts.true))
+    (not_old c.old_rules.ensures
+    (not_told _ c.accepts.ensures c.if-not-accepts.true))
     c.refuse.ensures
 
 pub lay_out-count-requires : goal.lay_out-count-requires
 lay_out-count-requires c =
     laid c.requires
-    (under_old c.old_rules_rule.ensures
-    (decided_yes _ c.accepts.ensures c.if-not-accepts.false))
+    (under_old c.old_rules.ensures
+    (told _ c.accepts.ensures c.if-not-accepts.false))
 
 pub spell_out-size-requires : goal.spell_out-size-requires
 spell_out-size-requires c =
-    let good = of_laid c.before.before in
     lined c.requires
-    (under_old good.before.before.old_rules_rule.ensures
-    (decided_yes _ good.before.accepts.ensures good.if1.left))
+    (under_old c.old_rules.ensures
+    (told _ c.accepts.ensures c.if-not-accepts.false))
     c.lay_out-count.ensures
 
 pub slice_bounds-buffer-end : goal.slice_bounds-buffer-end
@@ -33,8 +32,7 @@ slice_bounds-deliver-end c = holds_count c.spell_out-size.ensures
 
 pub returns : goal.returns
 returns c =
-    let good = of_laid c.before.before.before.before.before.before.before.before in
     wrote c.requires
-    (under_old good.before.before.old_rules_rule.ensures
-    (decided_yes _ good.before.accepts.ensures good.if1.left))
+    (under_old c.old_rules.ensures
+    (told _ c.accepts.ensures c.if-not-accepts.false))
     c.lay_out-count.ensures c.spell_out-size.ensures c.deliver.ensures

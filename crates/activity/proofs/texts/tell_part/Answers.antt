@@ -4,8 +4,9 @@ use Rattle.trace_writer.proofs.TraceChecks.{some_rows}
 use Rattle.activity.specs.Activity.{PartOf}
 use Rattle.activity.proofs.WholeText.{no_part, rows_refused, checked_good, part_delivered}
 use Rattle.activity.proofs.texts.tell_part.Goals as goal
+use Rattle.activity.proofs.texts.tell_part.Goals.{Else-n-to}
 
-inside : (c : goal.Else-n-to) → PartOf c.args.n c.args.from c.args.to
+inside : (c : Else-n-to) → PartOf c.args.n c.args.from c.args.to
 inside c = record { some = c.if-to-from.false; within = c.if-n-to.false }
 
 pub returns-then-to-from : goal.returns-then-to-from
@@ -22,15 +23,13 @@ overflow_sub-to-in-Done c = omega (arith, c.if-to-from.false)
 
 pub write_part-requires : goal.write_part-requires
 write_part-requires c =
-    let rows = checked c.before.before in
-    checked_good c.requires (inside c.before.before.before.before.before) rows.check-rows.ensures c.type_inv.out
+    checked_good c.requires (inside (goal.at.write_part-requires c).Else-n-to) c.check_rows.ensures c.in-Done.is
 
 pub returns-in-Refused : goal.returns-in-Refused
 returns-in-Refused c =
-    rows_refused (inside c.before.before.before.before) _ c.check_rows.ensures c.type_inv.out
+    rows_refused (inside (goal.at.returns-in-Refused c).Else-n-to) _ c.check_rows.ensures c.in-Refused.is
 
 pub returns-in-Done : goal.returns-in-Done
 returns-in-Done c =
-    let rows = checked c.before.before.before.before.before in
-    part_delivered (inside c.before.before.before.before.before.before.before.before) rows.check-rows.ensures c.type_inv.out
+    part_delivered (inside (goal.at.returns-in-Done c).Else-n-to) c.check_rows.ensures c.in-Done.is
     c.write_part.ensures

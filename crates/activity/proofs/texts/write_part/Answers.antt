@@ -11,34 +11,30 @@ use Rattle.row_lines.specs.Lines.{row_lines}
 use Rattle.activity.specs.Activity.{opening, part_text}
 use Rattle.activity.proofs.WholeText.{part_size, part_start}
 use Rattle.activity.proofs.texts.write_part.Goals as goal
+use Rattle.activity.proofs.texts.write_part.Goals.{After-rows_size}
 
-abbrev text : goal.After-rows_size → List ℕ
+abbrev text : After-rows_size → List ℕ
 text c =
     part_text c.args.names.now c.args.k c.args.times.now c.args.states.now
     c.args.first c.args.many
 
-abbrev size : goal.After-rows_size → ℕ
+abbrev size : After-rows_size → ℕ
 size c = c.opening_size.result + c.rows_size.result
 
-measured : (c : goal.After-rows_size) → size c ≡ length (text c)
+measured : (c : After-rows_size) → size c ≡ length (text c)
 measured c = part_size _ _ _ _ _ _ c.opening_size.ensures c.rows_size.ensures
 
-abbrev rows : goal.After-rows_size → List ℕ
+abbrev rows : After-rows_size → List ℕ
 rows c =
     row_lines c.args.names.now c.args.k c.args.times.now c.args.states.now
     c.args.first c.args.many
 
-abbrev headed : goal.After-rows_size → List ℕ
+abbrev headed : After-rows_size → List ℕ
 headed c = opening c.args.names.now c.args.k c.args.first
 
-begun : (c : goal.After-rows_size) → size c ≤ length c.args.out.now
+begun : (c : After-rows_size) → size c ≤ length c.args.out.now
     → Going c.args.out.now 0 (text c) (headed c ∷ rows c ∷ []) c.args.out.now 0
 begun c = part_start _ _ _ _ _ _ (measured c)
-
-at_rows : (c : goal.After-put_opening-p)
-    → Going c.args.out.now 0 (text c.before.before.before) (rows c.before.before.before ∷ [])
-    c.put_opening-p.new.out c.put_opening-p.result
-at_rows c = going_on (begun c.before.before.before c.if-out-size.false) c.put_opening-p.ensures
 
 pub opening_size-requires : goal.opening_size-requires
 opening_size-requires c = c.requires.slots
@@ -57,16 +53,23 @@ overflow_add-size c =
     )
 
 pub returns-then-out-size : goal.returns-then-out-size
-returns-then-out-size c = short (measured c.before.before) c.if-out-size.true c.refuse.ensures
+returns-then-out-size c =
+    let here = (goal.at.returns-then-out-size c).After-rows_size in
+    short (measured here) c.if-out-size.true c.refuse.ensures
 
 pub put_opening-p-requires : goal.put_opening-p-requires
 put_opening-p-requires c =
-    record { slots = c.requires.slots; room = going_room (begun c.before.before c.if-out-size.false) }
+    let here = (goal.at.put_opening-p-requires c).After-rows_size in
+    record { slots = c.requires.slots; room = going_room (begun here c.if-out-size.false) }
 
 pub put_rows-requires : goal.put_rows-requires
-put_rows-requires c = record { good = c.requires; room = going_room (at_rows c.before.before.before) }
+put_rows-requires c =
+    let here = (goal.at.put_rows-requires c).After-rows_size in
+    let at_rows = going_on (begun here c.if-out-size.false) c.put_opening-p.ensures in
+    record { good = c.requires; room = going_room at_rows }
 
 pub returns : goal.returns
 returns c =
-    delivered (measured c.before.before.before.before.before.before.before.before.before) c.if-out-size.false
-    (going_end (going_on (at_rows c.before.before.before.before.before.before) c.put_rows.ensures))
+    let here = (goal.at.returns c).After-rows_size in
+    let at_rows = going_on (begun here c.if-out-size.false) c.put_opening-p.ensures in
+    delivered (measured here) c.if-out-size.false (going_end (going_on at_rows c.put_rows.ensures))

@@ -1,8 +1,9 @@
 -- `passes::try_open` meets its contract. The loop's invariant: the entries so far are written.
+use Rattle.std.specs.Prelude.{if◌then◌else◌}
 use Prim.Native.Nat.{◌+◌, ◌-◌}
 use lib.Dec.{eqb}
 use lib.ListN.{get_or}
-use Rattle.basics.specs.Words.{if◌then◌else◌, listed}
+use Rattle.basics.specs.Words.{listed}
 use Rattle.basics.proofs.Stores.{Writing}
 use Rattle.columns.proofs.passes.try_open.Given as goal
 

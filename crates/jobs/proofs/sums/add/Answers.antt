@@ -3,7 +3,7 @@ use Rattle.jobs.proofs.Additions.{counted_told, refused_told}
 use Rattle.jobs.proofs.sums.add.Goals as goal
 
 pub returns-in-Counted : goal.returns-in-Counted
-returns-in-Counted c = counted_told _ c.add_total.ensures c.c-1.given.1
+returns-in-Counted c = counted_told _ c.add_total.ensures c.in-Counted.is
 
 pub returns-in-Refused : goal.returns-in-Refused
-returns-in-Refused c = refused_told c.c-in-Refused-1.given.1
+returns-in-Refused c = refused_told c.in-Refused.is

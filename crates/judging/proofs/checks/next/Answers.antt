@@ -4,7 +4,7 @@ use Rattle.judging.proofs.checks.next.Goals as goal
 
 pub returns-in-Refused : goal.returns-in-Refused
 unfolding next_of
-returns-in-Refused c = rw c.first-1.given.1
+returns-in-Refused c = rw c.in-Refused.is
 
 pub returns-in-Good : goal.returns-in-Good
 unfolding next_of

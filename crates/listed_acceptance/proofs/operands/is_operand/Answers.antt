@@ -34,4 +34,4 @@ slice_bounds-accepts-start c =
 pub returns : goal.returns
 returns c =
     operand_is _ _ _ c.back-low.ensures c.if-tree-end.false c.part_of-part.ensures c.if-part-ne1.false _
-    (rw c.old_rules_rule.ensures at c.accepts.ensures)
+    (rw c.old_rules.ensures at c.accepts.ensures)

@@ -7,6 +7,7 @@ use Rattle.record_checks.proofs.Cursors.{
   name_stands,
   name_not,
   name_old,
+}
 use Rattle.record_checks.proofs.Cursors.{name_good}
 use Rattle.record_checks.proofs.checks.check_name.Goals as goal
 

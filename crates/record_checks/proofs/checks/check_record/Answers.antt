@@ -10,22 +10,22 @@ returns-then-file-at-lt2 c = cut_short c.requires c.refuse.ensures c.if-file-at-
 pub check_name-requires : goal.check_name-requires
 check_name-requires c =
     stands_at c.requires c.if-file-at-lt2.false
-    c.mark_at_rule.ensures c.in-Name.is
+    c.mark_at.ensures c.in-Name.is
 
 pub check_row-requires : goal.check_row-requires
 check_row-requires c =
     row_stands
-    (stands_at c.requires c.if-file-at-lt2.false c.mark_at_rule.ensures c.type_inv.file)
+    (stands_at c.requires c.if-file-at-lt2.false c.mark_at.ensures c.in-Row.is)
 
 pub check_end-requires : goal.check_end-requires
 check_end-requires c =
     stands_at c.requires c.if-file-at-lt2.false
-    c.mark_at_rule.ensures c.in-End.is
+    c.mark_at.ensures c.in-End.is
 
 pub returns-in-Other : goal.returns-in-Other
 unfolding Due
 returns-in-Other c =
     undue
     (stands_at c.requires c.if-file-at-lt2.false
-    c.mark_at_rule.ensures c.in-Other.is)
+    c.mark_at.ensures c.in-Other.is)
     c.refuse-in-Other.ensures (λ d. d)

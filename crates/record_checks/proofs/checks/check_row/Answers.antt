@@ -7,6 +7,7 @@ use Rattle.record_checks.proofs.RowCursors.{
   row_not_above,
   row_code,
   row_good,
+}
 use Rattle.record_checks.proofs.checks.check_row.Goals as goal
 
 pub returns-then-k-eq0 : goal.returns-then-k-eq0

@@ -8,7 +8,7 @@ use Rattle.record_checks.proofs.rows.is_marked.Goals as goal
 pub returns-in-Row : goal.returns-in-Row
 returns-in-Row c =
     record {
-      marked = λ e. sym c.mark_at_rule.ensures ∙ c.type_inv.file ∙ ap Row (eqb-true _ _ e);
+      marked = λ e. sym c.in-Row.ensures ∙ ap Row (eqb-true _ _ e);
     }
 
 pub returns-in-Name : goal.returns-in-Name

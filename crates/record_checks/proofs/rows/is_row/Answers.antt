@@ -22,7 +22,7 @@ returns-in-Done c =
           λ e.
           row_goes c.requires c.if-file-at-lt2.false
           (c.is_marked.ensures.marked c.if-not-is_marked.false)
-          c.check_row.ensures c.type_inv.file (eqb-true _ _ e);
+          c.check_row.ensures c.in-Done.is (eqb-true _ _ e);
     }
 
 pub returns-in-Refused : goal.returns-in-Refused

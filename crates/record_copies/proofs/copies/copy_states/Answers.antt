@@ -12,10 +12,12 @@ use Rattle.record_copies.proofs.Copying.{
   codes_fit,
   states_put,
   states_length,
+}
 use Rattle.record_copies.proofs.copies.copy_states.Goals as goal
+use Rattle.record_copies.proofs.copies.copy_states.Goals.{After-width_at-w}
 
 -- the row where the turn stands, behind the width that was read
-there : (c : goal.After-width_at-w →
+there : (c : After-width_at-w) →
     c.loop-r.q + 2 + c.width_at-w.result + c.args.k
     ≤ length c.args.file.now
 there c =
@@ -34,10 +36,11 @@ copy_codes-to-requires c =
     c.loop-r.invariant.2 c.loop-r-test.true c.requires.room
 
 pub overflow_add-q : goal.overflow_add-q
-overflow_add-q c = omega (arith, c.if-w-eq4.true, there c.before.before.before.before.before)
+overflow_add-q c = omega (arith, c.if-w-eq4.true, there (goal.at.overflow_add-q c).After-width_at-w)
 
 pub overflow_add-q-then-w-eq4 : goal.overflow_add-q-then-w-eq4
-overflow_add-q-then-w-eq4 c = omega (arith, c.if-w-eq4.true, there c.before.before.before.before.before)
+overflow_add-q-then-w-eq4 c =
+    omega (arith, c.if-w-eq4.true, there (goal.at.overflow_add-q-then-w-eq4 c).After-width_at-w)
 
 pub loop-r-preserved-then-w-eq4 : goal.loop-r-preserved-then-w-eq4
 loop-r-preserved-then-w-eq4 c =
@@ -54,13 +57,13 @@ copy_codes-to-requires-else-w-eq4 c =
     c.loop-r-test.true c.requires.room
 
 pub overflow_add-q-else-w-eq4 : goal.overflow_add-q-else-w-eq4
-overflow_add-q-else-w-eq4 c = omega (arith, there c.before.before.before.before.before)
+overflow_add-q-else-w-eq4 c = omega (arith, there (goal.at.overflow_add-q-else-w-eq4 c).After-width_at-w)
 
 pub overflow_add-q-else-w-eq4-2 : goal.overflow_add-q-else-w-eq4-2
-overflow_add-q-else-w-eq4-2 c = omega (arith, there c.before.before.before.before.before)
+overflow_add-q-else-w-eq4-2 c = omega (arith, there (goal.at.overflow_add-q-else-w-eq4-2 c).After-width_at-w)
 
 pub overflow_add-q-else-w-eq4-3 : goal.overflow_add-q-else-w-eq4-3
-overflow_add-q-else-w-eq4-3 c = omega (arith, there c.before.before.before.before.before)
+overflow_add-q-else-w-eq4-3 c = omega (arith, there (goal.at.overflow_add-q-else-w-eq4-3 c).After-width_at-w)
 
 pub loop-r-preserved : goal.loop-r-preserved
 loop-r-preserved c =

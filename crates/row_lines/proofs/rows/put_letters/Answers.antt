@@ -20,15 +20,14 @@ put_letter-p-requires c =
     record { known = c.requires.known _ c.loop-i-test.true; room = omega (arith, room) }
 
 pub overflow_add-i : goal.overflow_add-i
-overflow_add-i c = omega (arith, c.loop-i-test.taken)
+overflow_add-i c = omega (arith, c.loop-i-test.true)
 
 pub loop-i-smaller : goal.loop-i-smaller
-loop-i-smaller c = omega (arith, c.loop-i-test.taken)
+loop-i-smaller c = omega (arith, c.loop-i-test.true)
 
 pub loop-i-preserved : goal.loop-i-preserved
 loop-i-preserved c =
-    let entered = entered_by c.before.before in
-    written_next entered.before.loop.inv entered.loop-test.taken c.put_letter-p.ensures
+    written_next c.loop-i.invariant c.loop-i-test.true c.put_letter-p.ensures
 
 pub shape_of-out : goal.shape_of-out
 shape_of-out c = written_length c.loop-i.invariant

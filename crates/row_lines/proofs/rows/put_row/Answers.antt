@@ -9,84 +9,86 @@ use Rattle.row_lines.specs.Lines.{letters, members, row_line}
 use Rattle.row_lines.specs.Inner.{marked}
 use Rattle.row_lines.proofs.RowParts.{row_start}
 use Rattle.row_lines.proofs.rows.put_row.Goals as goal
+use Rattle.row_lines.proofs.rows.put_row.Goals.{After-of_row-c}
 
 -- of the line, what is left
-abbrev Left : goal.After-of_row-c → List (List ℕ) → List ℕ → ℕ → Type 0
+abbrev Left : After-of_row-c → List (List ℕ) → List ℕ → ℕ → Type 0
 Left c =
     Going c.args.out.now c.args.at
     (row_line c.args.names.now c.args.k c.args.states.now c.args.time.0
     c.args.row.0)
 
 -- which names changed, how many, and the letters before them
-abbrev which : goal.After-of_row-c → List (List ℕ)
+abbrev which : After-of_row-c → List (List ℕ)
 which c =
     members c.args.names.now c.args.k (marked c.of_row-c.result.mask) ∷ bytes "\n" ∷ []
 
-abbrev many : goal.After-of_row-c → List (List ℕ)
+abbrev many : After-of_row-c → List (List ℕ)
 many c = decimal c.of_row-c.result.many ∷ which c
 
-abbrev states : goal.After-of_row-c → List (List ℕ)
+abbrev states : After-of_row-c → List (List ℕ)
 states c =
     letters c.args.k (row_of c.args.k c.args.states.now c.args.row.0)
     ∷ bytes " " ∷ many c
 
-begun : (c : goal.After-of_row-c)
+begun : (c : After-of_row-c)
     → Left c (decimal c.args.time.0 ∷ states c) c.args.out.now c.args.at
 begun c = row_start _ _ c.of_row-c.ensures c.requires.room
 
-timed : (c : goal.After-put_decimal-timed)
-    → Left c.before.before (states c.before.before) c.put_decimal-timed.new.out c.put_decimal-timed.result
-timed c = going_on (begun c.before.before) c.put_decimal-timed.ensures
-
-lettered : (c : goal.After-put_letters-lettered)
-    → Left c.before.before.before.before.before.before (bytes " " ∷ many c.before.before.before.before.before.before) c.put_letters-lettered.new.out
-    c.put_letters-lettered.result
-lettered c = going_on (timed c.before.before.before.before) c.put_letters-lettered.ensures
-
-parted : (c : goal.After-push-parted)
-    → Left c.before.before.before.before.before.before.before.before.before.before (many c.before.before.before.before.before.before.before.before.before.before) c.push-parted.new.out c.push-parted.result
-unfolding bytes
-parted c = going_on (lettered c.before.before.before.before) c.push-parted.ensures
-
-counted : (c : goal.After-put_decimal-counted)
-    → Left c.before.before.before.before.before.before.before.before.before.before.before.before.before.before (which c.before.before.before.before.before.before.before.before.before.before.before.before.before.before) c.put_decimal-counted.new.out
-    c.put_decimal-counted.result
-counted c = going_on (parted c.before.before.before.before) c.put_decimal-counted.ensures
-
-told : (c : goal.After-put_members-told)
-    → Left c.before.before.before.before.before.before.before.before.before.before.before.before.before.before.before.before.before.before (bytes "\n" ∷ []) c.put_members-told.new.out
-    c.put_members-told.result
-told c = going_on (counted c.before.before.before.before) c.put_members-told.ensures
-
 pub put_decimal-timed-requires : goal.put_decimal-timed-requires
-put_decimal-timed-requires c = going_room (begun c.before)
+put_decimal-timed-requires c = going_room (begun (goal.at.put_decimal-timed-requires c).After-of_row-c)
 
 pub put_letters-lettered-requires : goal.put_letters-lettered-requires
 put_letters-lettered-requires c =
-    record {
-      there = c.requires.row.inside.room;
-      known = c.requires.known;
-      room = going_room (timed c.before.before.before);
-    }
+    let start = begun (goal.at.put_letters-lettered-requires c).After-of_row-c in
+    let timed = going_on start c.put_decimal-timed.ensures in
+    record { there = c.requires.row.inside.room; known = c.requires.known; room = going_room timed }
 
 pub push-parted-requires : goal.push-parted-requires
 unfolding bytes
-push-parted-requires c = going_byte (lettered c.before.before.before)
+push-parted-requires c =
+    let start = begun (goal.at.push-parted-requires c).After-of_row-c in
+    let timed = going_on start c.put_decimal-timed.ensures in
+    let lettered = going_on timed c.put_letters-lettered.ensures in
+    going_byte lettered
 
 pub put_decimal-counted-requires : goal.put_decimal-counted-requires
-put_decimal-counted-requires c = going_room (parted c.before.before.before)
+unfolding bytes
+put_decimal-counted-requires c =
+    let start = begun (goal.at.put_decimal-counted-requires c).After-of_row-c in
+    let timed = going_on start c.put_decimal-timed.ensures in
+    let lettered = going_on timed c.put_letters-lettered.ensures in
+    let parted = going_on lettered c.push-parted.ensures in
+    going_room parted
 
 pub put_members-told-requires : goal.put_members-told-requires
+unfolding bytes
 put_members-told-requires c =
-    record {
-      slots = c.requires.row.slots;
-      room = going_room (counted c.before.before.before);
-    }
+    let start = begun (goal.at.put_members-told-requires c).After-of_row-c in
+    let timed = going_on start c.put_decimal-timed.ensures in
+    let lettered = going_on timed c.put_letters-lettered.ensures in
+    let parted = going_on lettered c.push-parted.ensures in
+    let counted = going_on parted c.put_decimal-counted.ensures in
+    record { slots = c.requires.row.slots; room = going_room counted }
 
 pub push-requires : goal.push-requires
 unfolding bytes
-push-requires c = going_byte (told c.before.before.before)
+push-requires c =
+    let start = begun (goal.at.push-requires c).After-of_row-c in
+    let timed = going_on start c.put_decimal-timed.ensures in
+    let lettered = going_on timed c.put_letters-lettered.ensures in
+    let parted = going_on lettered c.push-parted.ensures in
+    let counted = going_on parted c.put_decimal-counted.ensures in
+    let told = going_on counted c.put_members-told.ensures in
+    going_byte told
 
 pub returns : goal.returns
 unfolding bytes
-returns c = going_end (going_on (told c.before.before.before.before.before.before) c.push.ensures)
+returns c =
+    let start = begun (goal.at.returns c).After-of_row-c in
+    let timed = going_on start c.put_decimal-timed.ensures in
+    let lettered = going_on timed c.put_letters-lettered.ensures in
+    let parted = going_on lettered c.push-parted.ensures in
+    let counted = going_on parted c.put_decimal-counted.ensures in
+    let told = going_on counted c.put_members-told.ensures in
+    going_end (going_on told c.push.ensures)

@@ -28,14 +28,14 @@ put_row-p-requires c =
     })
 
 pub overflow_add-i : goal.overflow_add-i
-overflow_add-i c = omega (arith, c.loop-i-test.taken)
+overflow_add-i c = omega (arith, c.loop-i-test.true)
 
 pub loop-i-smaller : goal.loop-i-smaller
-loop-i-smaller c = omega (arith, c.loop-i-test.taken)
+loop-i-smaller c = omega (arith, c.loop-i-test.true)
 
 pub loop-i-preserved : goal.loop-i-preserved
 loop-i-preserved c =
-    written_next c.loop-i.inv c.loop-i-test.taken
+    written_next c.loop-i.invariant c.loop-i-test.true
     (rw c.stamp_of.ensures at c.put_row-p.ensures)
 
 pub shape_of-out : goal.shape_of-out

@@ -1,9 +1,7 @@
 use borrow.Author.Rules.{rules}
 use borrow.Author.Count.{below_none, below_more}
 use mathlib.Core.Path.{◌≡◌, sym, ◌∙◌}
-use mathlib.Core.Bool.{false}
 use native.Mathlib.Omega.{arith}
-use Rattle.sorting.specs.Lookup.{is_unknown}
 use Rattle.sorting.proofs.SlotNumbers.{first_here, first-none}
 use Rattle.sorting.proofs.lookup.first_unknown.Goals as goal
 
@@ -24,12 +22,11 @@ returns-then-is_unknown c =
     (sym c.is_unknown.ensures ∙ c.if-is_unknown.true) c.loop-i.invariant.1
 
 pub loop-i-preserved : goal.loop-i-preserved
-loop-i-preserved c =
-    (
-      search rules,
-      below_more _ _ c.loop-i.invariant.1
-          (sym c.is_unknown.ensures ∙ c.if-is_unknown.false),
-    )
+loop-i-preserved c = (
+  search rules,
+  below_more _ _ c.loop-i.invariant.1
+      (sym c.is_unknown.ensures ∙ c.if-is_unknown.false),
+)
 
 pub returns : goal.returns
 returns c =

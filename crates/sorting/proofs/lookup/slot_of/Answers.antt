@@ -25,12 +25,11 @@ returns-then-holds c =
     c.loop-k.invariant.1
 
 pub loop-k-preserved : goal.loop-k-preserved
-loop-k-preserved c =
-    (
-      search rules,
-      below_more _ _ c.loop-k.invariant.1
-          (not_told _ (slot_told _ _ _ _ _ c.name_size.ensures c.holds.ensures) c.if-holds.false),
-    )
+loop-k-preserved c = (
+  search rules,
+  below_more _ _ c.loop-k.invariant.1
+      (not_told _ (slot_told _ _ _ _ _ c.name_size.ensures c.holds.ensures) c.if-holds.false),
+)
 
 pub returns : goal.returns
 returns c = number-none _ _ _ (omega (arith, c.loop-k-test.false)) c.loop-k.invariant.1

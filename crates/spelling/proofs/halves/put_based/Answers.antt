@@ -7,10 +7,7 @@ use Rattle.spelling.proofs.halves.put_based.Goals as goal
 
 pub returns : goal.returns
 returns c =
-    let base = of_half c.before.before in
-    let quote = of_base base in
-    let entry = quote.before.before.before in
     let g =
-    going_start ((39 ∷ []) ∷ (98 ∷ []) ∷ (half_byte entry.args.h ∷ []) ∷ []) refl entry.pre.room in
+    going_start ((39 ∷ []) ∷ (98 ∷ []) ∷ (half_byte c.args.h ∷ []) ∷ []) refl c.requires.room in
     going_end
-    (going_on (going_on (going_on g quote.push.ensures) base.push2.ensures) c.put_half.ensures)
+    (going_on (going_on (going_on g c.push-p.ensures) c.push-q.ensures) c.put_half.ensures)

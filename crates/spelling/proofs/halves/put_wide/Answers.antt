@@ -8,8 +8,6 @@ use Rattle.spelling.proofs.halves.put_wide.Goals as goal
 
 pub returns : goal.returns
 returns c =
-    let first = of_second c.before.before in
-    let entry = first.before.before.before in
     let g =
-    going_start (based (half_byte entry.args.f) ∷ based (half_byte entry.args.t) ∷ []) refl entry.pre.room in
-    going_end (going_on (going_on g first.put-based.ensures) c.put_based.ensures)
+    going_start (based (half_byte c.args.f) ∷ based (half_byte c.args.t) ∷ []) refl c.requires.room in
+    going_end (going_on (going_on g c.put_based-p.ensures) c.put_based.ensures)

@@ -21,8 +21,9 @@ loop-i-preserved c =
       omega arith,
       c.loop-i.invariant.1,
       elim c.if-old-i.branch [
-        then-old-i w ↦ w.mask-is ∙ mask_set i _ p (omega arith) c.loop-i.invariant.2 (rw (ne_eqb _ _ w.if-old-i.true) refl)
-      | else-old-i w ↦ w.mask-is ∙ mask_keep i _ p c.loop-i.invariant.2 (rw (eq-eqb _ _ w.if-old-i.false) refl) ],
+        | then-old-i w ↦ w.mask-is ∙ mask_set i _ p (omega arith) c.loop-i.invariant.2 (rw (ne_eqb _ _ w.if-old-i.true) refl)
+        | else-old-i w ↦ w.mask-is ∙ mask_keep i _ p c.loop-i.invariant.2 (rw (eq-eqb _ _ w.if-old-i.false) refl)
+      ],
     )
 
 pub returns : goal.returns

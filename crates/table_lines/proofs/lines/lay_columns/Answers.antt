@@ -6,14 +6,15 @@ use Rattle.basics.proofs.PartByPart.{held}
 use Rattle.table_lines.specs.Table.{columns}
 use Rattle.table_lines.proofs.ColumnParts.{columns_short}
 use Rattle.table_lines.proofs.lines.lay_columns.Goals as goal
+use Rattle.table_lines.proofs.lines.lay_columns.Goals.{Start}
 
-enough : (s : goal.Start) → length (columns s.args.yes s.args.unknown s.args.no s.args.n) ≤ 192
+enough : (s : Start) → length (columns s.args.yes s.args.unknown s.args.no s.args.n) ≤ 192
 enough s =
     columns_short s.args.yes s.args.unknown s.args.no s.args.n
     s.ranges.yes s.ranges.unknown s.ranges.no s.ranges.n
 
 pub put_columns-requires : goal.put_columns-requires
-put_columns-requires c = let h = enough c.before in omega arith
+put_columns-requires c = let h = enough (goal.at.put_columns-requires c).Start in omega arith
 
 pub returns : goal.returns
-returns c = let h = enough c.before.before in held c.put_columns.ensures (omega arith)
+returns c = let h = enough (goal.at.returns c).Start in held c.put_columns.ensures (omega arith)

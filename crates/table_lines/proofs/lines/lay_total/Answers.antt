@@ -6,15 +6,16 @@ use Rattle.basics.proofs.PartByPart.{held}
 use Rattle.table_lines.specs.Table.{total_columns}
 use Rattle.table_lines.proofs.ColumnParts.{total_short}
 use Rattle.table_lines.proofs.lines.lay_total.Goals as goal
+use Rattle.table_lines.proofs.lines.lay_total.Goals.{Start}
 
-enough : (s : goal.Start) → length (total_columns s.args.yes s.args.unknown s.args.no
+enough : (s : Start) → length (total_columns s.args.yes s.args.unknown s.args.no
     s.args.patterns s.args.events) ≤ 192
 enough s =
     total_short s.args.yes s.args.unknown s.args.no s.args.patterns s.args.events
     s.ranges.yes s.ranges.unknown s.ranges.no s.ranges.patterns s.ranges.events
 
 pub put_total-requires : goal.put_total-requires
-put_total-requires c = let h = enough c.before in omega arith
+put_total-requires c = let h = enough (goal.at.put_total-requires c).Start in omega arith
 
 pub returns : goal.returns
-returns c = let h = enough c.before.before in held c.put_total.ensures (omega arith)
+returns c = let h = enough (goal.at.returns c).Start in held c.put_total.ensures (omega arith)

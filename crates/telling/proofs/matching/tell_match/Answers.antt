@@ -4,10 +4,6 @@ use Rattle.telling.specs.Matching.{told_match}
 use borrow.Author.Rules.{rules}
 use Rattle.telling.proofs.matching.tell_match.Goals as goal
 
-pub enum_known-o : goal.enum_known-o
-unfolding told_match
-enum_known-o c = search rules
-
 pub number_of-answer-requires : goal.number_of-answer-requires
 unfolding told_match
 number_of-answer-requires c = search rules
@@ -20,16 +16,12 @@ pub time_of-began-requires : goal.time_of-began-requires
 unfolding told_match
 time_of-began-requires c = search rules
 
-pub enum_known-o-in-Refused-1 : goal.enum_known-o-in-Refused-1
-unfolding told_match
-enum_known-o-in-Refused-1 c = search rules
-
 pub returns-in-Found : goal.returns-in-Found
 unfolding told_match
 returns-in-Found c =
     rw (c.number_of-answer.ensures, c.given_of-given.ensures, c.time_of-began.ensures)
-    (ap told_match (sym c.o-1.given.1))
+    (ap told_match (sym c.in-Found.is))
 
 pub returns-in-Refused : goal.returns-in-Refused
 unfolding told_match
-returns-in-Refused c = ap told_match (sym c.o-in-Refused-1.given.1)
+returns-in-Refused c = ap told_match (sym c.in-Refused.is)

@@ -27,14 +27,14 @@ find_word-next-requires c =
     omega (arith, found.run.low, found.run.within)
 
 pub overflow_add-i : goal.overflow_add-i
-overflow_add-i c = omega (arith, c.loop-i-test.taken)
+overflow_add-i c = omega (arith, c.loop-i-test.true)
 
 pub loop-i-smaller : goal.loop-i-smaller
-loop-i-smaller c = omega (arith, c.loop-i-test.taken)
+loop-i-smaller c = omega (arith, c.loop-i-test.true)
 
 pub loop-i-preserved : goal.loop-i-preserved
 loop-i-preserved c =
-    copied_next c.requires c.loop-i.inv c.loop-i-test.taken
+    copied_next c.requires c.loop-i.invariant c.loop-i-test.true
     c.put_slot-at.ensures c.find_word-next.ensures
 
 pub shape_of-out : goal.shape_of-out

@@ -38,14 +38,14 @@ pub next_line-line-requires-in-loop-r : goal.next_line-line-requires-in-loop-r
 next_line-line-requires-in-loop-r c = c.behind_line-behind.ensures.within
 
 pub overflow_add-r : goal.overflow_add-r
-overflow_add-r c = omega (arith, c.loop-r-test.taken)
+overflow_add-r c = omega (arith, c.loop-r-test.true)
 
 pub loop-r-smaller : goal.loop-r-smaller
-loop-r-smaller c = omega (arith, c.loop-r-test.taken)
+loop-r-smaller c = omega (arith, c.loop-r-test.true)
 
 pub loop-r-preserved : goal.loop-r-preserved
 loop-r-preserved c =
-    filling_next c.requires c.loop-r.inv c.loop-r-test.taken
+    filling_next c.requires c.loop-r.invariant c.loop-r-test.true
     c.row_time-t.ensures c.put_codes-to.ensures c.behind_line-behind.ensures
     c.next_line-line-in-loop-r.ensures
 

@@ -33,7 +33,7 @@ returns-then-k-eq0 c =
 pub returns-in-Refused : goal.returns-in-Refused
 returns-in-Refused c =
     head_refused c.requires c.find_word-first.ensures c.is_time.ensures
-    c.if-not-is_time.false _ c.check_names.ensures c.type_inv.text
+    c.if-not-is_time.false _ c.check_names.ensures c.in-Refused.is
 
 pub returns-else-k-eq0 : goal.returns-else-k-eq0
 returns-else-k-eq0 c =

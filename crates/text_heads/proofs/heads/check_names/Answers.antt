@@ -1,5 +1,5 @@
 use native.Mathlib.Omega.{arith}
-use Rattle.basics.proofs.Deciding.{decided_no, decided_yes}
+use Rattle.basics.proofs.Deciding.{told, not_told}
 use Rattle.text_heads.proofs.HeadChecks.{naming_first, names_done, word_here_lem, names_33rd, names_bad}
 use Rattle.text_heads.proofs.HeadChecks.{naming_next}
 use Rattle.text_heads.proofs.heads.check_names.Goals as goal
@@ -23,7 +23,7 @@ is_new_name-requires c =
 pub returns-then-not-is_new_name : goal.returns-then-not-is_new_name
 returns-then-not-is_new_name c =
     names_bad c.requires c.loop-i.invariant c.loop-i-test.true _ c.if-i-ge32.false
-    (decided_no _ c.is_new_name.ensures c.if-not-is_new_name.true) c.refuse-then-not-is_new_name.ensures
+    (not_told _ c.is_new_name.ensures c.if-not-is_new_name.true) c.refuse-then-not-is_new_name.ensures
 
 pub find_word-next-requires : goal.find_word-next-requires
 find_word-next-requires c =
@@ -39,7 +39,7 @@ loop-i-smaller c = omega (arith, c.loop-i-test.true)
 pub loop-i-preserved : goal.loop-i-preserved
 loop-i-preserved c =
     naming_next c.requires c.loop-i.invariant c.loop-i-test.true c.if-i-ge32.false
-    (decided_yes _ c.is_new_name.ensures c.if-not-is_new_name.false) c.find_word-next.ensures
+    (told _ c.is_new_name.ensures c.if-not-is_new_name.false) c.find_word-next.ensures
 
 pub returns : goal.returns
 returns c = names_done c.requires c.loop-i.invariant c.loop-i-test.false

@@ -26,18 +26,18 @@ check_rows-requires c =
 pub returns-in-Refused : goal.returns-in-Refused
 returns-in-Refused c =
     head_refused c.next_line-h.ensures c.if-h-text.false c.count_names-head.ensures
-    c.behind_line-behind.ensures c.check_head.ensures c.type_inv.text
+    c.behind_line-behind.ensures c.check_head.ensures c.in-Refused.is
 
 pub returns-in-Refused-check_rows : goal.returns-in-Refused-check_rows
 returns-in-Refused-check_rows c =
     rows_refused c.next_line-h.ensures c.if-h-text.false c.count_names-head.ensures
-    c.behind_line-behind.ensures c.check_head.ensures c.in-Refused-check_rows.is
+    c.behind_line-behind.ensures c.check_head.ensures c.in-Done.is
     c.check_rows.ensures
-    c.type_inv.text
+    c.in-Refused-check_rows.is
 
 pub returns-in-Done-check_rows : goal.returns-in-Done-check_rows
 returns-in-Done-check_rows c =
     text_good c.next_line-h.ensures c.if-h-text.false c.count_names-head.ensures
-    c.behind_line-behind.ensures c.check_head.ensures c.in-Done-check_rows.is
+    c.behind_line-behind.ensures c.check_head.ensures c.in-Done.is
     c.check_rows.ensures
-    c.type_inv.text
+    c.in-Done-check_rows.is

@@ -22,7 +22,7 @@ returns-then-start-end c =
     _ c.if-wide.false c.if-start-end.true c.refuse.ensures
 
 pub returns-in-Refused : goal.returns-in-Refused
-returns-in-Refused c = rest_refused _ _ _ _ c.check_states.ensures _ c.type_inv.text
+returns-in-Refused c = rest_refused _ _ _ _ c.check_states.ensures _ c.in-Refused.is
 
 pub returns-else-start-end : goal.returns-else-start-end
 returns-else-start-end c =

@@ -15,25 +15,24 @@ check_row-requires c = row_in c.loop-at.invariant c.loop-at-test.true c.requires
 pub returns-in-Refused : goal.returns-in-Refused
 returns-in-Refused c =
     rowing_refused c.loop-at.invariant c.loop-at-test.true c.check_row.ensures _
-    c.type_inv.text
+    c.in-Refused.is
 
 pub row_time-t-requires : goal.row_time-t-requires
 row_time-t-requires c =
-    (row_in c.loop-at.inv c.loop-at-test.taken
+    (row_in c.loop-at.invariant c.loop-at-test.true
     c.requires).timed
 
 pub behind_line-behind-requires : goal.behind_line-behind-requires
-behind_line-behind-requires c = c.loop-at.inv.next.within
+behind_line-behind-requires c = c.loop-at.invariant.next.within
 
 pub next_line-at-requires-in-Done : goal.next_line-at-requires-in-Done
 next_line-at-requires-in-Done c = c.behind_line-behind.ensures.within
 
 pub overflow_add-r : goal.overflow_add-r
 overflow_add-r c =
-    let inside = entered c.before.before.before in
     omega (
       arith,
-      rowing_few inside.before.loop.inv inside.loop-test.taken c.check_row.ensures
+      rowing_few c.loop-at.invariant c.loop-at-test.true c.check_row.ensures
           c.in-Done.is,
     )
 
@@ -41,15 +40,14 @@ pub loop-at-smaller : goal.loop-at-smaller
 loop-at-smaller c =
     omega (
       arith,
-      c.loop-at-test.taken,
-      c.behind_line-behind.ensures.on c.loop-at-test.taken,
+      c.loop-at-test.true,
+      c.behind_line-behind.ensures.on c.loop-at-test.true,
       c.next_line-at-in-Done.ensures.low,
     )
 
 pub loop-at-preserved : goal.loop-at-preserved
 loop-at-preserved c =
-    let inside = entered c.before.before.before in
-    rowing_next inside.before.loop.inv inside.loop-test.taken c.check_row.ensures
+    rowing_next c.loop-at.invariant c.loop-at-test.true c.check_row.ensures
     c.in-Done.is c.row_time-t.ensures c.behind_line-behind.ensures c.next_line-at-in-Done.ensures
 
 pub returns-then-r-eq0 : goal.returns-then-r-eq0

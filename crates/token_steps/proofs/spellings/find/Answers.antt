@@ -18,15 +18,14 @@ stands-requires c =
 pub returns-then-stands : goal.returns-then-stands
 returns-then-stands c =
     find-hit _ c.loop-i.i c.loop-i.invariant.1 c.row_of-row.ensures c.loop-i-test.true
-    (sym c.if-stands.true ∙ c.stands.ensures) c.type_size.ensures
+    (sym c.if-stands.true ∙ c.stands.ensures) c.size_of.ensures
 
 pub loop-i-preserved : goal.loop-i-preserved
-loop-i-preserved c =
-    (
-      search rules,
-      find-miss _ c.loop-i.i c.loop-i.invariant.1 c.row_of-row.ensures c.loop-i-test.true
-          (sym c.if-stands.false ∙ c.stands.ensures),
-    )
+loop-i-preserved c = (
+  search rules,
+  find-miss _ c.loop-i.i c.loop-i.invariant.1 c.row_of-row.ensures c.loop-i-test.true
+      (sym c.if-stands.false ∙ c.stands.ensures),
+)
 
 pub returns : goal.returns
 returns c = find_end _ c.loop-i.i c.loop-i.invariant.1 c.loop-i-test.false

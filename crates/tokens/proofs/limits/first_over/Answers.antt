@@ -12,14 +12,13 @@ returns-then-limit-n c =
     c.after-n.ensures c.if-limit-n.true
 
 pub loop-i-preserved : goal.loop-i-preserved
-loop-i-preserved c =
-    (
-      omega arith,
-      c.if-limit-n.false,
-      over_more _ _ _ _ c.requires.there _ _
-          c.loop-i.invariant.2 c.loop-i-test.true
-          c.after-n.ensures c.if-limit-n.false,
-    )
+loop-i-preserved c = (
+  omega arith,
+  c.if-limit-n.false,
+  over_more _ _ _ _ c.requires.there _ _
+      c.loop-i.invariant.2 c.loop-i-test.true
+      c.after-n.ensures c.if-limit-n.false,
+)
 
 pub returns : goal.returns
 returns c =

@@ -1,5 +1,5 @@
 -- `check_lists` meets its contract.
-use Rattle.basics.proofs.Deciding.{decided_yes}
+use Rattle.basics.proofs.Deciding.{told}
 use Rattle.trace_writer.proofs.TraceChecks.{checked_18, checked_12}
 use Rattle.trace_writer.proofs.checks.check_lists.Goals as goal
 
@@ -10,5 +10,5 @@ returns-then-not-lists_fit c =
 
 pub returns : goal.returns
 returns c =
-    checked_12 (decided_yes _ c.lists_fit.ensures c.if-not-lists_fit.false)
+    checked_12 (told _ c.lists_fit.ensures c.if-not-lists_fit.false)
     c.check_names.result c.check_names.ensures

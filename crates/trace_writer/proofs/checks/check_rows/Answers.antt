@@ -8,9 +8,10 @@ use Rattle.trace_format.proofs.RowByRow.{room_for}
 use Rattle.trace_writer.proofs.RowOrders.{row_late, row_bad, row_passes, rows_none, rows_passed}
 use Rattle.trace_writer.proofs.RowOrders.{next_place}
 use Rattle.trace_writer.proofs.checks.check_rows.Goals as goal
+use Rattle.trace_writer.proofs.checks.check_rows.Goals.{In-loop-i}
 
 -- the codes of the row are there
-codes_there : (c : goal.In-loop-i
+codes_there : (c : In-loop-i)
     → c.loop-i.from + c.args.k ≤ length c.args.states.now
 codes_there c =
     let inside : c.args.first + c.loop-i.i < c.args.first + c.args.many =
@@ -38,10 +39,10 @@ returns-then-not-is_later c =
     c.if-not-is_later.true
 
 pub overflow_add-to : goal.overflow_add-to
-overflow_add-to c = omega (arith, codes_there c.before.before)
+overflow_add-to c = omega (arith, codes_there (goal.at.overflow_add-to c).In-loop-i)
 
 pub codes_to-bad-requires : goal.codes_to-bad-requires
-codes_to-bad-requires c = (search rules, codes_there c.before.before)
+codes_to-bad-requires c = (search rules, codes_there (goal.at.codes_to-bad-requires c).In-loop-i)
 
 pub returns-then-bad-to : goal.returns-then-bad-to
 returns-then-bad-to c =
@@ -54,15 +55,14 @@ returns-then-bad-to c =
     c.if-bad-to.true
 
 pub loop-i-preserved : goal.loop-i-preserved
-loop-i-preserved c =
-    (
-      search rules,
-      next_place _ _ _ c.loop-i.invariant.1,
-      row_passes _ _ _ _ (λ m. m ≡ m) c.loop-i-test.true
-          c.loop-i.invariant.2 c.is_later.ensures
-          c.if-not-is_later.false c.loop-i.invariant.1
-          c.codes_to-bad.ensures c.if-bad-to.false,
-    )
+loop-i-preserved c = (
+  search rules,
+  next_place _ _ _ c.loop-i.invariant.1,
+  row_passes _ _ _ _ (λ m. m ≡ m) c.loop-i-test.true
+      c.loop-i.invariant.2 c.is_later.ensures
+      c.if-not-is_later.false c.loop-i.invariant.1
+      c.codes_to-bad.ensures c.if-bad-to.false,
+)
 
 pub returns : goal.returns
 returns c = rows_passed _ _ _ _ (omega arith) c.loop-i.invariant.2

@@ -4,9 +4,10 @@ use mathlib.Core.Path.{◌≡◌}
 use Prim.Native.Nat.{◌+◌, ◌≤◌}
 use Rattle.trace_writer.proofs.Putting.{size_none, size_grow}
 use Rattle.trace_writer.proofs.write.rows_size.Goals as goal
+use Rattle.trace_writer.proofs.write.rows_size.Goals.{After-width_of}
 
 -- with one row more the size is small
-small : (c : goal.After-width_of →
+small : (c : After-width_of) →
     c.loop-r.size +
     (2 + c.width_of.result + c.args.k)
     ≤ 2752470
@@ -19,21 +20,20 @@ pub loop-r-init : goal.loop-r-init
 loop-r-init c = (search rules, size_none _ _)
 
 pub overflow_add-size : goal.overflow_add-size
-overflow_add-size c = omega (arith, small c)
+overflow_add-size c = omega (arith, small (goal.at.overflow_add-size c).After-width_of)
 
 pub overflow_add-size-in-loop-r : goal.overflow_add-size-in-loop-r
-overflow_add-size-in-loop-r c = omega (arith, small c)
+overflow_add-size-in-loop-r c = omega (arith, small (goal.at.overflow_add-size-in-loop-r c).After-width_of)
 
 pub overflow_add-size-in-loop-r-2 : goal.overflow_add-size-in-loop-r-2
-overflow_add-size-in-loop-r-2 c = omega (arith, small c)
+overflow_add-size-in-loop-r-2 c = omega (arith, small (goal.at.overflow_add-size-in-loop-r-2 c).After-width_of)
 
 pub loop-r-preserved : goal.loop-r-preserved
-loop-r-preserved c =
-    (
-      search rules,
-      size_grow c.args.times.now c.requires.few_names c.loop-r.invariant.1
-          c.width_of.ensures,
-    )
+loop-r-preserved c = (
+  search rules,
+  size_grow c.args.times.now c.requires.few_names c.loop-r.invariant.1
+      c.width_of.ensures,
+)
 
 pub returns : goal.returns
 returns c =
