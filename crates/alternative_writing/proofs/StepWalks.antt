@@ -2,7 +2,7 @@
 --   test_asked, test_countable, test_put      a test with the gap before it
 --   StepSoFar, step_first, -asked, -next, -last      the tests of a step, one by one
 --   tests_asked, empty_countable, step_empty, step-some      a step with the gap before it, by whether it has tests
-use Prim.Native.Nat.{ℕ, zero, suc, ◌+◌, ◌-◌, ◌*◌, ◌<◌, ◌≤◌}
+use Prim.Native.Nat.{ℕ, zero, suc, ◌+◌, ◌*◌, ◌<◌, ◌≤◌}
 use native.Mathlib.Omega.{arith}
 use mathlib.Core.Path.{◌≡◌, refl, sym, ap, ◌∙◌}
 use mathlib.Core.List.{List, [], ◌∷◌, ◌++◌, map}

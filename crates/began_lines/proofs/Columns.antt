@@ -3,9 +3,9 @@
 --   two_cells, three_cells   a line of either listing begins with them
 --   lines_listed, counts_listed    document 01's listing, row by row
 --   listing_cells, began_cells     the two listings, each from the same cells, with the same last line
-use Prim.Native.Nat.{ℕ, zero, suc, ◌+◌, ◌<◌}
+use Prim.Native.Nat.{ℕ, zero, suc, ◌+◌}
 use native.Mathlib.Omega.{arith}
-use mathlib.Core.Path.{◌≡◌, refl, sym, ap, ◌∙◌}
+use mathlib.Core.Path.{◌≡◌, sym, ap, ◌∙◌}
 use mathlib.Core.List.{List, [], ◌∷◌, ◌++◌, append_assoc}
 use lib.Dec.{eqb}
 use lib.ListN.{length, get_or, drop}

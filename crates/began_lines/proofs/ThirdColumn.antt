@@ -1,7 +1,7 @@
 -- A row's line: how long it is, and its parts.
 --   at_size, nowhere_size, at_room, at_put, nowhere_room, nowhere_put    the third column, by its kind
 --   line_size_lem, line_start                                                the line
-use Prim.Native.Nat.{ℕ, ◌+◌, ◌<◌, ◌≤◌}
+use Prim.Native.Nat.{ℕ, ◌+◌, ◌<◌}
 use native.Mathlib.Omega.{arith}
 use mathlib.Core.Path.{◌≡◌, refl}
 use mathlib.Core.List.{List, [], ◌∷◌, ◌++◌}

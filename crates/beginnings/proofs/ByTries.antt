@@ -5,16 +5,14 @@
 --   date_asked, dated  what is asked where a row is matched, and what is told then
 --   marks-asked, marked     the same of all rows
 --   dates_unique       two results that are allowed coincide
-use Rattle.std.specs.Prelude.{if◌then◌else◌}
-use Prim.Native.Nat.{ℕ, zero, suc, ◌-◌, ◌<◌, ◌≤◌}
+use Prim.Native.Nat.{ℕ, ◌-◌, ◌<◌}
 use native.Mathlib.Omega.{arith}
 use native.Mathlib.Nat.{zero-add}
-use mathlib.Core.Path.{◌≡◌, refl, ap, sym, ◌∙◌}
-use mathlib.Core.Bool.{true, false}
+use mathlib.Core.Path.{◌≡◌, ap, sym, ◌∙◌}
 use mathlib.Core.Logic.{◌⊎◌, inl, inr}
-use mathlib.Core.List.{List, [], ◌∷◌}
+use mathlib.Core.List.{List, []}
 use lib.Dec.{eqb}
-use lib.ListN.{length, get_or, length-map}
+use lib.ListN.{length, get_or}
 use borrow.Author.Tests.{eq-eqb, ne_eqb}
 use Rattle.basics.specs.Words.{listed}
 use Rattle.basics.proofs.Bools.{equal?}
@@ -28,7 +26,7 @@ use Rattle.alf.specs.Beginnings.{began, is_given, time_of_lem}
 use Rattle.alf.proofs.Beginnings as laws
 use Rattle.matcher.specs.Answers.{Matches}
 use Rattle.matcher.proofs.Unique.{matches_unique}
-use Rattle.beginnings.specs.Times.{began_by, Took, BeganAsked, DateAsked, Dating, began_of, MarksAsked, Marks}
+use Rattle.beginnings.specs.Times.{began_by, Took, DateAsked, Dating, began_of, Marks}
 use Rattle.beginnings.specs.Dated.{Dates, flags_on, times_on}
 
 -- alternatives with a list of their numbers of steps

@@ -6,14 +6,12 @@
 use Prim.Native.Nat.{ℕ, ◌+◌, ◌<◌, ◌≤◌}
 use native.Mathlib.Omega.{arith}
 use mathlib.Core.Path.{◌≡◌, refl, ap, sym, ◌∙◌}
-use mathlib.Core.Bool.{Bool, true, false, not}
+use mathlib.Core.Bool.{Bool, true, false}
 use mathlib.Core.List.{List}
 use lib.Dec.{eqb}
 use lib.ListN.{length, get_or, set}
 use borrow.Author.Tests.{eqb-true}
 use Rattle.basics.specs.Words.{listed}
-use Rattle.basics.proofs.Bools.{never}
-use Rattle.basics.proofs.Deciding as deciding
 use Rattle.basics.proofs.Stores.{Writing, writing_first, writing_length}
 use Rattle.basics.proofs.Listed.{ruling_next_front, ruling_front, listed_whole}
 use Rattle.alf.specs.declared.Answer.{Answer}
@@ -27,23 +25,19 @@ use Rattle.beginnings.specs.Times.{began_of, MarksAsked, Marks}
 
 -- a row, by whether it answers yes
 module _ {times steps : List ℕ} {row : ℕ} {said : Bool} {tried : ℕ} (a : BeganAsked times steps row said tried) where
-  pub turned_down : not said ≡ true → Nowhere ≡ began_by times steps row said tried
+  pub turned_down : said ≡ false → Nowhere ≡ began_by times steps row said tried
   unfolding began_by
-  turned_down e = go said e
-    where
-      go : (b : Bool) → not b ≡ true → Nowhere ≡ began_by times steps row b tried
-      go true h = never h
-      go false h = refl
+  turned_down e = rw e refl
 
-  pub time_asked : not said ≡ false → TimeAsked times steps row tried
+  pub time_asked : said ≡ true → TimeAsked times steps row tried
   time_asked e =
-      let t = a.took (deciding.said said e) in
+      let t = a.took e in
       record { there = a.there; some = t.some; alternative = t.there; room = t.room }
 
-  pub told : {t : Stamp} → not said ≡ false → t.0 ≡ time_from times steps row tried
+  pub told : {t : Stamp} → said ≡ true → t.0 ≡ time_from times steps row tried
       → At t ≡ began_by times steps row said tried
   unfolding began_by
-  told e f = rw (deciding.said said e) (λ i. At (record { 0 = f i }))
+  told e f = rw e (λ i. At (record { 0 = f i }))
 
 pub found_asked : {times steps : List ℕ} {row : ℕ} {a : Answer} {tried v : ℕ} → DateAsked times steps row a tried
     → v ≡ number_of a → BeganAsked times steps row (eqb v 1) tried

@@ -54,7 +54,6 @@ pub fn date(times: &[u64], steps: &[u8], row: usize, found: Matched) -> Dated
 }
 
 // The flag and the time, as lists have them.
-#[tactic(auto, unfolding(alf::specs::Beginnings::is_given))]
 pub fn given_of(b: Began) -> u8
     ensures { result ≡ is_given b }
 {
@@ -64,7 +63,6 @@ pub fn given_of(b: Began) -> u8
     }
 }
 
-#[tactic(auto, unfolding(alf::specs::Beginnings::time_of_lem))]
 pub fn time_of(b: Began) -> u64
     ensures { result ≡ time_of_lem b }
 {

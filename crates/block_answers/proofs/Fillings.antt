@@ -1,13 +1,12 @@
 -- Laws of filling the lists of all rows.
 --   numbers_to, tries_to, block_filled_lem     the rows of a block
 --   Filling, filling_first, -asked, -next, -end          the rows before `from`
-use mathlib.Core.Path.{◌≡◌, refl, sym, ap, ◌∙◌}
+use mathlib.Core.Path.{◌≡◌, refl, ap, ◌∙◌}
 use mathlib.Core.List.{List}
-use Prim.Native.Nat.{ℕ, zero, suc, ◌+◌, ◌-◌, ◌<◌, ◌≤◌, min}
+use Prim.Native.Nat.{ℕ, suc, ◌+◌, ◌-◌, ◌<◌, ◌≤◌, min}
 use native.Mathlib.Omega.{arith}
 use lib.ListN.{length, get_or}
 use Rattle.basics.specs.Words.{listed}
-use Rattle.basics.specs.Memory.{front}
 use Rattle.basics.proofs.Listed.{listed_length}
 use Rattle.basics.proofs.Stores.{front_length}
 use Rattle.alf.specs.declared.Rules.{Rules}
@@ -16,13 +15,13 @@ use Rattle.alf.specs.Windows.{numbered}
 use Rattle.alf.specs.Expressions.{Boolean}
 use Rattle.alf.specs.Alternatives.{Alternative, answer_of}
 use Rattle.alf.specs.Alternatives as alternatives
-use Rattle.alternatives.specs.InMemory.{sum, alternatives_of_lem}
+use Rattle.alternatives.specs.InMemory.{alternatives_of_lem}
 use Rattle.state_columns.specs.Entries.{Over}
 use Rattle.columns.specs.Passes.{PassTo, TriesTo}
 use Rattle.state_columns.proofs.Overs.{over_same}
 use Rattle.matcher.specs.Tables.{FillAsked, Filled}
 use Rattle.block_answers.proofs.Rests.{Rest, rest_first, rest_next, rest_end}
-use Rattle.blocks.specs.Rows.{Prepared, Answered, BlocksAsked}
+use Rattle.blocks.specs.Rows.{Answered, BlocksAsked}
 use Rattle.blocks.proofs.Readying.{rows_fewer, ready_same}
 use Rattle.block_answers.specs.Filling.{FillBlock, BlockFilled}
 

@@ -1,6 +1,6 @@
 -- The answers and numbers tried of a block's rows, in the lists of all rows.
 --   FillBlock, BlockFilled     what is asked, and what is made of the lists, for whatever tests the columns stand for
-use Rattle.std.specs.Prelude.{ℕ, ◌+◌, ◌≤◌, ◌≡◌, List, length}
+use Rattle.std.specs.Prelude.{ℕ, ◌+◌, ◌≤◌, List, length}
 use Rattle.alf.specs.declared.Rules.{Rules}
 use Rattle.alf.specs.Values.{state_at}
 use Rattle.alf.specs.Alternatives.{answer_of, tries}

@@ -2,7 +2,6 @@
 --   block_counted_lem                               the rows of a block
 --   Counting, counting_first, -asked, -next, -end     the rows before `from`
 use mathlib.Core.Path.{◌≡◌, refl, sym, ap, ◌∙◌}
-use mathlib.Core.Bool.{Bool}
 use mathlib.Core.List.{List}
 use Prim.Native.Nat.{ℕ, zero, suc, ◌+◌, ◌-◌, ◌<◌, ◌≤◌, min}
 use native.Mathlib.Omega.{arith}
@@ -16,7 +15,7 @@ use Rattle.alf.specs.Values.{state_at}
 use Rattle.alf.specs.Windows.{numbered}
 use Rattle.alf.specs.Alternatives.{answer_of}
 use Rattle.alternatives.specs.InMemory.{alternatives_of_lem}
-use Rattle.matcher.specs.Tables.{Rows, RowsAsked, total_of, TotalsOf}
+use Rattle.matcher.specs.Tables.{RowsAsked, total_of, TotalsOf}
 use Rattle.blocks.specs.Rows.{Answered, Block, BlocksAsked}
 use Rattle.blocks.proofs.Readying.{rows_fewer, ready_same}
 use Rattle.block_totals.specs.Counting.{Counts, BlockCounted}

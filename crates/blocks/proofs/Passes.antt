@@ -1,17 +1,16 @@
 -- Laws of passes over columns: what is known of the answers at each row of a block on the way.
 --   Asking, asking_first, -asked, -next, -end         some tests of a step are met
 --   Stepping, stepping_first, -asked, -next, -end     some steps of an alternative
-use mathlib.Core.Path.{◌≡◌, refl, sym, ap, ◌∙◌}
+use mathlib.Core.Path.{◌≡◌, refl, ◌∙◌}
 use mathlib.Core.List.{List, []}
 use Prim.Native.Nat.{ℕ, ◌+◌, ◌*◌, ◌-◌, ◌<◌, ◌≤◌, min}
 use native.Mathlib.Nat.{add-zero}
 use native.Mathlib.Omega.{arith}
-use lib.ListN.{length, get_or, drop, take}
+use lib.ListN.{length, get_or, drop}
 use Rattle.basics.specs.Words.{least_of}
-use Rattle.basics.proofs.Extremes.{least_of_small}
 use Rattle.alf.specs.Expressions.{Boolean}
-use Rattle.alf.specs.Alternatives.{Test, test_at, step_at, at_row}
-use Rattle.alternatives.specs.InMemory.{sum, step_in, alternative_in, test_of}
+use Rattle.alf.specs.Alternatives.{Test, test_at, step_at}
+use Rattle.alternatives.specs.InMemory.{sum, step_in, test_of}
 use Rattle.alternatives.proofs.Cuts.{part, part_first, part_next, part_last, sum_next}
 use Rattle.state_columns.specs.Entries.{Over}
 use Rattle.columns.specs.Passes.{PassFrom}

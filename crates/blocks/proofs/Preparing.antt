@@ -12,15 +12,15 @@ use Rattle.alf.specs.Expressions.{Boolean}
 use Rattle.alf.specs.Values.{state_at}
 use Rattle.alf.specs.Windows.{edge_on}
 use Rattle.alf.specs.Decoder.{edge_at}
-use Rattle.alf.specs.Alternatives.{Test, test_at, best_of}
+use Rattle.alf.specs.Alternatives.{Test, test_at}
 use Rattle.trees.specs.Parts.{boolean_at}
-use Rattle.alternatives.specs.InMemory.{sum, test_of, tests_of, Tests, alternatives_of_lem}
+use Rattle.alternatives.specs.InMemory.{test_of, tests_of, Tests, alternatives_of_lem}
 use Rattle.alternatives.proofs.Cuts.{test_at_lem, tests_length}
 use Rattle.columns.specs.Columns.{Tables, TablesAsked, Columns, ColumnsAsked}
 use Rattle.matcher.proofs.Filling.{row_within}
-use Rattle.blocks.specs.Numbering.{NumberAsked, Numbered}
+use Rattle.blocks.specs.Numbering.{Numbered}
 use Rattle.blocks.specs.Meeting.{Holding, BlockAsked, BlockMatched}
-use Rattle.blocks.specs.Rows.{Prepared, PrepareAsked, PreparedOr, Ready, AnswerAsked, Answered}
+use Rattle.blocks.specs.Rows.{Prepared, PrepareAsked, PreparedOr, AnswerAsked, Answered}
 
 -- the table of edge k at the states x and y
 table_at : (e x y : ℕ) → x < 8 → y < 8

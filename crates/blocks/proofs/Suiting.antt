@@ -2,20 +2,19 @@
 --   suits_not, suits-if       the test for it
 --   prepare_asked             their tests may be numbered
 --   blocks_asked_lem              prepared columns are ready for all rows
-use mathlib.Core.Path.{◌≡◌, refl}
-use mathlib.Core.Bool.{Bool, true, false}
+use mathlib.Core.Path.{◌≡◌}
+use mathlib.Core.Bool.{false}
 use mathlib.Core.List.{List, [], ◌∷◌}
-use Prim.Native.Nat.{ℕ, zero, suc, ◌+◌, ◌<◌, ◌≤◌, max}
+use Prim.Native.Nat.{ℕ, zero, suc, ◌≤◌}
 use native.Mathlib.Omega.{arith}
-use borrow.Author.Tests.{leb-true}
 use lib.ListN.{length, get_or}
 use Rattle.basics.specs.Words.{greatest_of}
 use Rattle.basics.proofs.Bools.{never}
 use Rattle.trees.specs.Parts.{EndsBoolean}
 use Rattle.evaluator.proofs.Booleans.{some_bytes}
-use Rattle.alternatives.specs.InMemory.{sum, Shape}
+use Rattle.alternatives.specs.InMemory.{Shape}
 use Rattle.blocks.specs.Numbering.{OperandAt}
-use Rattle.blocks.specs.Rows.{Suited, Suits, Scratch, PrepareAsked, PreparedOr, BlocksAsked, Ready}
+use Rattle.blocks.specs.Rows.{Suited, Suits, Scratch, PrepareAsked, PreparedOr, BlocksAsked}
 
 pub suits_not : {steps edges : List ℕ} {n : ℕ} → Suits steps edges n false
 suits_not = record { is = λ e. never e }

@@ -2,11 +2,11 @@
 --   Trying, trying_first, -next, -end         at one row: the best answer and the number tried, with those to come
 --   Walking, walking_first, -asked, -next, -end     at all rows of the block
 use Rattle.std.specs.Prelude.{if◌then◌else◌}
-use mathlib.Core.Path.{◌≡◌, refl, sym, ap, ◌∙◌}
+use mathlib.Core.Path.{◌≡◌, refl, ◌∙◌}
 use mathlib.Core.Bool.{Bool, true, false}
 use mathlib.Core.List.{List, [], ◌∷◌, map}
 use mathlib.Core.Logic.{◌⊎◌, inl, inr}
-use Prim.Native.Nat.{ℕ, ◌+◌, ◌*◌, ◌^◌, ◌<◌, ◌≤◌, max}
+use Prim.Native.Nat.{ℕ, ◌+◌, ◌^◌, ◌<◌, ◌≤◌, max}
 use native.Mathlib.Omega.{arith}
 use borrow.Author.Tests.{eq-eqb, ne_eqb}
 use lib.Dec.{eqb}
@@ -15,8 +15,8 @@ use Rattle.basics.specs.Words.{greatest_of}
 use Rattle.basics.proofs.Bools.{equal?}
 use Rattle.alf.specs.Expressions.{Boolean}
 use Rattle.alf.specs.Alternatives.{Test, Alternative, at_row, best_of, tried}
-use Rattle.alternatives.specs.InMemory.{cut, sum, alternative_in, alternatives_in, Passing}
-use Rattle.alternatives.proofs.Cuts.{cut_none, sum_next, sum_part_drop, sum_take}
+use Rattle.alternatives.specs.InMemory.{cut, sum, alternatives_in, Passing}
+use Rattle.alternatives.proofs.Cuts.{cut_none, sum_next, sum_part_drop}
 use Rattle.state_columns.specs.Entries.{Over}
 use Rattle.columns.proofs.Passing.{over_length, front_inside}
 use Rattle.matcher.proofs.Walking.{alternatives_next}

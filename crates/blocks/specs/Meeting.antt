@@ -5,7 +5,7 @@
 --   TakeAsked, Taken                    one more alternative
 --   Blank, BlockAsked, BlockMatched     all alternatives
 -- What is promised holds for whatever tests the columns hold: the lists of a block do not say which.
-use Rattle.std.specs.Prelude.{ℕ, ◌+◌, ◌*◌, ◌-◌, ◌<◌, ◌≤◌, min, max, ◌≡◌, List, map, eqb, length, get_or, drop, if◌then◌else◌}
+use Rattle.std.specs.Prelude.{ℕ, ◌+◌, ◌*◌, ◌<◌, ◌≤◌, min, max, ◌≡◌, List, map, eqb, length, get_or, drop, if◌then◌else◌}
 use Rattle.state_columns.specs.Entries.{Over}
 use Rattle.columns.specs.Passes.{Counted}
 use Rattle.alf.specs.Expressions.{Boolean}

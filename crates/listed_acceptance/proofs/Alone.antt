@@ -2,12 +2,12 @@
 --   stack_over     the bytes of a boolean expression put it on the stack
 --   part_length, part_inside
 --   alone
-use Prim.Native.Nat.{ℕ, zero, suc, ◌+◌, ◌-◌, ◌<◌, ◌≤◌, min}
+use Prim.Native.Nat.{ℕ, ◌+◌, ◌-◌, ◌<◌, ◌≤◌, min}
 use native.Mathlib.Omega.{arith}
 use mathlib.Core.Path.{◌≡◌, refl, ap, sym, ◌∙◌}
 use mathlib.Core.Bool.{true}
 use mathlib.Core.List.{List}
-use lib.ListN.{length, get_or, take, drop, length-drop}
+use lib.ListN.{length, take, drop, length-drop}
 use lib.Seq.{take-add, length-take-le, drop_at, drop-drop, take-take}
 use Rattle.alf.specs.declared.Sort.TheVariants as sort
 use Rattle.alf.specs.Expressions.{Boolean, Expression, boolean, vector, ExpressionOver}

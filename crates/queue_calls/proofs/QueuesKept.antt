@@ -5,14 +5,14 @@
 --   last_none, last_over                  the time of the last row kept
 --   first_push, early_refused, above_good 13 of the new row
 --   judges_push                           verdicts put together
-use mathlib.Core.Path.{◌≡◌, refl, ap, sym, ◌∙◌}
+use mathlib.Core.Path.{◌≡◌, refl, sym}
 use mathlib.Core.Bool.{Bool, true, false}
 use mathlib.Core.Logic.{inl}
 use mathlib.Core.List.{List}
-use Prim.Native.Nat.{ℕ, zero, suc, ◌-◌, ◌*◌, ◌<◌, ◌≤◌}
+use Prim.Native.Nat.{ℕ, ◌-◌, ◌*◌, ◌<◌, ◌≤◌}
 use native.Mathlib.Omega.{arith}
 use lib.Dec.{eqb}
-use lib.ListN.{length, get_or, take, get_or-eq_default}
+use lib.ListN.{length, get_or, get_or-eq_default}
 use lib.Seq.{length-take-le}
 use borrow.Author.Tests.{eqb-true, eqb-false}
 use Rattle.basics.specs.declared.Refusal.{Refusal}
@@ -21,7 +21,7 @@ use Rattle.basics.specs.Deciding.{Decides}
 use Rattle.basics.proofs.Deciding.{same_decided}
 use Rattle.alf.specs.Refusals.{RefusedWith, Passed, Rising}
 use Rattle.alf.proofs.Orders.{plainly}
-use Rattle.states.specs.FirstBadCode.{FirstBad, Codes}
+use Rattle.states.specs.FirstBadCode.{FirstBad}
 use Rattle.queue.specs.declared.queues.Queue as rows
 use Rattle.queue.specs.Queues.{held_of}
 use Rattle.queue.proofs.Keeping.{rows_fit, held_length}

@@ -5,7 +5,7 @@ use Rattle.std.specs.Prelude.{if◌then◌else◌}
 use mathlib.Core.Path.{◌≡◌, refl, sym, ap, ◌∙◌}
 use mathlib.Core.Bool.{Bool, true, false}
 use mathlib.Core.List.{List, [], ◌∷◌, ◌++◌}
-use Prim.Native.Nat.{ℕ, ◌+◌, ◌-◌, ◌≤◌, ◌<◌}
+use Prim.Native.Nat.{ℕ, ◌-◌, ◌≤◌, ◌<◌}
 use native.Mathlib.Omega.{arith}
 use lib.Dec.{eqb, ltb}
 use lib.ListN.{length, replicate}
@@ -13,7 +13,7 @@ use lib.Seq.{take-length}
 use borrow.Author.Tests.{eqb-true, eqb-false}
 use Rattle.alf.specs.declared.Sort.{Sort}
 use Rattle.alf.specs.declared.Sort.TheVariants as the-sort
-use Rattle.alf.specs.Expressions.{Boolean, name, literal, negated, Vector, edge, join, while}
+use Rattle.alf.specs.Expressions.{name, literal, negated, Vector, edge, join, while}
 use Rattle.alf.specs.Expressions.{with, or_else, on-right, on-left, Expression, boolean, vector}
 use Rattle.alf.specs.Expressions.{Over, VectorOver, ExpressionOver}
 use Rattle.alf.specs.Decoder as decoder

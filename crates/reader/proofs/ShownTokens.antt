@@ -8,7 +8,7 @@ use Rattle.std.specs.Prelude.{if◌then◌else◌}
 use mathlib.Core.Path.{◌≡◌, refl, sym, ap, ◌∙◌}
 use mathlib.Core.Bool.{Bool, true, false}
 use mathlib.Core.List.{List, [], ◌∷◌, ◌++◌}
-use Prim.Native.Nat.{ℕ, suc, ◌+◌}
+use Prim.Native.Nat.{ℕ, ◌+◌}
 use native.Mathlib.Omega.{arith}
 use native.Mathlib.Numerals.{add-one}
 use lib.Dec.{eqb, ltb}
@@ -95,7 +95,7 @@ module _ (P : ℕ → Type 0) where
   stuck_place a e (with_token before rest t is_it q f) = rw q (first (back before (t ∷ rest) (rw is_it at a)))
   stuck_place a e (with_end q f) = rw q e
 
-  pub unknown_place : {ts : List texts.Token} {p : ℕ} → Stands p ts → At (tokens_of ts) → P p
+  pub unknown_place : {p : ℕ} {ts : List texts.Token} → Stands p ts → At (tokens_of ts) → P p
   unfolding tokens
   unknown_place here (more h a) = h
   unknown_place (there s) (more h a) = unknown_place s a

@@ -21,7 +21,6 @@ use Rattle.basics.proofs.Choices.{every, every_at}
 use Rattle.basics.proofs.AllEntries.{All, none, more, all_append}
 use Rattle.tokens.specs.Texts as text
 use Rattle.tokens.specs.Texts.{Reads, done, blank, token, running, many, OfTokens}
-use Rattle.tokens.specs.Tokenizing as reading
 use Rattle.token_steps.proofs.TokenStarts.{token_size}
 use Rattle.grammar.specs.declared.Token.{Token}
 use Rattle.grammar.specs.Tokens.{tokens, kind, kind_in, table, weight, counted}

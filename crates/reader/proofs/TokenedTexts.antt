@@ -6,17 +6,14 @@ use mathlib.Core.Path.{◌≡◌, refl, sym, ap, ◌∙◌}
 use mathlib.Core.Bool.{true, false}
 use mathlib.Core.List.{List, map}
 use mathlib.Core.Logic.{◌⊎◌, inl, inr}
-use Prim.Native.Nat.{ℕ, ◌-◌, ◌≤◌, ◌<◌}
+use Prim.Native.Nat.{ℕ, ◌≤◌, ◌<◌}
 use native.Mathlib.Omega.{arith}
 use lib.ListN.{length, get_or}
-use Rattle.alf.specs.Names.{names_in}
 use Rattle.alf.specs.declared.Rules.{Rules}
 use Rattle.alf.specs.declared.Sort.{Sort}
-use Rattle.alf.specs.Expressions.{Expression}
 use Rattle.alf.specs.Refusals.{Passed, no_grammar}
 use Rattle.basics.proofs.Bools.{below?}
 use Rattle.names.proofs.Few.{names_few}
-use Rattle.names.specs.Check.{names_order}
 use Rattle.tokens.specs.declared.Tokens.{Tokens}
 use Rattle.tokens.specs.Texts as text
 use Rattle.tokens.specs.Texts.{Reads, order}
@@ -24,9 +21,8 @@ use Rattle.tokens.specs.Tokenizing as reading
 use Rattle.tokens.specs.Tokenizing.{filled}
 use Rattle.tokens.proofs.Filling.{column_length, filled_at, filled_holds}
 use Rattle.tokens.proofs.Places.{reads_rising}
-use Rattle.grammar.specs.declared.Token.{Token}
 use Rattle.grammar.specs.declared.Parsed.{Parsed}
-use Rattle.grammar.specs.Tokens.{tokens, counted}
+use Rattle.grammar.specs.Tokens.{counted}
 use Rattle.grammar.specs.Grammar as grammar
 use Rattle.grammar.specs.Grammar.{Tree}
 use Rattle.grammar.specs.Answers as answers
@@ -40,7 +36,7 @@ use Rattle.sorting.specs.Lookup.{is_unknown, unknown_at}
 use Rattle.sorting.specs.Sorts.{Sorted, is, faulty}
 use Rattle.reader.specs.Texts.{tokens_of}
 use Rattle.sorting.specs.Passes.{Listed}
-use Rattle.reader.specs.Reads.{made, refused_at, answered, Grown, Answered}
+use Rattle.reader.specs.Reads.{refused_at, answered, Grown, Answered}
 use Rattle.reader.specs.Reading.{sorted_in, Unknown, Unlimited, refused, unlimited}
 use Rattle.reader.specs.Tokened.{Tokened}
 use Rattle.sorting.proofs.SlotNumbers.{first-same}

@@ -7,14 +7,13 @@
 use mathlib.Core.Path.{◌≡◌, refl, sym, ap, ◌∙◌}
 use mathlib.Core.Bool.{true, false}
 use mathlib.Core.List.{List, [], ◌∷◌, ◌++◌, map}
-use Prim.Native.Nat.{ℕ, zero, suc, ◌+◌, ◌-◌, ◌≤◌, ◌<◌}
+use Prim.Native.Nat.{ℕ, zero, suc, ◌-◌, ◌≤◌, ◌<◌}
 use native.Mathlib.Omega.{arith}
 use lib.ListN.{length, get_or, replicate, length-map}
 use Rattle.alf.specs.declared.Sort.{Sort}
 use Rattle.alf.specs.declared.Sort.TheVariants as the-sort
 use Rattle.alf.specs.Expressions.{Expression, boolean, vector}
 use Rattle.basics.proofs.Bools.{never}
-use Rattle.basics.specs.Memory.{front}
 use Rattle.basics.specs.Refusing.{refusal}
 use Rattle.basics.proofs.AllEntries.{All, none, more}
 use Rattle.basics.proofs.Stores.{front_take, front_length}

@@ -24,7 +24,6 @@ use Rattle.tokens.specs.Extents.{RefusedIn}
 use Rattle.grammar.specs.Grammar as grammar
 use Rattle.grammar.specs.Grammar.{Tree, leaf, one, two, three}
 use Rattle.grammar.specs.Answers.{Stuck}
-use Rattle.grammar.specs.declared.Token as node
 use Rattle.reader.specs.declared.Read.{Read}
 use Rattle.sorting.specs.Lookup.{word, number_at}
 use Rattle.sorting.specs.Sorts.{Sorted, is, faulty, of_one, of_two, of_three, asked, sorted, sorted_for}

@@ -19,7 +19,7 @@ use Rattle.trace_format.proofs.MarkBytes.{row_kind, row_long}
 use Rattle.record_checks.specs.Steps.{Stands, StandsAt, Checks, kind_of, GoesOn, Next}
 use Rattle.record_checks.proofs.NameWalk.{end_zero, end_suc}
 use Rattle.record_checks.proofs.GoodRecords.{NameFacts, RowFacts, good_name, good_row, name_first, other_bad}
-use Rattle.record_checks.proofs.RowCursors.{width_here, time_here}
+use Rattle.record_checks.proofs.RowCursors.{time_here}
 
 pub place_zero : (file : List ℕ) (k : ℕ) → place file k 0 ≡ name_end file k
 unfolding place

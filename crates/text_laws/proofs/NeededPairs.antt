@@ -49,7 +49,7 @@ bare_fitted l m ts = go (leb m l)
         → (if b then map bare_token ts else made 62 ∷ (map bare_token ts ++ (made 63 ∷ [])))
         ≡ map bare_token (if b then ts else made 62 ∷ (ts ++ (made 63 ∷ [])))
     go true = refl
-    go false = rw map-append refl
+    go false = ap (λ (us : List Token). made 62 ∷ us) (sym (map-append bare_token ts (made 63 ∷ [])))
 
 bare_seam : (ts us : List Token) (t : Token) {ts' us' : List Token} → ts' ≡ map bare_token ts
     → us' ≡ map bare_token us → ts' ++ (bare_token t ∷ us') ≡ map bare_token (ts ++ (t ∷ us))

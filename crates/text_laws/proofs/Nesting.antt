@@ -8,7 +8,6 @@ use mathlib.Core.Logic.{◌⊎◌, inl, inr}
 use borrow.Author.Tests.{le-leb, lt-leb}
 use Rattle.basics.proofs.Bools.{below?}
 use Rattle.tokens.specs.Texts.{Token, Reads, running, opened, deep}
-use Rattle.tokens.specs.Tokenizing.{codes_of, places_of}
 use Rattle.tokens.proofs.Places.{Rising, reads_rising}
 use Rattle.grammar.specs.Tokens.{tokens}
 use Rattle.grammar.specs.Written.{depth}

@@ -7,7 +7,7 @@
 --   IsVector, sorted_vector, found_vector        a vector expression, where one is asked for
 --   vector_given, vector_decodes                 so it is what the text gives and what the bytes are
 --   IsBoolean, sorted_boolean, found_boolean     a boolean expression, likewise
-use Prim.Native.Nat.{ℕ, ◌-◌, ◌≤◌}
+use Prim.Native.Nat.{ℕ, ◌≤◌}
 use native.Mathlib.Omega.{arith}
 use mathlib.Core.Path.{◌≡◌, refl, ap, sym, ◌∙◌}
 use mathlib.Core.Bool.{Bool, true, false}
@@ -26,7 +26,6 @@ use Rattle.basics.proofs.Stores.{front_take}
 use Rattle.alf.proofs.Decoding.{decode_unique}
 use Rattle.names.specs.Check.{names_order}
 use Rattle.alf.proofs.Orders.{passed_left, Sole, sole_fixed}
-use Rattle.grammar.specs.Answers.{padded}
 use Rattle.acceptance.proofs.Acceptance.{accepted_decodes}
 use Rattle.acceptance.specs.Accepted.{sort_of_lem, Accepted}
 use Rattle.reader.specs.declared.Read.{Read}

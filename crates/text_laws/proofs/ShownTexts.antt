@@ -3,7 +3,7 @@
 --   runs_to_blank   the bytes up to the next blank, counted
 --   two_stuck       2 is given where bytes form no token
 --   refusal_shows   the theorem
-use mathlib.Core.Path.{◌≡◌, refl, sym, ap, subst, ◌∙◌}
+use mathlib.Core.Path.{◌≡◌, refl, sym, ap, ◌∙◌}
 use mathlib.Core.Bool.{Bool, true, false}
 use mathlib.Core.Logic.{◌⊎◌, inl, inr}
 use mathlib.Core.List.{List, [], ◌∷◌, ◌++◌}
@@ -11,8 +11,8 @@ use Prim.Native.Nat.{ℕ, zero, suc, ◌+◌, ◌<◌, ◌≤◌}
 use native.Mathlib.Omega.{arith}
 use native.Mathlib.Numerals.{add-one}
 use lib.Dec.{eqb}
-use lib.ListN.{length, get_or, take, drop, length-append, length-drop, get_or-eq_default}
-use lib.Seq.{get_or-drop, take-append_seam, drop-cons}
+use lib.ListN.{length, get_or, take, drop, length-drop, get_or-eq_default}
+use lib.Seq.{get_or-drop, take-append_seam}
 use Rattle.basics.specs.declared.Refusal.{Refusal}
 use Rattle.basics.proofs.Bools.{never, below?, or_right}
 use Rattle.alf.specs.declared.Rules.{Rules}

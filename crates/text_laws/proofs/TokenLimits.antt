@@ -17,7 +17,6 @@ use Rattle.basics.proofs.Bools.{never, below?, equal?}
 use Rattle.basics.proofs.Choices.{every, every_at}
 use Rattle.tokens.specs.Texts as text
 use Rattle.tokens.specs.Texts.{running, deep, many}
-use Rattle.tokens.specs.Tokenizing as reading
 use Rattle.grammar.specs.declared.Token.{Token}
 use Rattle.grammar.specs.Tokens.{Kind, operand, prefix, question, colon, opening, closing, other, binary}
 use Rattle.grammar.specs.Tokens.{table, kind_in, kind, kind_of, weight, counted, tokens}

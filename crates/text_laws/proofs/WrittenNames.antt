@@ -15,7 +15,6 @@ use Rattle.basics.proofs.Bools.{never}
 use Rattle.basics.proofs.AllEntries.{All}
 use Rattle.token_steps.specs.Taking.{name_bytes}
 use Rattle.tokens.specs.Texts as texts
-use Rattle.tokens.specs.Tokenizing as reading
 use Rattle.grammar.specs.declared.Token.{Token}
 use Rattle.grammar.specs.Tokens.{tokens}
 use Rattle.sorting.specs.Lookup.{word, number_at}

@@ -1,3 +1,2 @@
 // What reading and writing expressions mean together: nothing but proofs.
 #![tactic(auto)]
-

@@ -3,7 +3,7 @@
 --   held_times, times_of     the times of the rows that a queue keeps, and with a row's time behind them
 --   Pushes                 what a push comes to
 --   Feed                   the rows of a trace with times pushed one after the other
-use Rattle.std.specs.Prelude.{ℕ, suc, ◌+◌, ◌-◌, ◌<◌, ◌≡◌, List, [], ◌∷◌, ◌++◌, length, get_or, take}
+use Rattle.std.specs.Prelude.{ℕ, suc, ◌+◌, ◌<◌, ◌≡◌, List, [], ◌∷◌, ◌++◌, length, take}
 use Rattle.alf.specs.declared.Rules.{Rules}
 use Rattle.alf.specs.declared.Answer.{Answer}
 use Rattle.alf.specs.declared.Began.{Began}

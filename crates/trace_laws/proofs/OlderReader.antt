@@ -5,9 +5,9 @@
 --   refused_then, refused_now      and it was refused exactly when it is refused now, with the same number and place
 --   long_refused     the first `RL` was refused with 11 at its mark, if nothing before it is wrong
 use mathlib.Core.Path.{◌≡◌, refl, sym, ap, subst, ◌∙◌}
-use mathlib.Core.List.{List, [], ◌∷◌, ◌++◌}
+use mathlib.Core.List.{List}
 use mathlib.Core.Logic.{◌⊎◌, inl, inr, ⊎_elim}
-use Prim.Native.Nat.{ℕ, zero, suc, ◌+◌, ◌-◌, ◌<◌, ◌≤◌}
+use Prim.Native.Nat.{ℕ, zero, suc, ◌+◌, ◌<◌, ◌≤◌}
 use native.Mathlib.Omega.{arith}
 use lib.ListN.{length, get_or, get_or-eq_default}
 use Rattle.basics.proofs.Bools.{below?}
@@ -15,7 +15,7 @@ use Rattle.alf.specs.Refusals.{Order, RefusedWith, Passed}
 use Rattle.trace_format.specs.declared.Mark.{Mark}
 use Rattle.trace_format.specs.declared.Mark.TheVariants.{Name, Row, End, Other}
 use Rattle.trace_format.specs.Format.{row_letter}
-use Rattle.trace_format.specs.Records.{Due, time_bytes, place, mark_here, width_in, record_order, Good, GoodRow, Before}
+use Rattle.trace_format.specs.Records.{Due, time_bytes, place, mark_here, width_in, Good, GoodRow, Before}
 use Rattle.trace_format.proofs.MarkBytes.{row_kind, marks_row}
 use Rattle.trace_reader.specs.Reading.{Accepted, FileRefused}
 use Rattle.record_copies.specs.HeldLists.{times_of, states_of}

@@ -6,22 +6,19 @@
 use Rattle.std.specs.Prelude.{if◌then◌else◌}
 use mathlib.Core.Path.{◌≡◌, refl, sym, ap, ◌∙◌}
 use mathlib.Core.Bool.{Bool, true, false, ◌&&◌}
-use mathlib.Core.List.{List, [], ◌∷◌}
-use mathlib.Core.Logic.{◌⊎◌, inl, inr, ⊎_elim}
-use Prim.Native.Nat.{ℕ, zero, suc, ◌+◌, ◌-◌, ◌*◌, ◌<◌, ◌≤◌}
+use mathlib.Core.List.{List}
+use mathlib.Core.Logic.{⊎_elim}
+use Prim.Native.Nat.{ℕ, zero, suc, ◌+◌, ◌-◌, ◌<◌}
 use native.Mathlib.Nat.{zero-mul, add-zero, add-mul, one-mul}
 use native.Mathlib.Numerals.{add-one}
 use native.Mathlib.Omega.{arith}
 use lib.Dec.{eqb}
-use lib.ListN.{length, get_or, take, drop}
-use Rattle.alf.specs.Refusals.{Order, check, First, wrong_mark, cut_short}
 use Rattle.trace_format.specs.declared.Mark.{Mark}
 use Rattle.trace_format.specs.declared.Mark.TheVariants.{Name, Row, End, Other}
-use Rattle.trace_format.specs.Records.{mark_of, mark_at_lem, number_at, time_bytes, place, mark_here, width_in, time_in, codes_in}
-use Rattle.trace_format.specs.Records.{Due, size_of, contents, marked_order, record_order}
+use Rattle.trace_format.specs.Records.{mark_of, number_at, time_bytes, place, mark_here, width_in, time_in, codes_in}
+use Rattle.trace_format.specs.Records.{size_of, contents, record_order}
 use Rattle.trace_format.proofs.MarkBytes.{row_kind, marks_row}
 use Rattle.trace_format.proofs.Numbers.{number_four}
-use Rattle.record_checks.proofs.CursorSteps.{place_zero, place_row}
 use Rattle.trace_laws.specs.Older as Older
 
 pick : Bool → Bool → Bool → Bool → Mark

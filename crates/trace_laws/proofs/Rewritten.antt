@@ -4,31 +4,28 @@
 --   write_read    what was read from a file without a needless `RL`, written again, gives the same bytes
 --   write_short   what was read from any file, written again, gives the writer's file of the same trace
 use Rattle.std.specs.Prelude.{if◌then◌else◌}
-use mathlib.Core.Path.{◌≡◌, refl, sym, ap, ◌∙◌}
-use mathlib.Core.Bool.{Bool, true, false, ◌&&◌}
-use mathlib.Core.List.{List, ◌++◌}
+use mathlib.Core.Path.{◌≡◌, refl, ◌∙◌}
+use mathlib.Core.Bool.{◌&&◌}
+use mathlib.Core.List.{List}
 use mathlib.Core.Logic.{◌⊎◌, inl, inr}
 use Prim.Native.Nat.{ℕ, zero, suc, ◌+◌, ◌*◌, ◌^◌, ◌≤◌, ◌<◌}
 use native.Mathlib.Omega.{arith}
-use native.Mathlib.Numerals.{add-one}
 use lib.Dec.{eqb, ltb}
-use lib.ListN.{length, get_or, length-append}
+use lib.ListN.{length, length-append}
 use borrow.Author.Tests.{lt-ltb, le-ltb}
 use Rattle.basics.specs.Memory.{front}
 use Rattle.basics.specs.declared.Outcome.{Outcome}
-use Rattle.basics.specs.declared.Outcome.TheVariants as Outcome
 use Rattle.basics.proofs.Bools.{below?}
 use Rattle.alf.specs.Names.{names_in}
-use Rattle.trace_format.specs.Format.{Fits, Fitting, Trace, codes_of, row_record, name_records, row_records, end_record}
+use Rattle.trace_format.specs.Format.{Fits, Fitting, Trace, name_records, row_records, end_record}
 use Rattle.trace_format.specs.Format.{fewest, fewest_of, file_in, file_of}
 use Rattle.trace_format.specs.Records.{width_in, time_in}
 use Rattle.trace_format.proofs.Numbers.{bytes_length}
 use Rattle.trace_reader.specs.Reading.{Got}
 use Rattle.trace_writer.specs.Putting.{rows_size}
 use Rattle.trace_writer.specs.Writing.{Writes}
-use Rattle.trace_writer.proofs.Putting.{rows_length, size_next}
+use Rattle.trace_writer.proofs.Putting.{rows_length}
 use Rattle.trace_laws.specs.Needless.{needless, needless_rows}
-use Rattle.trace_laws.proofs.Theorems.{TraceOf, got_trace}
 use Rattle.trace_laws.proofs.BytesAccepted.{held_width, time_held}
 use Rattle.trace_laws.proofs.Widths.{fewest_4, fewest_8}
 use Rattle.trace_laws.proofs.RoundTrips.{OneWriting, writes_bytes}

@@ -14,7 +14,6 @@ use native.Mathlib.Omega.{arith}
 use lib.ListN.{length}
 use Rattle.alf.specs.Names.{names_in}
 use Rattle.basics.specs.declared.Outcome.{Outcome}
-use Rattle.basics.specs.declared.Outcome.TheVariants as Outcome
 use Rattle.alf.specs.Refusals.{Passed, Comes}
 use Rattle.basics.proofs.Refusals.{refusal_same}
 use Rattle.alf.proofs.Outcomes.{at_fixed, first_fixed, refused_passed, refused_unique, comes_unique}

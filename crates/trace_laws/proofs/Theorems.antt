@@ -9,8 +9,6 @@ use mathlib.Core.List.{List}
 use Prim.Native.Nat.{ℕ, ◌<◌}
 use lib.ListN.{get_or}
 use Rattle.alf.specs.Names.{names_in}
-use Rattle.basics.specs.declared.Outcome.{Outcome}
-use Rattle.basics.specs.declared.Outcome.TheVariants as Outcome
 use Rattle.alf.proofs.Outcomes.{AllFixed, at_fixed}
 use Rattle.trace_reader.specs.declared.Reading.{Reading}
 use Rattle.trace_format.specs.Format.{Fitting, file_in, Trace}

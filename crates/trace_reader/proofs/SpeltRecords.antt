@@ -1,6 +1,6 @@
 -- A good record, byte for byte: what stands where it starts is the record of what it holds, and then the rest.
 --   name_spelt, row_spelt, end_spelt   the three kinds of records
-use mathlib.Core.Path.{◌≡◌, refl, sym, ap, ◌∙◌}
+use mathlib.Core.Path.{◌≡◌, sym, ap, ◌∙◌}
 use mathlib.Core.List.{List, [], ◌∷◌, ◌++◌, append_assoc, append-nil}
 use Prim.Native.Nat.{ℕ, suc, ◌+◌, ◌≤◌, ◌<◌}
 use native.Mathlib.Omega.{arith}

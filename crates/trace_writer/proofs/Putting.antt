@@ -5,7 +5,7 @@
 --   codes_all, rows_length             the codes of a row, the bytes of some rows
 --   size_next, size_mono, size_grow    one row more
 --   row_fits, rows_put, rows_none      there is room for a row more, it is written; none is
-use mathlib.Core.Path.{◌≡◌, refl, sym, ◌∙◌}
+use mathlib.Core.Path.{◌≡◌, refl, ◌∙◌}
 use mathlib.Core.Bool.{Bool, true, false}
 use mathlib.Core.List.{List}
 use mathlib.Core.Logic.{⊎_elim}

@@ -5,7 +5,7 @@
 --   trace_good, rows_good                                 a trace that passes is good, and its codes are states
 --   rows_fixed, trace_fixed                               each row of the order fixes its place
 --   rows_split                                            the rows' order, of the first ones and of those behind them
-use mathlib.Core.Path.{◌≡◌, refl, sym, ◌∙◌}
+use mathlib.Core.Path.{◌≡◌, refl, sym}
 use mathlib.Core.Bool.{Bool, false}
 use mathlib.Core.List.{List, ◌++◌, append-nil, append_assoc}
 use mathlib.Core.Logic.{◌⊎◌, inl, inr}

@@ -5,7 +5,7 @@
 --   ChecksLists, ChecksTrace   what the checks of the lists, and of a trace in lists, come to
 --   write_order              the order of the whole call
 --   Writes                  what the call comes to, and the buffer afterwards
-use Rattle.std.specs.Prelude.{ℕ, zero, suc, ◌+◌, ◌-◌, ◌*◌, ◌<◌, ◌≤◌, ◌≡◌, List, [], ◌∷◌, ◌++◌, length, get_or}
+use Rattle.std.specs.Prelude.{ℕ, zero, suc, ◌+◌, ◌*◌, ◌<◌, ◌≤◌, ◌≡◌, List, [], ◌∷◌, ◌++◌, length, get_or}
 use Rattle.alf.specs.Names.{names_in}
 use Rattle.basics.specs.declared.Outcome.{Outcome}
 use Rattle.alf.specs.Refusals.{Order, check, First, bad_lists, bad_slot, not_above, no_room, Comes}

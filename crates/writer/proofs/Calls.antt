@@ -10,9 +10,7 @@ use mathlib.Core.Path.{◌≡◌, refl, sym, ap, ◌∙◌}
 use mathlib.Core.Bool.{Bool, true, false}
 use mathlib.Core.Logic.{inl, inr}
 use mathlib.Core.List.{List, ◌++◌}
-use lib.Dec.{leb}
 use lib.ListN.{length, get_or, take, drop, length-map}
-use borrow.Author.Tests.{leb-true, leb-false}
 use lib.Seq.{sets-eq, get_or-take}
 use Rattle.alf.specs.declared.Sort.{Sort}
 use Rattle.alf.specs.declared.Rules.{Rules}

@@ -19,7 +19,6 @@ use Rattle.alf.specs.Bytes.{binary_byte, edge_number}
 use Rattle.alf.proofs.Outcomes.{AllFixed, at_fixed, first_fixed, comes_unique}
 use Rattle.tokens.specs.Texts.{Reads}
 use Rattle.grammar.specs.declared.Token.{Token}
-use Rattle.grammar.specs.Tokens as grammar
 use Rattle.grammar.specs.Tokens.{prefix, table, kind_in, kind}
 use Rattle.grammar.specs.Grammar.{Tree, leaf, two, three}
 use Rattle.grammar.specs.Grammar as tree

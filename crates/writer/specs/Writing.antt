@@ -5,7 +5,7 @@
 -- Row 10 is what `Accepted`, of acceptance, refuses: no tree of the sort, over 256 nodes, over 32 deep, over limit 8.
 -- A text says what was written, so limit 8 is asked without steady pins (document 02, [2]): a tree that is accepted
 -- under some rules is written.
-use Rattle.std.specs.Prelude.{ℕ, ◌/◌, ◌≤◌, ◌<◌, ◌≡◌, List, [], ◌∷◌, length, take, get_or}
+use Rattle.std.specs.Prelude.{ℕ, ◌≤◌, ◌<◌, ◌≡◌, List, [], ◌∷◌, length, take, get_or}
 use Rattle.alf.specs.Names.{names_in}
 use Rattle.alf.specs.declared.Sort.{Sort}
 use Rattle.alf.specs.Values.{old_rules_lem}

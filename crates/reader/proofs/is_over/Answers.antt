@@ -6,4 +6,4 @@ pub returns-in-Over : goal.returns-in-Over
 returns-in-Over c = over_told _ c.measure.ensures c.in-Over.is
 
 pub returns-in-Within : goal.returns-in-Within
-returns-in-Within c = within_told _ c.measure.ensures c.type_inv.tree
+returns-in-Within c = within_told _ c.measure.ensures c.in-Within.is

@@ -1,5 +1,5 @@
 -- `read_tokened` meets its contract.
-use borrow.Author.Rules.{rules}
+use borrow.Author.Tests.{not-true, not-false}
 use native.Mathlib.Omega.{arith}
 use Rattle.reader.proofs.TokenedTexts.{parse_asked, names_asked, count_small, short, five_inside}
 use Rattle.reader.proofs.TokenedTexts.{whole_five, whole_six, grown, whole_sorted}
@@ -10,12 +10,12 @@ parse-parsed-requires c = parse_asked c.requires
 
 pub refuse_token-requires : goal.refuse_token-requires
 refuse_token-requires c =
-    five_inside c.requires c.args.sort c.parse-parsed.ensures c.if-not-parsed.true
+    five_inside c.requires c.args.sort c.parse-parsed.ensures (not-true _ c.if-not-parsed.true)
 
 pub returns-then-not-parsed : goal.returns-then-not-parsed
 returns-then-not-parsed c =
     whole_five c.requires _ c.parse-parsed.ensures c.args.rules
-    c.if-not-parsed.true c.refuse_token.ensures
+    (not-true _ c.if-not-parsed.true) c.refuse_token.ensures
 
 pub first_unknown-u-requires : goal.first_unknown-u-requires
 first_unknown-u-requires c = names_asked c.requires
@@ -39,17 +39,17 @@ refuse_token-requires-then-u-count c =
 
 pub returns-then-u-count : goal.returns-then-u-count
 returns-then-u-count c =
-    whole_six c.requires _ c.parse-parsed.ensures c.if-not-parsed.false
+    whole_six c.requires _ c.parse-parsed.ensures (not-false _ c.if-not-parsed.false)
     c.first_unknown-u.ensures c.args.rules c.if-u-count.true
     c.refuse_token-then-u-count.ensures
 
 pub read_nodes-requires : goal.read_nodes-requires
 read_nodes-requires c =
-    grown c.requires c.args.sort c.parse-parsed.ensures c.if-not-parsed.false
+    grown c.requires c.args.sort c.parse-parsed.ensures (not-false _ c.if-not-parsed.false)
     c.first_unknown-u.ensures
 
 pub returns : goal.returns
 returns c =
-    whole_sorted c.requires _ c.parse-parsed.ensures c.if-not-parsed.false
+    whole_sorted c.requires _ c.parse-parsed.ensures (not-false _ c.if-not-parsed.false)
     c.first_unknown-u.ensures c.args.rules c.if-u-count.false
     c.read_nodes.ensures

@@ -22,17 +22,16 @@ returns-then-operands-l c =
     c.if-operands-l.true c.refuse-then-operands-l.ensures
 
 pub fill-requires : goal.fill-requires
-fill-requires c =
-    (
-      record {
-        ready = c.requires.0;
-        steps_room = omega (arith, c.lengths_of-l.ensures.alternatives_are, c.if-steps-l.false);
-        tests_room = omega (arith, c.lengths_of-l.ensures.steps_are, c.if-tests-l.false);
-        edges_room = omega (arith, c.lengths_of-l.ensures.tests_are, c.if-edges-l.false);
-        operands_room = omega (arith, c.lengths_of-l.ensures.tests_are, c.if-operands-l.false);
-      },
-      c.requires.1,
-    )
+fill-requires c = (
+  record {
+    ready = c.requires.0;
+    steps_room = omega (arith, c.lengths_of-l.ensures.alternatives_are, c.if-steps-l.false);
+    tests_room = omega (arith, c.lengths_of-l.ensures.steps_are, c.if-tests-l.false);
+    edges_room = omega (arith, c.lengths_of-l.ensures.tests_are, c.if-edges-l.false);
+    operands_room = omega (arith, c.lengths_of-l.ensures.tests_are, c.if-operands-l.false);
+  },
+  c.requires.1,
+)
 
 pub returns : goal.returns
 returns c =

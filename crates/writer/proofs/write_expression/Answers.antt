@@ -6,4 +6,4 @@ pub write_tree-requires : goal.write_tree-requires
 write_tree-requires c = names_passed _ c.check_names-checked.ensures c.in-Done.is
 
 pub returns-in-Refused : goal.returns-in-Refused
-returns-in-Refused c = refused_names _ c.check_names-checked.ensures c.type_inv.out
+returns-in-Refused c = refused_names _ c.check_names-checked.ensures c.in-Refused.is

@@ -32,13 +32,17 @@ put-p-requires c = going_room (begun (goal.at.put-p-requires c).Start)
 pub put_members-q-requires : goal.put_members-q-requires
 unfolding bytes
 put_members-q-requires c =
-    record { slots = c.requires.slots; room = going_room (worded (goal.at.put_members-q-requires c).Start c.put-p.ensures) }
+    let names_left = worded (goal.at.put_members-q-requires c).Start c.put-p.ensures in
+    record { slots = c.requires.slots; room = going_room names_left }
 
 pub put-requires : goal.put-requires
 unfolding bytes
-put-requires c = going_room (going_on (worded (goal.at.put-requires c).Start c.put-p.ensures) c.put_members-q.ensures)
+put-requires c =
+    let names_left = worded (goal.at.put-requires c).Start c.put-p.ensures in
+    going_room (going_on names_left c.put_members-q.ensures)
 
 pub returns : goal.returns
 unfolding bytes
 returns c =
-    going_end (going_on (going_on (worded (goal.at.returns c).Start c.put-p.ensures) c.put_members-q.ensures) c.put.ensures)
+    let names_left = worded (goal.at.returns c).Start c.put-p.ensures in
+    going_end (going_on (going_on names_left c.put_members-q.ensures) c.put.ensures)

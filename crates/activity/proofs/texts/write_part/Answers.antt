@@ -53,18 +53,23 @@ overflow_add-size c =
     )
 
 pub returns-then-out-size : goal.returns-then-out-size
-returns-then-out-size c = short (measured (goal.at.returns-then-out-size c).After-rows_size) c.if-out-size.true c.refuse.ensures
+returns-then-out-size c =
+    let here = (goal.at.returns-then-out-size c).After-rows_size in
+    short (measured here) c.if-out-size.true c.refuse.ensures
 
 pub put_opening-p-requires : goal.put_opening-p-requires
 put_opening-p-requires c =
-    record { slots = c.requires.slots; room = going_room (begun (goal.at.put_opening-p-requires c).After-rows_size c.if-out-size.false) }
+    let here = (goal.at.put_opening-p-requires c).After-rows_size in
+    record { slots = c.requires.slots; room = going_room (begun here c.if-out-size.false) }
 
 pub put_rows-requires : goal.put_rows-requires
-put_rows-requires c = record { good = c.requires; room = going_room (going_on (begun (goal.at.put_rows-requires c).After-rows_size c.if-out-size.false)
-    c.put_opening-p.ensures) }
+put_rows-requires c =
+    let here = (goal.at.put_rows-requires c).After-rows_size in
+    let at_rows = going_on (begun here c.if-out-size.false) c.put_opening-p.ensures in
+    record { good = c.requires; room = going_room at_rows }
 
 pub returns : goal.returns
 returns c =
-    delivered (measured (goal.at.returns c).After-rows_size) c.if-out-size.false
-    (going_end (going_on (going_on (begun (goal.at.returns c).After-rows_size c.if-out-size.false)
-    c.put_opening-p.ensures) c.put_rows.ensures))
+    let here = (goal.at.returns c).After-rows_size in
+    let at_rows = going_on (begun here c.if-out-size.false) c.put_opening-p.ensures in
+    delivered (measured here) c.if-out-size.false (going_end (going_on at_rows c.put_rows.ensures))

@@ -15,7 +15,7 @@ put_tries-requires c = tries_to c.requires _ c.answer_block.ensures
 
 pub returns : goal.returns
 returns c =
-    (
-      (block_filled_lem c.requires _ c.answer_block.ensures c.put_numbers.ensures c.put_tries.ensures),
-      search rules,
-    )
+    record {
+      block_filled = (block_filled_lem c.requires _ c.answer_block.ensures c.put_numbers.ensures c.put_tries.ensures);
+      cols_len_unchanged = search rules;
+    }

@@ -1,6 +1,5 @@
 -- `filling::fill_blocks` meets its contract. The loop's invariant is Filling: the rows before `from` are in both lists.
 use Prim.Native.Nat.{◌-◌}
-use borrow.Author.Rules.{rules}
 use Rattle.alf.specs.Values.{state_at}
 use Rattle.alf.specs.Alternatives.{answer_of, tries}
 use Rattle.alternatives.specs.InMemory.{alternatives_of_lem}

@@ -18,8 +18,8 @@ tally-unknown-requires c = c.requires.wide
 
 pub returns : goal.returns
 returns c =
-    (
-      (block_counted_lem c.requires _ c.answer_block.ensures c.tally-yes.ensures c.tally-no.ensures
-          c.tally-unknown.ensures),
-      search rules,
-    )
+    record {
+      block_counted = (block_counted_lem c.requires _ c.answer_block.ensures c.tally-yes.ensures c.tally-no.ensures
+          c.tally-unknown.ensures);
+      cols_len_unchanged = search rules;
+    }

@@ -1,6 +1,5 @@
 -- `totals::count_blocks` meets its contract. The loop's invariant is Counting: the totals of the rows before `from`.
 use Prim.Native.Nat.{◌-◌}
-use borrow.Author.Rules.{rules}
 use Rattle.alf.specs.Values.{state_at}
 use Rattle.alf.specs.Alternatives.{answer_of}
 use Rattle.alternatives.specs.InMemory.{alternatives_of_lem}

@@ -5,12 +5,12 @@ use Rattle.blocks.proofs.Suiting.{prepare_asked, blocks_asked_lem}
 use Rattle.block_totals.proofs.totals.count_with.Goals as goal
 
 pub prepare-many-requires : goal.prepare-many-requires
-prepare-many-requires c = prepare_asked c.requires.0.shape c.requires.1.0 c.requires.1.1
+prepare-many-requires c = prepare_asked c.requires.rows_asked.shape c.requires.suited c.requires.scratch
 
 pub count_blocks-requires : goal.count_blocks-requires
 count_blocks-requires c =
-    (
-      c.requires.0,
-      blocks_asked_lem c.requires.0.shape c.requires.1.0 c.requires.1.1 (search rules) (search rules)
-          (search rules) c.prepare-many.ensures (omega (arith, c.if-many-gt64.false)),
-    )
+    record {
+      rows_asked = c.requires.rows_asked;
+      blocks_asked = blocks_asked_lem c.requires.rows_asked.shape c.requires.suited c.requires.scratch (search rules) (search rules)
+          (search rules) c.prepare-many.ensures (omega (arith, c.if-many-gt64.false));
+    }

@@ -16,15 +16,15 @@ pub take-requires : goal.take-requires
 take-requires c = take_asked c.requires c.loop-k.invariant c.loop-k-test.true c.meet_steps.ensures
 
 pub pass-t-requires : goal.pass-t-requires
-pass-t-requires c = passing c.requires c.loop-k.inv c.loop-k-test.true (omega (arith, c.good))
+pass-t-requires c = passing c.requires c.loop-k.invariant c.loop-k-test.true (omega (arith, c.well_formed))
 
 pub overflow_add-s : goal.overflow_add-s
 overflow_add-s c =
     omega (
       arith,
-      (alternative_asked c.requires c.loop-k.inv
+      (alternative_asked c.requires c.loop-k.invariant
           c.loop-k-test.true).there,
-      c.good,
+      c.well_formed,
     )
 
 pub overflow_add-k : goal.overflow_add-k

@@ -39,7 +39,7 @@ pub overflow_cast-slots : goal.overflow_cast-slots
 overflow_cast-slots c = omega (arith, c.find-c.ensures.within, c.loop-t.invariant.few)
 
 pub bounds-slots-t : goal.bounds-slots-t
-bounds-slots-t c = slot_room c.requires c.loop-t.inv c.loop-t-test.true
+bounds-slots-t c = slot_room c.requires c.loop-t.invariant c.loop-t-test.true
 
 pub overflow_add-t : goal.overflow_add-t
 overflow_add-t c = omega (arith, c.requires.room)

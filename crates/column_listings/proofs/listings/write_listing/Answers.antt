@@ -59,7 +59,9 @@ pub overflow_add-size-2 : goal.overflow_add-size-2
 overflow_add-size-2 c = omega (arith, c.lines_size.ensures.few, c.last_size.ensures.few)
 
 pub returns-then-out-size : goal.returns-then-out-size
-returns-then-out-size c = short (measured (goal.at.returns-then-out-size c).After-last_size) c.if-out-size.true c.refuse.ensures
+returns-then-out-size c =
+    let here = (goal.at.returns-then-out-size c).After-last_size in
+    short (measured here) c.if-out-size.true c.refuse.ensures
 
 pub put-p-requires : goal.put-p-requires
 unfolding bytes
@@ -68,17 +70,21 @@ put-p-requires c = going_room (begun (goal.at.put-p-requires c).After-last_size 
 pub put_lines-q-requires : goal.put_lines-q-requires
 unfolding highest bytes
 put_lines-q-requires c =
-    record { listable = c.requires; room = going_room (headed (goal.at.put_lines-q-requires c).After-last_size c.if-out-size.false c.put-p.ensures) }
+    let here = (goal.at.put_lines-q-requires c).After-last_size in
+    let lines_left = headed here c.if-out-size.false c.put-p.ensures in
+    record { listable = c.requires; room = going_room lines_left }
 
 pub put_last-requires : goal.put_last-requires
 unfolding bytes highest
-put_last-requires c = going_room (going_on (headed (goal.at.put_last-requires c).After-last_size c.if-out-size.false c.put-p.ensures)
-    c.put_lines-q.ensures)
+put_last-requires c =
+    let here = (goal.at.put_last-requires c).After-last_size in
+    let lines_left = headed here c.if-out-size.false c.put-p.ensures in
+    going_room (going_on lines_left c.put_lines-q.ensures)
 
 pub returns : goal.returns
 unfolding bytes highest
 returns c =
-    let fits = c.if-out-size.false in
-    delivered (measured (goal.at.returns c).After-last_size) fits
-    (going_end (going_on (going_on (headed (goal.at.returns c).After-last_size c.if-out-size.false c.put-p.ensures)
-    c.put_lines-q.ensures) c.put_last.ensures))
+    let here = (goal.at.returns c).After-last_size in
+    let lines_left = headed here c.if-out-size.false c.put-p.ensures in
+    let last_left = going_on lines_left c.put_lines-q.ensures in
+    delivered (measured here) c.if-out-size.false (going_end (going_on last_left c.put_last.ensures))

@@ -41,7 +41,9 @@ pub overflow_add-size : goal.overflow_add-size
 overflow_add-size c = omega (arith, c.lines_size-size.ensures.few)
 
 pub returns-then-out-size : goal.returns-then-out-size
-returns-then-out-size c = short (measured (goal.at.returns-then-out-size c).After-lines_size-size) c.if-out-size.true c.refuse.ensures
+returns-then-out-size c =
+    let here = (goal.at.returns-then-out-size c).After-lines_size-size in
+    short (measured here) c.if-out-size.true c.refuse.ensures
 
 pub put-p-requires : goal.put-p-requires
 unfolding bytes
@@ -50,10 +52,13 @@ put-p-requires c = going_room (begun (goal.at.put-p-requires c).After-lines_size
 pub put_lines-requires : goal.put_lines-requires
 unfolding highest bytes
 put_lines-requires c =
-    record { listable = c.requires; room = going_room (headed (goal.at.put_lines-requires c).After-lines_size-size c.if-out-size.false c.put-p.ensures) }
+    let here = (goal.at.put_lines-requires c).After-lines_size-size in
+    let lines_left = headed here c.if-out-size.false c.put-p.ensures in
+    record { listable = c.requires; room = going_room lines_left }
 
 pub returns : goal.returns
 unfolding bytes
 returns c =
-    let fits = c.if-out-size.false in
-    delivered (measured (goal.at.returns c).After-lines_size-size) fits (going_end (going_on (headed (goal.at.returns c).After-lines_size-size c.if-out-size.false c.put-p.ensures) c.put_lines.ensures))
+    let here = (goal.at.returns c).After-lines_size-size in
+    let lines_left = headed here c.if-out-size.false c.put-p.ensures in
+    delivered (measured here) c.if-out-size.false (going_end (going_on lines_left c.put_lines.ensures))

@@ -7,7 +7,7 @@ use Rattle.figures.specs.Numbers.{decimal}
 use Rattle.listing.specs.Listing.{last_line}
 use Rattle.column_listings.proofs.LastLine.{last_start}
 use Rattle.column_listings.proofs.totals.put_last.Goals as goal
-use Rattle.column_listings.proofs.totals.put_last.Goals.{Start, After-put-p, After-put_decimal_then-q, After-put_decimal_then-r}
+use Rattle.column_listings.proofs.totals.put_last.Goals.{Start}
 
 -- of the line, what is left
 abbrev Left : Start → List (List ℕ) → List ℕ → ℕ → Type 0
@@ -27,41 +27,40 @@ begun : (s : Start) → Left s (bytes "yes " ∷ yeses s) s.args.out.now s.args.
 begun s =
     last_start s.args.t.yes s.args.t.no s.args.t.unknown s.args.out.now s.args.at s.requires
 
-at_yeses : (c : After-put-p) → Left c.before.before.before.before.before (yeses c.before.before.before.before.before) c.put-p.new.out c.put-p.result
-unfolding bytes
-at_yeses c = going_on (begun c.before.before.before.before.before) c.put-p.ensures
-
-at_noes : (c : After-put_decimal_then-q)
-    → Left c.before.before.before.before.before.before.before.before.before.before.before (noes c.before.before.before.before.before.before.before.before.before.before.before) c.put_decimal_then-q.new.out c.put_decimal_then-q.result
-unfolding bytes
-at_noes c =
-    going_on (going_two (at_yeses c.before.before.before.before.before.before)) c.put_decimal_then-q.ensures
-
-at_unknowns : (c : After-put_decimal_then-r)
-    → Left c.before.before.before.before.before.before.before.before.before.before.before.before.before.before.before.before.before (unknowns c.before.before.before.before.before.before.before.before.before.before.before.before.before.before.before.before.before) c.put_decimal_then-r.new.out c.put_decimal_then-r.result
-unfolding bytes
-at_unknowns c =
-    going_on (going_two (at_noes c.before.before.before.before.before.before))
-    c.put_decimal_then-r.ensures
-
 pub put-p-requires : goal.put-p-requires
 unfolding bytes
 put-p-requires c = going_room (begun (goal.at.put-p-requires c).Start)
 
 pub put_decimal_then-q-requires : goal.put_decimal_then-q-requires
 unfolding bytes
-put_decimal_then-q-requires c = going_room (going_two (at_yeses (goal.at.put_decimal_then-q-requires c).After-put-p))
+put_decimal_then-q-requires c =
+    let start = begun (goal.at.put_decimal_then-q-requires c).Start in
+    let at_yeses = going_on start c.put-p.ensures in
+    going_room (going_two at_yeses)
 
 pub put_decimal_then-r-requires : goal.put_decimal_then-r-requires
 unfolding bytes
-put_decimal_then-r-requires c = going_room (going_two (at_noes (goal.at.put_decimal_then-r-requires c).After-put_decimal_then-q))
+put_decimal_then-r-requires c =
+    let start = begun (goal.at.put_decimal_then-r-requires c).Start in
+    let at_yeses = going_on start c.put-p.ensures in
+    let at_noes = going_on (going_two at_yeses) c.put_decimal_then-q.ensures in
+    going_room (going_two at_noes)
 
 pub put_decimal_then-requires : goal.put_decimal_then-requires
 unfolding bytes
-put_decimal_then-requires c = going_room (going_two (at_unknowns (goal.at.put_decimal_then-requires c).After-put_decimal_then-r))
+put_decimal_then-requires c =
+    let start = begun (goal.at.put_decimal_then-requires c).Start in
+    let at_yeses = going_on start c.put-p.ensures in
+    let at_noes = going_on (going_two at_yeses) c.put_decimal_then-q.ensures in
+    let at_unknowns = going_on (going_two at_noes) c.put_decimal_then-r.ensures in
+    going_room (going_two at_unknowns)
 
 pub returns : goal.returns
 unfolding bytes
 returns c =
-    going_end (going_on (going_two (at_unknowns (goal.at.returns c).After-put_decimal_then-r))
+    let start = begun (goal.at.returns c).Start in
+    let at_yeses = going_on start c.put-p.ensures in
+    let at_noes = going_on (going_two at_yeses) c.put_decimal_then-q.ensures in
+    let at_unknowns = going_on (going_two at_noes) c.put_decimal_then-r.ensures in
+    going_end (going_on (going_two at_unknowns)
     c.put_decimal_then.ensures)

@@ -1,3 +1,5 @@
+use Rattle.std.proofs.Common.{ap}
+use Rattle.std.proofs.Math.Bool.{not}
 use Prim.Native.Nat.{◌+◌}
 use native.Mathlib.Omega.{arith}
 use Rattle.contradictions.proofs.RowsOf.{rowing_first, rowing_found, rowing_next, rowing_last}
@@ -21,7 +23,7 @@ pub returns-then-not-row_possible : goal.returns-then-not-row_possible
 returns-then-not-row_possible c =
     let h = c.requires in
     rowing_found _ _ _ _ _ h.0.there c.loop-j.invariant c.loop-j-test.true c.row_possible.ensures
-    c.if-not-row_possible.true
+    (ap not c.if-not-row_possible.true)
 
 pub overflow_add-at : goal.overflow_add-at
 overflow_add-at c =
@@ -32,7 +34,7 @@ pub loop-j-preserved : goal.loop-j-preserved
 loop-j-preserved c =
     let h = c.requires in
     rowing_next _ _ _ _ _ h.0.there c.loop-j.invariant c.loop-j-test.true c.row_possible.ensures
-    c.if-not-row_possible.false
+    (ap not c.if-not-row_possible.false)
 
 pub row_possible-requires-2 : goal.row_possible-requires-2
 row_possible-requires-2 c =

@@ -1,3 +1,5 @@
+use Rattle.std.proofs.Common.{ap}
+use Rattle.std.proofs.Math.Bool.{not}
 use Prim.Native.Nat.{◌+◌}
 use native.Mathlib.Omega.{arith}
 use Rattle.contradictions.proofs.Allowing.{allowing_first, allowing_no, allowing_next, allowing_end}
@@ -18,12 +20,12 @@ test_allows-requires c = test_plain c.requires c.loop-i.invariant c.loop-i-test.
 pub returns-then-not-test_allows : goal.returns-then-not-test_allows
 returns-then-not-test_allows c =
     allowing_no c.requires c.loop-i.invariant c.loop-i-test.true
-    c.test_allows.ensures c.if-not-test_allows.true
+    c.test_allows.ensures (ap not c.if-not-test_allows.true)
 
 pub loop-i-preserved : goal.loop-i-preserved
 loop-i-preserved c =
     allowing_next c.requires c.loop-i.invariant c.loop-i-test.true
-    c.test_allows.ensures c.if-not-test_allows.false
+    c.test_allows.ensures (ap not c.if-not-test_allows.false)
 
 pub returns : goal.returns
 returns c = allowing_end c.requires c.loop-i.invariant c.loop-i-test.false

@@ -6,8 +6,4 @@ pub flag_all-requires : goal.flag_all-requires
 flag_all-requires c = reported c.requires
 
 pub returns : goal.returns
-returns c =
-    let start =
-    c
-    in
-    flagged_own start.pre c.flag_all.ensures
+returns c = flagged_own c.requires c.flag_all.ensures

@@ -10,8 +10,7 @@ overflow_add-w c =
     omega (arith, c.loop-m.invariant, width_word c.args.n c.ranges.n, width_some c.loop-m.m)
 
 pub loop-m-preserved : goal.loop-m-preserved
-loop-m-preserved c =
-    (
+loop-m-preserved c = (
   omega arith,
   omega (arith, c.loop-m.invariant),
   omega (

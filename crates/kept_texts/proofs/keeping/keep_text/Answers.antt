@@ -6,24 +6,19 @@ use Rattle.text_laws.proofs.ReadTrees.{Found, read_found, found_within, found_co
 use Rattle.kept_texts.proofs.TextPins.{keep_refused, keep_18, keep_marked}
 use Rattle.kept_texts.proofs.keeping.keep_text.Goals as goal
 
--- what is read, where it is not refused
-found : (c : goal.After-read_expression-read) → c.read_expression-read.result.refused ≡ false
-    → Found c.args.rules c.args.names.now c.args.text.now c.args.sort c.read_expression-read.result
-found c = read_found c.read_expression-read.ensures
-
 pub returns-then-no : goal.returns-then-no
 returns-then-no c = keep_refused c.read_expression-read.ensures c.if-no.true
 
 pub returns-then-kept-count : goal.returns-then-kept-count
 returns-then-kept-count c =
-    keep_18 (found c.before.before.before c.if-no.false) c.if-kept-count.true c.refuse.ensures
+    keep_18 (read_found c.read_expression-read.ensures c.if-no.false) c.if-kept-count.true c.refuse.ensures
 
 pub slice_bounds-tree-end : goal.slice_bounds-tree-end
-slice_bounds-tree-end c = found_within (found c.before.before.before c.if-no.false)
+slice_bounds-tree-end c = found_within (read_found c.read_expression-read.ensures c.if-no.false)
 
 pub slice_bounds-mark_names-end : goal.slice_bounds-mark_names-end
-slice_bounds-mark_names-end c = found_count (found c.before.before.before.before c.if-no.false)
+slice_bounds-mark_names-end c = found_count (read_found c.read_expression-read.ensures c.if-no.false)
 
 pub returns : goal.returns
 returns c =
-    keep_marked (found c.before.before.before.before.before.before.before.before c.if-no.false) c.if-kept-count.false c.mark_names.ensures
+    keep_marked (read_found c.read_expression-read.ensures c.if-no.false) c.if-kept-count.false c.mark_names.ensures

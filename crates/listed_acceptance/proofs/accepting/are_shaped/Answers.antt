@@ -1,4 +1,6 @@
 -- `accepting::are_shaped` meets its contract.
+use mathlib.Core.Path.{ap}
+use mathlib.Core.Bool.{not}
 use native.Mathlib.Omega.{arith}
 use Rattle.basics.specs.Deciding.{Decides}
 use Rattle.basics.proofs.Deciding.{said, decided_no, told, same_decided}
@@ -20,28 +22,28 @@ pub returns-then-not-are_stepped : goal.returns-then-not-are_stepped
 unfolding Decides
 returns-then-not-are_stepped c =
     λ s.
-    decided_no c.are_stepped.result c.are_stepped.ensures c.if-not-are_stepped.true s.stepped
+    decided_no c.are_stepped.result c.are_stepped.ensures (ap not c.if-not-are_stepped.true) s.stepped
 
 pub returns-then-not-sums_to : goal.returns-then-not-sums_to
 unfolding Decides
 returns-then-not-sums_to c =
     λ s.
-    decided_no c.sums_to.result c.sums_to.ensures c.if-not-sums_to.true s.all_steps
+    decided_no c.sums_to.result c.sums_to.ensures (ap not c.if-not-sums_to.true) s.all_steps
 
 pub returns-then-not-sums_to-2 : goal.returns-then-not-sums_to-2
 unfolding Decides
 returns-then-not-sums_to-2 c =
     λ s.
-    decided_no c.sums_to-2.result c.sums_to-2.ensures c.if-not-sums_to-2.true s.all_tests_lem
+    decided_no c.sums_to-2.result c.sums_to-2.ensures (ap not c.if-not-sums_to-2.true) s.all_tests_lem
 
 pub are_light-requires : goal.are_light-requires
-are_light-requires c = omega (arith, told _ c.sums_to.ensures (said _ c.if-not-sums_to.false))
+are_light-requires c = omega (arith, told _ c.sums_to.ensures (said _ (ap not c.if-not-sums_to.false)))
 
 pub returns : goal.returns
 returns c =
-    let stepped = told _ c.are_stepped.ensures (said _ c.if-not-are_stepped.false) in
-    let steps = told _ c.sums_to.ensures (said _ c.if-not-sums_to.false) in
-    let tests = told _ c.sums_to-2.ensures (said _ c.if-not-sums_to-2.false) in
+    let stepped = told _ c.are_stepped.ensures (said _ (ap not c.if-not-are_stepped.false)) in
+    let steps = told _ c.sums_to.ensures (said _ (ap not c.if-not-sums_to.false)) in
+    let tests = told _ c.sums_to-2.ensures (said _ (ap not c.if-not-sums_to-2.false)) in
     same_decided _ _ _
     (λ l. record {
       some = omega (arith, c.if-steps-eq0.false);

@@ -1,3 +1,5 @@
+use mathlib.Core.Path.{ap}
+use mathlib.Core.Bool.{not}
 use native.Mathlib.Omega.{arith}
 use Rattle.basics.specs.Deciding.{Decides}
 use Rattle.basics.proofs.Deciding.{said, decided_no, told}
@@ -19,14 +21,14 @@ unfolding Decides
 returns-then-not-few_tests c =
     λ h.
     lighting_over c.loop-i.invariant (omega arith)
-    (decided_no c.few_tests.result c.few_tests.ensures c.if-not-few_tests.true) h
+    (decided_no c.few_tests.result c.few_tests.ensures (ap not c.if-not-few_tests.true)) h
 
 pub overflow_add-s : goal.overflow_add-s
 overflow_add-s c = omega (arith, lighting_room c.loop-i.invariant (omega arith) c.requires)
 
 pub loop-i-preserved : goal.loop-i-preserved
 loop-i-preserved c =
-    let few = told _ c.few_tests.ensures (said _ c.if-not-few_tests.false) in
+    let few = told _ c.few_tests.ensures (said _ (ap not c.if-not-few_tests.false)) in
     lighting_next c.loop-i.invariant (omega arith) few
 
 pub returns : goal.returns

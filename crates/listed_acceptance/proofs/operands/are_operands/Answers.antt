@@ -1,3 +1,5 @@
+use mathlib.Core.Path.{ap}
+use mathlib.Core.Bool.{not}
 use native.Mathlib.Omega.{arith}
 use Rattle.basics.specs.Deciding.{Decides}
 use Rattle.listed_acceptance.specs.Lists.{Operand}
@@ -15,13 +17,13 @@ pub returns-then-not-is_operand : goal.returns-then-not-is_operand
 unfolding Decides
 returns-then-not-is_operand c =
     λ h.
-    decided_no c.is_operand.result c.is_operand.ensures c.if-not-is_operand.true
+    decided_no c.is_operand.result c.is_operand.ensures (ap not c.if-not-is_operand.true)
     (h c.loop-i.i (omega arith))
 
 pub loop-i-preserved : goal.loop-i-preserved
 loop-i-preserved c =
     let a = c.args in
-    let o = told _ c.is_operand.ensures (said _ c.if-not-is_operand.false) in
+    let o = told _ c.is_operand.ensures (said _ (ap not c.if-not-is_operand.false)) in
     (omega arith, upto_more (Operand a.tree.now a.names) a.operands.now c.loop-i.i c.loop-i.invariant.1 o)
 
 pub returns : goal.returns

@@ -7,7 +7,7 @@ use Rattle.figures.specs.Numbers.{decimal}
 use Rattle.listing.specs.Listing.{word_of, line}
 use Rattle.listing.proofs.RowByRow.{line_start}
 use Rattle.listing.proofs.lines.put_line.Goals as goal
-use Rattle.listing.proofs.lines.put_line.Goals.{Start, After-put_decimal_then-p, After-put_code-q}
+use Rattle.listing.proofs.lines.put_line.Goals.{Start}
 
 -- of the line, what is left
 abbrev Left : Start → List (List ℕ) → List ℕ → ℕ → Type 0
@@ -20,28 +20,29 @@ begun s =
     going_two (line_start s.args.column s.args.time.0 s.args.a s.args.out.now s.args.at
     s.requires.room)
 
-timed : (c : After-put_decimal_then-p)
-    → Left c.before.before.before.before.before (word_of c.args.column c.args.a ∷ bytes "\n" ∷ [])
-    c.put_decimal_then-p.new.out c.put_decimal_then-p.result
-unfolding bytes
-timed c = going_on (begun c.before.before.before.before.before) c.put_decimal_then-p.ensures
-
-worded : (c : After-put_code-q)
-    → Left c.before.before.before.before.before.before.before.before.before (bytes "\n" ∷ []) c.put_code-q.new.out c.put_code-q.result
-worded c = going_on (timed c.before.before.before.before) c.put_code-q.ensures
-
 pub put_decimal_then-p-requires : goal.put_decimal_then-p-requires
 unfolding bytes
 put_decimal_then-p-requires c = going_room (begun (goal.at.put_decimal_then-p-requires c).Start)
 
 pub put_code-q-requires : goal.put_code-q-requires
+unfolding bytes
 put_code-q-requires c =
-    record { known = c.requires.known; room = going_room (timed (goal.at.put_code-q-requires c).After-put_decimal_then-p) }
+    let start = begun (goal.at.put_code-q-requires c).Start in
+    let timed = going_on start c.put_decimal_then-p.ensures in
+    record { known = c.requires.known; room = going_room timed }
 
 pub push-requires : goal.push-requires
 unfolding bytes
-push-requires c = going_byte (worded (goal.at.push-requires c).After-put_code-q)
+push-requires c =
+    let start = begun (goal.at.push-requires c).Start in
+    let timed = going_on start c.put_decimal_then-p.ensures in
+    let worded = going_on timed c.put_code-q.ensures in
+    going_byte worded
 
 pub returns : goal.returns
 unfolding bytes
-returns c = going_end (going_on (worded (goal.at.returns c).After-put_code-q) c.push.ensures)
+returns c =
+    let start = begun (goal.at.returns c).Start in
+    let timed = going_on start c.put_decimal_then-p.ensures in
+    let worded = going_on timed c.put_code-q.ensures in
+    going_end (going_on worded c.push.ensures)

@@ -5,19 +5,19 @@ use Rattle.matching_calls.proofs.matching.lists_are.Goals as goal
 
 pub returns-then-times-n : goal.returns-then-times-n
 unfolding Decides
-returns-then-times-n c = c.if-times-n.true s.times_all
+returns-then-times-n c = λ s. c.if-times-n.true s.times_all
 
 pub returns-then-answers-n : goal.returns-then-answers-n
 unfolding Decides
-returns-then-answers-n c = c.if-answers-n.true s.answers_all
+returns-then-answers-n c = λ s. c.if-answers-n.true s.answers_all
 
 pub returns-then-tried-n : goal.returns-then-tried-n
 unfolding Decides
-returns-then-tried-n c = c.if-tried-n.true s.tried_all
+returns-then-tried-n c = λ s. c.if-tried-n.true s.tried_all
 
 pub returns-then-given-n : goal.returns-then-given-n
 unfolding Decides
-returns-then-given-n c = c.if-given-n.true s.given_all
+returns-then-given-n c = λ s. c.if-given-n.true s.given_all
 
 pub returns : goal.returns
 returns c =

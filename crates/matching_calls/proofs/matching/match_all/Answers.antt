@@ -13,7 +13,7 @@ pub returns-in-Refused : goal.returns-in-Refused
 returns-in-Refused c =
     let args = c.args in
     all_refused args.answers.now args.tried.now args.given.now args.began.now
-    c.lists_are-lent.ensures c.check_timed-v.ensures c.type_inv.began
+    c.lists_are-lent.ensures c.check_timed-v.ensures c.in-Refused.is
 
 pub returns-in-Good : goal.returns-in-Good
 returns-in-Good c =

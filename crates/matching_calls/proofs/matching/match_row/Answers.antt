@@ -6,7 +6,7 @@ pub match_tree-requires : goal.match_tree-requires
 match_tree-requires c = match_asked c.check_timed_row-v.ensures c.in-Good.is
 
 pub returns-in-Refused : goal.returns-in-Refused
-returns-in-Refused c = match_refused c.check_timed_row-v.ensures c.type_inv.states
+returns-in-Refused c = match_refused c.check_timed_row-v.ensures c.in-Refused.is
 
 pub returns-in-Good : goal.returns-in-Good
 returns-in-Good c =

@@ -6,7 +6,7 @@ pub total_tree-requires : goal.total_tree-requires
 total_tree-requires c = totals_asked c.check_rows-v.ensures c.in-Good.is
 
 pub returns-in-Refused : goal.returns-in-Refused
-returns-in-Refused c = totals_refused c.check_rows-v.ensures c.type_inv.states
+returns-in-Refused c = totals_refused c.check_rows-v.ensures c.in-Refused.is
 
 pub returns-in-Good : goal.returns-in-Good
 returns-in-Good c =

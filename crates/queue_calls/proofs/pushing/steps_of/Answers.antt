@@ -12,4 +12,4 @@ returns-in-Over c = steps_over _ (accepted_limited _ _ c.requires) c.measure-siz
 
 pub returns-in-Within : goal.returns-in-Within
 returns-in-Within c =
-    steps_within _ (accepted_limited _ _ c.requires) c.measure-size.ensures c.type_inv.tree
+    steps_within _ (accepted_limited _ _ c.requires) c.measure-size.ensures c.in-Within.is

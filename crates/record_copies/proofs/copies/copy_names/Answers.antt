@@ -45,13 +45,12 @@ put_slot-at-requires c =
     c.byte_at.ensures c.loop-i.invariant.2 c.requires.room
 
 pub loop-i-preserved : goal.loop-i-preserved
-loop-i-preserved c =
-    (
-      search rules,
-      next_name _ _ c.loop-i.invariant.1 c.byte_at.ensures,
-      names_put _ c.requires.names _ c.loop-i-test.true c.loop-i.invariant.1
-          c.byte_at.ensures c.loop-i.invariant.2 c.put_slot-at.ensures,
-    )
+loop-i-preserved c = (
+  search rules,
+  next_name _ _ c.loop-i.invariant.1 c.byte_at.ensures,
+  names_put _ c.requires.names _ c.loop-i-test.true c.loop-i.invariant.1
+      c.byte_at.ensures c.loop-i.invariant.2 c.put_slot-at.ensures,
+)
 
 pub shape_of-out : goal.shape_of-out
 shape_of-out c = put_length c.loop-i.invariant.2

@@ -39,7 +39,8 @@ pub overflow_add-q : goal.overflow_add-q
 overflow_add-q c = omega (arith, c.if-w-eq4.true, there (goal.at.overflow_add-q c).After-width_at-w)
 
 pub overflow_add-q-then-w-eq4 : goal.overflow_add-q-then-w-eq4
-overflow_add-q-then-w-eq4 c = omega (arith, c.if-w-eq4.true, there (goal.at.overflow_add-q-then-w-eq4 c).After-width_at-w)
+overflow_add-q-then-w-eq4 c =
+    omega (arith, c.if-w-eq4.true, there (goal.at.overflow_add-q-then-w-eq4 c).After-width_at-w)
 
 pub loop-r-preserved-then-w-eq4 : goal.loop-r-preserved-then-w-eq4
 loop-r-preserved-then-w-eq4 c =

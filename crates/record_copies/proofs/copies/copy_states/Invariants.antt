@@ -4,14 +4,6 @@ use Prim.Native.Nat.{◌-◌, ◌≤◌}
 use Rattle.basics.specs.Memory.{Put}
 use Rattle.trace_format.specs.Records.{place}
 use Rattle.record_copies.specs.HeldLists.{states_of}
-use Rattle.record_copies.proofs.Copying.{
-  row_marked,
-  row_there,
-  row_next,
-  codes_fit,
-  states_put,
-  states_length,
-}
 use Rattle.record_copies.proofs.copies.copy_states.Given as goal
 
 abbrev pub invariant-loop-r : goal.invariant-loop-r

@@ -4,7 +4,7 @@ use Rattle.alf.specs.Windows.{numbered}
 use Rattle.row_calls.proofs.windows.answer_tree.Goals as goal
 
 pub answer-rank-requires : goal.answer-rank-requires
-answer-rank-requires c = (c.requires.ends, c.requires.there)
+answer-rank-requires c = record { pattern = c.requires.ends; within = c.requires.there }
 
 pub returns : goal.returns
 returns c = c.name_of.ensures ∙ ap numbered c.answer-rank.ensures

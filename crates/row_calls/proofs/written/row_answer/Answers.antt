@@ -6,10 +6,10 @@ pub row_answer-requires : goal.row_answer-requires
 row_answer-requires c =
     let k = c.check_row-v.ensures in
     let g = c.in-Good.is in
-    (pattern_there k g, row_there k g)
+    record { pattern = pattern_there k g; within = row_there k g }
 
 pub returns-in-Refused : goal.returns-in-Refused
-returns-in-Refused c = answer_refused c.check_row-v.ensures c.type_inv.states
+returns-in-Refused c = answer_refused c.check_row-v.ensures c.in-Refused.is
 
 pub returns-in-Good : goal.returns-in-Good
 returns-in-Good c =

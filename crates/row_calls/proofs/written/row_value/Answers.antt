@@ -6,10 +6,10 @@ pub value-s-requires : goal.value-s-requires
 value-s-requires c =
     let k = c.check_row-v.ensures in
     let g = c.in-Good.is in
-    (boolean_ends k g, row_there k g)
+    record { ends_boolean = boolean_ends k g; within = row_there k g }
 
 pub returns-in-Refused : goal.returns-in-Refused
-returns-in-Refused c = value_refused c.check_row-v.ensures c.type_inv.states
+returns-in-Refused c = value_refused c.check_row-v.ensures c.in-Refused.is
 
 pub returns-in-Good : goal.returns-in-Good
 returns-in-Good c =

@@ -18,15 +18,15 @@ returns-then-not-bit_of c = member_none _ _ _ c.bit_of.ensures c.if-not-bit_of.t
 
 pub push-p-requires : goal.push-p-requires
 push-p-requires c =
-    blank_fits _ _ _ c.bit_of.ensures (set (goal.at.push-p-requires c).After-name_len-n) (named (goal.at.push-p-requires c).After-name_len-n)
-    c.args.out.now c.requires.room
+    let here = (goal.at.push-p-requires c).After-name_len-n in
+    blank_fits _ _ _ c.bit_of.ensures (set here) (named here) c.args.out.now c.requires.room
 
 pub put-requires : goal.put-requires
 put-requires c =
-    name_fits _ _ _ c.bit_of.ensures (set (goal.at.put-requires c).After-name_len-n) (named (goal.at.put-requires c).After-name_len-n) _ c.push-p.ensures
-    c.requires.room
+    let here = (goal.at.put-requires c).After-name_len-n in
+    name_fits _ _ _ c.bit_of.ensures (set here) (named here) _ c.push-p.ensures c.requires.room
 
 pub returns : goal.returns
 returns c =
-    member_one _ _ _ c.bit_of.ensures (set (goal.at.returns c).After-name_len-n) (named (goal.at.returns c).After-name_len-n) _ c.push-p.ensures
-    c.put.ensures
+    let here = (goal.at.returns c).After-name_len-n in
+    member_one _ _ _ c.bit_of.ensures (set here) (named here) _ c.push-p.ensures c.put.ensures

@@ -40,52 +40,55 @@ put_decimal-timed-requires c = going_room (begun (goal.at.put_decimal-timed-requ
 
 pub put_letters-lettered-requires : goal.put_letters-lettered-requires
 put_letters-lettered-requires c =
-    record {
-      there = c.requires.row.inside.room;
-      known = c.requires.known;
-      room = going_room (going_on (begun (goal.at.put_letters-lettered-requires c).After-of_row-c)
-    c.put_decimal-timed.ensures);
-    }
+    let start = begun (goal.at.put_letters-lettered-requires c).After-of_row-c in
+    let timed = going_on start c.put_decimal-timed.ensures in
+    record { there = c.requires.row.inside.room; known = c.requires.known; room = going_room timed }
 
 pub push-parted-requires : goal.push-parted-requires
 unfolding bytes
-push-parted-requires c = going_byte (going_on (going_on (begun (goal.at.push-parted-requires c).After-of_row-c)
-    c.put_decimal-timed.ensures)
-    c.put_letters-lettered.ensures)
+push-parted-requires c =
+    let start = begun (goal.at.push-parted-requires c).After-of_row-c in
+    let timed = going_on start c.put_decimal-timed.ensures in
+    let lettered = going_on timed c.put_letters-lettered.ensures in
+    going_byte lettered
 
 pub put_decimal-counted-requires : goal.put_decimal-counted-requires
 unfolding bytes
-put_decimal-counted-requires c = going_room (going_on (going_on (going_on (begun (goal.at.put_decimal-counted-requires c).After-of_row-c)
-    c.put_decimal-timed.ensures)
-    c.put_letters-lettered.ensures)
-    c.push-parted.ensures)
+put_decimal-counted-requires c =
+    let start = begun (goal.at.put_decimal-counted-requires c).After-of_row-c in
+    let timed = going_on start c.put_decimal-timed.ensures in
+    let lettered = going_on timed c.put_letters-lettered.ensures in
+    let parted = going_on lettered c.push-parted.ensures in
+    going_room parted
 
 pub put_members-told-requires : goal.put_members-told-requires
 unfolding bytes
 put_members-told-requires c =
-    record {
-      slots = c.requires.row.slots;
-      room = going_room (going_on (going_on (going_on (going_on (begun (goal.at.put_members-told-requires c).After-of_row-c)
-    c.put_decimal-timed.ensures)
-    c.put_letters-lettered.ensures)
-    c.push-parted.ensures)
-    c.put_decimal-counted.ensures);
-    }
+    let start = begun (goal.at.put_members-told-requires c).After-of_row-c in
+    let timed = going_on start c.put_decimal-timed.ensures in
+    let lettered = going_on timed c.put_letters-lettered.ensures in
+    let parted = going_on lettered c.push-parted.ensures in
+    let counted = going_on parted c.put_decimal-counted.ensures in
+    record { slots = c.requires.row.slots; room = going_room counted }
 
 pub push-requires : goal.push-requires
 unfolding bytes
-push-requires c = going_byte (going_on (going_on (going_on (going_on (going_on (begun (goal.at.push-requires c).After-of_row-c)
-    c.put_decimal-timed.ensures)
-    c.put_letters-lettered.ensures)
-    c.push-parted.ensures)
-    c.put_decimal-counted.ensures)
-    c.put_members-told.ensures)
+push-requires c =
+    let start = begun (goal.at.push-requires c).After-of_row-c in
+    let timed = going_on start c.put_decimal-timed.ensures in
+    let lettered = going_on timed c.put_letters-lettered.ensures in
+    let parted = going_on lettered c.push-parted.ensures in
+    let counted = going_on parted c.put_decimal-counted.ensures in
+    let told = going_on counted c.put_members-told.ensures in
+    going_byte told
 
 pub returns : goal.returns
 unfolding bytes
-returns c = going_end (going_on (going_on (going_on (going_on (going_on (going_on (begun (goal.at.returns c).After-of_row-c)
-    c.put_decimal-timed.ensures)
-    c.put_letters-lettered.ensures)
-    c.push-parted.ensures)
-    c.put_decimal-counted.ensures)
-    c.put_members-told.ensures) c.push.ensures)
+returns c =
+    let start = begun (goal.at.returns c).After-of_row-c in
+    let timed = going_on start c.put_decimal-timed.ensures in
+    let lettered = going_on timed c.put_letters-lettered.ensures in
+    let parted = going_on lettered c.push-parted.ensures in
+    let counted = going_on parted c.put_decimal-counted.ensures in
+    let told = going_on counted c.put_members-told.ensures in
+    going_end (going_on told c.push.ensures)

@@ -8,7 +8,7 @@ use Rattle.figures.proofs.Delivering.{short, delivered}
 use Rattle.table_lines.specs.Table.{plain, ended}
 use Rattle.table_lines.proofs.LineEnds.{ended_size, ended_start}
 use Rattle.table_lines.proofs.lines.finish.Goals as goal
-use Rattle.table_lines.proofs.lines.finish.Goals.{Start, After-put-p, After-put_plain-q}
+use Rattle.table_lines.proofs.lines.finish.Goals.{Start}
 
 -- of the line, what is left
 abbrev Left : Start → List (List ℕ) → List ℕ → ℕ → Type 0
@@ -19,14 +19,6 @@ begun : (s : Start) → length s.args.columns.now + length s.args.pattern.now + 
     → Left s (s.args.columns.now ∷ map plain s.args.pattern.now ∷ bytes "\n" ∷ []) s.args.out.now 0
 begun s = ended_start s.args.columns.now s.args.pattern.now s.args.out.now
 
-at_pattern : (c : After-put-p)
-    → Left c.before.before.before.before.before.before (map plain c.args.pattern.now ∷ bytes "\n" ∷ []) c.put-p.new.out c.put-p.result
-at_pattern c = going_on (begun c.before.before.before.before.before.before c.if-out-size.false) c.put-p.ensures
-
-at-end : (c : After-put_plain-q)
-    → Left c.before.before.before.before.before.before.before.before.before.before (bytes "\n" ∷ []) c.put_plain-q.new.out c.put_plain-q.result
-at-end c = going_on (at_pattern c.before.before.before.before) c.put_plain-q.ensures
-
 pub returns-then-out-size : goal.returns-then-out-size
 returns-then-out-size c =
     short (ended_size c.args.columns.now c.args.pattern.now) c.if-out-size.true c.refuse.ensures
@@ -35,15 +27,24 @@ pub put-p-requires : goal.put-p-requires
 put-p-requires c = going_room (begun (goal.at.put-p-requires c).Start c.if-out-size.false)
 
 pub put_plain-q-requires : goal.put_plain-q-requires
-put_plain-q-requires c = going_room (at_pattern (goal.at.put_plain-q-requires c).After-put-p)
+put_plain-q-requires c =
+    let start = begun (goal.at.put_plain-q-requires c).Start c.if-out-size.false in
+    let at_pattern = going_on start c.put-p.ensures in
+    going_room at_pattern
 
 pub push-requires : goal.push-requires
 unfolding bytes
-push-requires c = going_byte (at-end (goal.at.push-requires c).After-put_plain-q)
+push-requires c =
+    let start = begun (goal.at.push-requires c).Start c.if-out-size.false in
+    let at_pattern = going_on start c.put-p.ensures in
+    let at-end = going_on at_pattern c.put_plain-q.ensures in
+    going_byte at-end
 
 pub returns : goal.returns
 unfolding bytes
 returns c =
-    let s = entry c.before.before.before.before.before.before.before.before.before.before in
-    delivered (ended_size s.args.columns.now s.args.pattern.now) c.if-out-size.false
-    (going_end (going_on (at-end (goal.at.returns c).After-put_plain-q) c.push.ensures))
+    let start = begun (goal.at.returns c).Start c.if-out-size.false in
+    let at_pattern = going_on start c.put-p.ensures in
+    let at-end = going_on at_pattern c.put_plain-q.ensures in
+    delivered (ended_size c.args.columns.now c.args.pattern.now) c.if-out-size.false
+    (going_end (going_on at-end c.push.ensures))

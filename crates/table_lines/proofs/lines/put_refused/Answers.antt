@@ -7,7 +7,7 @@ use Rattle.figures.specs.Numbers.{decimal}
 use Rattle.table_lines.specs.Table.{refused_columns}
 use Rattle.table_lines.proofs.ColumnParts.{refused_start}
 use Rattle.table_lines.proofs.lines.put_refused.Goals as goal
-use Rattle.table_lines.proofs.lines.put_refused.Goals.{Start, After-put-a, After-put_decimal_then-b}
+use Rattle.table_lines.proofs.lines.put_refused.Goals.{Start}
 
 -- of the columns, what is left
 abbrev Left : Start → List (List ℕ) → List ℕ → ℕ → Type 0
@@ -23,30 +23,30 @@ numbers s = decimal s.args.number ∷ bytes " at " ∷ places s
 begun : (s : Start) → Left s (bytes "refused " ∷ numbers s) s.args.out.now s.args.at
 begun s = refused_start s.args.number s.args.place s.args.out.now s.args.at s.requires
 
-at_number : (c : After-put-a) → Left c.before.before.before.before.before (numbers c.before.before.before.before.before) c.put-a.new.out c.put-a.result
-unfolding bytes
-at_number c = going_on (begun c.before.before.before.before.before) c.put-a.ensures
-
-at_place : (c : After-put_decimal_then-b)
-    → Left c.before.before.before.before.before.before.before.before.before.before.before (places c.before.before.before.before.before.before.before.before.before.before.before) c.put_decimal_then-b.new.out c.put_decimal_then-b.result
-unfolding bytes
-at_place c =
-    going_on (going_two (at_number c.before.before.before.before.before.before)) c.put_decimal_then-b.ensures
-
 pub put-a-requires : goal.put-a-requires
 unfolding bytes
 put-a-requires c = going_room (begun (goal.at.put-a-requires c).Start)
 
 pub put_decimal_then-b-requires : goal.put_decimal_then-b-requires
 unfolding bytes
-put_decimal_then-b-requires c = going_room (going_two (at_number (goal.at.put_decimal_then-b-requires c).After-put-a))
+put_decimal_then-b-requires c =
+    let start = begun (goal.at.put_decimal_then-b-requires c).Start in
+    let at_number = going_on start c.put-a.ensures in
+    going_room (going_two at_number)
 
 pub put_decimal_then-requires : goal.put_decimal_then-requires
 unfolding bytes
-put_decimal_then-requires c = going_room (going_two (at_place (goal.at.put_decimal_then-requires c).After-put_decimal_then-b))
+put_decimal_then-requires c =
+    let start = begun (goal.at.put_decimal_then-requires c).Start in
+    let at_number = going_on start c.put-a.ensures in
+    let at_place = going_on (going_two at_number) c.put_decimal_then-b.ensures in
+    going_room (going_two at_place)
 
 pub returns : goal.returns
 unfolding bytes
 returns c =
-    going_end (going_on (going_two (at_place (goal.at.returns c).After-put_decimal_then-b))
+    let start = begun (goal.at.returns c).Start in
+    let at_number = going_on start c.put-a.ensures in
+    let at_place = going_on (going_two at_number) c.put_decimal_then-b.ensures in
+    going_end (going_on (going_two at_place)
     c.put_decimal_then.ensures)

@@ -7,7 +7,7 @@ use Rattle.figures.specs.Numbers.{decimal}
 use Rattle.table_lines.specs.Table.{total_columns}
 use Rattle.table_lines.proofs.ColumnParts.{total_start}
 use Rattle.table_lines.proofs.lines.put_total.Goals as goal
-use Rattle.table_lines.proofs.lines.put_total.Goals.{Start, After-put_decimal_then-a, After-put_decimal_then-b, After-put_decimal_then-c, After-put_decimal_then-d}
+use Rattle.table_lines.proofs.lines.put_total.Goals.{Start}
 
 -- of the columns, what is left
 abbrev Left : Start → List (List ℕ) → List ℕ → ℕ → Type 0
@@ -34,29 +34,6 @@ begun s =
     total_start s.args.s.yes s.args.s.unknown s.args.s.no s.args.s.patterns s.args.s.events
     s.args.out.now s.args.at s.requires
 
-at_unknowns : (c : After-put_decimal_then-a)
-    → Left c.before.before.before.before.before (unknowns c.before.before.before.before.before) c.put_decimal_then-a.new.out c.put_decimal_then-a.result
-unfolding bytes
-at_unknowns c = going_on (going_two (begun c.before.before.before.before.before)) c.put_decimal_then-a.ensures
-
-at_noes : (c : After-put_decimal_then-b)
-    → Left c.before.before.before.before.before.before.before.before.before.before.before (noes c.before.before.before.before.before.before.before.before.before.before.before) c.put_decimal_then-b.new.out c.put_decimal_then-b.result
-unfolding bytes
-at_noes c =
-    going_on (going_two (at_unknowns c.before.before.before.before.before.before)) c.put_decimal_then-b.ensures
-
-at_patterns : (c : After-put_decimal_then-c)
-    → Left c.before.before.before.before.before.before.before.before.before.before.before.before.before.before.before.before.before (patterns c.before.before.before.before.before.before.before.before.before.before.before.before.before.before.before.before.before) c.put_decimal_then-c.new.out c.put_decimal_then-c.result
-unfolding bytes
-at_patterns c =
-    going_on (going_two (at_noes c.before.before.before.before.before.before)) c.put_decimal_then-c.ensures
-
-at_events : (c : After-put_decimal_then-d)
-    → Left c.before.before.before.before.before.before.before.before.before.before.before.before.before.before.before.before.before.before.before.before.before.before.before (events c.before.before.before.before.before.before.before.before.before.before.before.before.before.before.before.before.before.before.before.before.before.before.before) c.put_decimal_then-d.new.out c.put_decimal_then-d.result
-unfolding bytes
-at_events c =
-    going_on (going_two (at_patterns c.before.before.before.before.before.before)) c.put_decimal_then-d.ensures
-
 pub put_decimal_then-a-requires : goal.put_decimal_then-a-requires
 unfolding bytes
 put_decimal_then-a-requires c = going_room (going_two (begun (goal.at.put_decimal_then-a-requires c).Start))
@@ -64,20 +41,43 @@ put_decimal_then-a-requires c = going_room (going_two (begun (goal.at.put_decima
 pub put_decimal_then-b-requires : goal.put_decimal_then-b-requires
 unfolding bytes
 put_decimal_then-b-requires c =
-    going_room (going_two (at_unknowns (goal.at.put_decimal_then-b-requires c).After-put_decimal_then-a))
+    let start = begun (goal.at.put_decimal_then-b-requires c).Start in
+    let at_unknowns = going_on (going_two start) c.put_decimal_then-a.ensures in
+    going_room (going_two at_unknowns)
 
 pub put_decimal_then-c-requires : goal.put_decimal_then-c-requires
 unfolding bytes
-put_decimal_then-c-requires c = going_room (going_two (at_noes (goal.at.put_decimal_then-c-requires c).After-put_decimal_then-b))
+put_decimal_then-c-requires c =
+    let start = begun (goal.at.put_decimal_then-c-requires c).Start in
+    let at_unknowns = going_on (going_two start) c.put_decimal_then-a.ensures in
+    let at_noes = going_on (going_two at_unknowns) c.put_decimal_then-b.ensures in
+    going_room (going_two at_noes)
 
 pub put_decimal_then-d-requires : goal.put_decimal_then-d-requires
 unfolding bytes
 put_decimal_then-d-requires c =
-    going_room (going_two (at_patterns (goal.at.put_decimal_then-d-requires c).After-put_decimal_then-c))
+    let start = begun (goal.at.put_decimal_then-d-requires c).Start in
+    let at_unknowns = going_on (going_two start) c.put_decimal_then-a.ensures in
+    let at_noes = going_on (going_two at_unknowns) c.put_decimal_then-b.ensures in
+    let at_patterns = going_on (going_two at_noes) c.put_decimal_then-c.ensures in
+    going_room (going_two at_patterns)
 
 pub put_decimal-requires : goal.put_decimal-requires
-put_decimal-requires c = going_room (at_events (goal.at.put_decimal-requires c).After-put_decimal_then-d)
+unfolding bytes
+put_decimal-requires c =
+    let start = begun (goal.at.put_decimal-requires c).Start in
+    let at_unknowns = going_on (going_two start) c.put_decimal_then-a.ensures in
+    let at_noes = going_on (going_two at_unknowns) c.put_decimal_then-b.ensures in
+    let at_patterns = going_on (going_two at_noes) c.put_decimal_then-c.ensures in
+    let at_events = going_on (going_two at_patterns) c.put_decimal_then-d.ensures in
+    going_room at_events
 
 pub returns : goal.returns
+unfolding bytes
 returns c =
-    going_end (going_on (at_events (goal.at.returns c).After-put_decimal_then-d) c.put_decimal.ensures)
+    let start = begun (goal.at.returns c).Start in
+    let at_unknowns = going_on (going_two start) c.put_decimal_then-a.ensures in
+    let at_noes = going_on (going_two at_unknowns) c.put_decimal_then-b.ensures in
+    let at_patterns = going_on (going_two at_noes) c.put_decimal_then-c.ensures in
+    let at_events = going_on (going_two at_patterns) c.put_decimal_then-d.ensures in
+    going_end (going_on at_events c.put_decimal.ensures)

@@ -55,15 +55,14 @@ returns-then-bad-to c =
     c.if-bad-to.true
 
 pub loop-i-preserved : goal.loop-i-preserved
-loop-i-preserved c =
-    (
-      search rules,
-      next_place _ _ _ c.loop-i.invariant.1,
-      row_passes _ _ _ _ (λ m. m ≡ m) c.loop-i-test.true
-          c.loop-i.invariant.2 c.is_later.ensures
-          c.if-not-is_later.false c.loop-i.invariant.1
-          c.codes_to-bad.ensures c.if-bad-to.false,
-    )
+loop-i-preserved c = (
+  search rules,
+  next_place _ _ _ c.loop-i.invariant.1,
+  row_passes _ _ _ _ (λ m. m ≡ m) c.loop-i-test.true
+      c.loop-i.invariant.2 c.is_later.ensures
+      c.if-not-is_later.false c.loop-i.invariant.1
+      c.codes_to-bad.ensures c.if-bad-to.false,
+)
 
 pub returns : goal.returns
 returns c = rows_passed _ _ _ _ (omega arith) c.loop-i.invariant.2

@@ -10,8 +10,7 @@ unfolding name_records
 loop-i-init c = (search rules, record { is = refl; few = search rules })
 
 pub loop-i-preserved : goal.loop-i-preserved
-loop-i-preserved c =
-    (
+loop-i-preserved c = (
   search rules,
   names_grow (slot_name _ _ (omega arith) c.name_len.ensures)
       c.loop-i.invariant.1,

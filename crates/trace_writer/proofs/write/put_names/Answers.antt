@@ -22,12 +22,11 @@ put_name-at-requires c =
     c.loop-i-test.true c.requires.room
 
 pub loop-i-preserved : goal.loop-i-preserved
-loop-i-preserved c =
-    (
-      search rules,
-      names_put (slot_name _ _ (omega arith) c.name_len-n.ensures) c.loop-i.invariant.1
-          c.put_name-at.ensures,
-    )
+loop-i-preserved c = (
+  search rules,
+  names_put (slot_name _ _ (omega arith) c.name_len-n.ensures) c.loop-i.invariant.1
+      c.put_name-at.ensures,
+)
 
 pub shape_of-out : goal.shape_of-out
 shape_of-out c = put_length c.loop-i.invariant.1

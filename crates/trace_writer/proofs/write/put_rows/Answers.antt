@@ -35,14 +35,13 @@ put_row-q-requires c =
     c.loop-r-test.true c.requires.room
 
 pub loop-r-preserved : goal.loop-r-preserved
-loop-r-preserved c =
-    (
-      search rules,
-      rw c.loop-r.invariant.1 (next_to _ _),
-      rows_put _ c.args.times.now c.args.states.now _ c.requires.lent.states_all _
-          c.loop-r.invariant.1 c.loop-r.invariant.2
-          c.put_row-q.ensures,
-    )
+loop-r-preserved c = (
+  search rules,
+  rw c.loop-r.invariant.1 (next_to _ _),
+  rows_put _ c.args.times.now c.args.states.now _ c.requires.lent.states_all _
+      c.loop-r.invariant.1 c.loop-r.invariant.2
+      c.put_row-q.ensures,
+)
 
 pub shape_of-out : goal.shape_of-out
 shape_of-out c = put_length c.loop-r.invariant.2

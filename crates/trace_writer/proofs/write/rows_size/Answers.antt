@@ -29,12 +29,11 @@ pub overflow_add-size-in-loop-r-2 : goal.overflow_add-size-in-loop-r-2
 overflow_add-size-in-loop-r-2 c = omega (arith, small (goal.at.overflow_add-size-in-loop-r-2 c).After-width_of)
 
 pub loop-r-preserved : goal.loop-r-preserved
-loop-r-preserved c =
-    (
-      search rules,
-      size_grow c.args.times.now c.requires.few_names c.loop-r.invariant.1
-          c.width_of.ensures,
-    )
+loop-r-preserved c = (
+  search rules,
+  size_grow c.args.times.now c.requires.few_names c.loop-r.invariant.1
+      c.width_of.ensures,
+)
 
 pub returns : goal.returns
 returns c =

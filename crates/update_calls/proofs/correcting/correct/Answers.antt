@@ -12,7 +12,7 @@ pub returns-in-Refused : goal.returns-in-Refused
 returns-in-Refused c =
     correction_refused c.args.answers.now
     c.correction_fits-fits.ensures c.accepts-good.ensures
-    c.judge_correction-v.ensures c.type_inv.new
+    c.judge_correction-v.ensures c.in-Refused.is
 
 pub returns-in-Good : goal.returns-in-Good
 returns-in-Good c =
