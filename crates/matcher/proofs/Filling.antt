@@ -2,6 +2,7 @@
 --   row_within, row_asked                  row i of n rows is there, and may be asked
 --   Filling, filling_first, -next, -end    the lists of answers and numbers tried
 --   Counting, counting_first, -next, -end  the totals
+use Rattle.std.specs.Prelude.{if◌then◌else◌}
 use mathlib.Core.Path.{◌≡◌, refl, ◌∙◌}
 use mathlib.Core.List.{List}
 use Prim.Native.Nat.{ℕ, ◌+◌, ◌<◌, ◌≤◌}
@@ -10,7 +11,7 @@ use native.Mathlib.Omega.{arith}
 use lib.Dec.{eqb}
 use lib.ListN.{length, set}
 use Rattle.alf.specs.declared.Answer.{Answer}
-use Rattle.basics.specs.Words.{if◌then◌else◌, count, listed}
+use Rattle.basics.specs.Words.{count, listed}
 use Rattle.alf.specs.Expressions.{Boolean}
 use Rattle.alf.specs.Answers.{number_of}
 use Rattle.alf.specs.Alternatives.{Alternative, answer_of}
