@@ -2,19 +2,18 @@
 -- Main names: activity_fits, part_fits. So a buffer of 74,973,109 bytes suffices for every trace, and one of 1,145,069
 -- for every part of 1,000 rows.
 use Rattle.std.specs.Prelude.{if◌then◌else◌}
-use Prim.Native.Nat.{ℕ, zero, suc, ◌+◌, ◌*◌, ◌^◌, ◌<◌, ◌≤◌}
+use Prim.Native.Nat.{ℕ, zero, suc, ◌+◌, ◌*◌, ◌<◌, ◌≤◌}
 use native.Mathlib.Omega.{arith}
-use native.Mathlib.Nat.{suc-mul, mul-le-mul}
-use mathlib.Core.Path.{◌≡◌, refl, ap, ◌∙◌}
+use native.Mathlib.Nat.{suc-mul}
+use mathlib.Core.Path.{◌≡◌, ◌∙◌}
 use mathlib.Core.Bool.{Bool, true, false}
 use mathlib.Core.Logic.{◌⊎◌, inl, inr}
-use mathlib.Core.List.{List, [], ◌∷◌, ◌++◌}
+use mathlib.Core.List.{List, [], ◌∷◌}
 use lib.Dec.{eqb}
 use lib.ListN.{length, get_or, length-append}
 use Rattle.basics.specs.Words.{listed}
 use Rattle.basics.proofs.Bools.{never, below?}
 use Rattle.basics.proofs.Counts.{count_small}
-use Rattle.basics.proofs.PartByPart.{flat}
 use Rattle.alf.specs.Names.{names_in, is_name, name_at}
 use Rattle.alf.specs.Values.{row_of}
 use Rattle.alf.specs.Traces.{changed, change_count}

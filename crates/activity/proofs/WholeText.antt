@@ -6,7 +6,7 @@
 --   whole_good, whole_part                    the whole is a part
 --   tells_refused, tells_delivered            the whole: refused by the check of the trace, or passed
 --   no_part, rows_refused, part_delivered, lists_refused, lists_passed    a part, likewise
-use Prim.Native.Nat.{ℕ, ◌+◌, ◌-◌, ◌*◌, ◌<◌, ◌≤◌}
+use Prim.Native.Nat.{ℕ, ◌+◌, ◌-◌, ◌*◌, ◌≤◌}
 use native.Mathlib.Omega.{arith}
 use mathlib.Core.Path.{◌≡◌, refl, sym, ap, ◌∙◌}
 use mathlib.Core.List.{List, [], ◌∷◌, ◌++◌, append-nil}

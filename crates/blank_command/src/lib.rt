@@ -13,7 +13,6 @@ use blank_calls::blanking::blank as overwrite;
 use complaints::refused;
 use console::output::Console;
 use kept_words::words::keep_words;
-use std::io::Input;
 use std::rt::{Env, Files};
 use trace_saving::write_to;
 

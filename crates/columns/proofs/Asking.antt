@@ -2,16 +2,15 @@
 --   name_asked, spell_asked              the two kinds of operand
 --   name_column, spelt_column            their columns
 --   Lining, lining_first, -next, -end    the columns of some operands, those before c
-use mathlib.Core.Path.{◌≡◌, refl, sym, ap, ◌∙◌}
+use mathlib.Core.Path.{◌≡◌, refl, ap, ◌∙◌}
 use mathlib.Core.List.{List}
 use mathlib.Core.Logic.{◌⊎◌, inl, inr}
 use Prim.Native.Nat.{ℕ, ◌+◌, ◌*◌, ◌<◌, ◌≤◌}
-use native.Mathlib.Nat.{add-mul, mul-le-mul_right}
+use native.Mathlib.Nat.{add-mul}
 use native.Mathlib.Omega.{arith}
 use lib.ListN.{length, get_or}
 use Rattle.alf.specs.declared.Rules.{Rules}
 use Rattle.basics.proofs.Bools.{equal?}
-use Rattle.evaluator.specs.Rows.{state_of}
 use Rattle.evaluator.proofs.Booleans.{last_byte, some_bytes, name_known, name_state}
 use Rattle.state_columns.specs.Entries.{Over}
 use Rattle.state_columns.specs.Spelt.{states_from, SpellAsked, Spelt}

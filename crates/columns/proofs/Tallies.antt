@@ -1,7 +1,7 @@
 -- Laws of counts, part by part.
 --   count_add                             a count in two parts
 --   Tallying, tallying_first, -next, -end     the parts before i are counted
-use mathlib.Core.Path.{◌≡◌, refl, sym, ◌∙◌}
+use mathlib.Core.Path.{◌≡◌, refl, sym}
 use mathlib.Core.Bool.{Bool}
 use Prim.Native.Nat.{ℕ, zero, suc, ◌+◌, ◌-◌, ◌<◌, ◌≤◌, min}
 use native.Mathlib.Nat.{add-zero}

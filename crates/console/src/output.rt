@@ -2,20 +2,24 @@
 use std::cell::Cell;
 use std::fmt;
 use std::fmt::Write;
-use std::io::{Error, Stderr, Stdout};
+use std::io::{Error, ErrorKind, Stderr, Stdout};
 use text_parts::parts::{find, front};
 
 // EBADF: the descriptor is closed.
 pub const CLOSED: i32 = 9;
 
-// Where the program writes, whether it complained, whether standard output took not all, and whether standard input was
-// asked for.
+// 128 and the number of SIGPIPE.
+const UNREAD: u8 = 141;
+
+// Where the program writes, whether it complained, whether standard output took not all, whether it is a pipe that nobody
+// reads, and whether standard input was asked for.
 #[derive(Drop)]
 pub struct Console {
     out: Stdout,
     err: Stderr,
     complained: Cell<bool>,
     lost: Cell<bool>,
+    unread: Cell<bool>,
     asked: Cell<bool>,
 }
 
@@ -26,13 +30,23 @@ impl Console {
             err,
             complained: Cell::new(false),
             lost: Cell::new(false),
+            unread: Cell::new(false),
             asked: Cell::new(false),
         }
     }
 
-    // Whether something was complained of: the program's exit status says so.
-    pub fn has_complained(&self) -> bool {
-        self.complained.get()
+    // The program's exit status: 1 where something was complained of, and where nobody reads standard output, that of a
+    // program which the signal for it ends.
+    pub fn status(&self) -> u8 {
+        if self.unread.get() {
+            return UNREAD;
+        }
+        if self.complained.get() { 1 } else { 0 }
+    }
+
+    // Whether standard output is a pipe that nobody reads. Nothing that is done then can be seen, and nothing is saved.
+    pub fn is_unread(&self) -> bool {
+        self.unread.get()
     }
 
     // Whether this is the first time that standard input is asked for. It is read once, to its end.
@@ -60,11 +74,15 @@ pub fn say(console: &Console, text: &[u8]) {
     }
 }
 
-// Standard output took not all. That is complained of once, and not at all where it is closed.
+// Standard output took not all. That is complained of once, and not at all where it is closed or nobody reads it.
 fn lost(console: &Console, e: &Error) {
     console.lost.set(true);
-    if !is_of_closed(e) {
-        failed(console, b"standard output", e);
+    if is_of_closed(e) {
+        return;
+    }
+    match e.kind() {
+        ErrorKind::BrokenPipe => console.unread.set(true),
+        _ => failed(console, b"standard output", e),
     }
 }
 
@@ -78,10 +96,16 @@ pub fn is_of_closed(e: &Error) -> bool {
 
 // Where standard error takes not all, there is nobody to tell.
 pub fn note(console: &Console, text: &[u8]) {
+    if console.is_unread() {
+        return;
+    }
     let _ = console.err.write_all(text);
 }
 
 pub fn note_number(console: &Console, n: usize) {
+    if console.is_unread() {
+        return;
+    }
     let _ = console.err.print(n);
 }
 

@@ -78,6 +78,9 @@ fn save<R: Files>(rt: &R, console: &Console, path: &[u8], data: &[u8]) {
 
 // The first n bytes.
 pub fn save_front<R: Files>(rt: &R, console: &Console, path: &[u8], data: &[u8], n: usize) {
+    if console.is_unread() {
+        return;
+    }
     if data.len() < n {
         short(console);
         return;

@@ -3,7 +3,6 @@ use crate::words::expects;
 use crate::{Asked, on_trace};
 use console::output::Console;
 use loading::arguments::arg;
-use std::io::Input;
 use std::rt::{Env, Files};
 use text_commands::{BEGAN, LIST};
 use text_parts::lines::line_of;

@@ -4,7 +4,6 @@ use crate::Asked;
 use crate::lists::{codes_in, front_states, front_times};
 use blank_command::blank;
 use console::output::Console;
-use std::io::Input;
 use std::rt::{Env, Files};
 use text_parts::parts::front;
 

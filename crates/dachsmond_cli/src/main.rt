@@ -20,7 +20,6 @@ use loading::traces::{Loaded, load};
 use make_command::load_text;
 use show_command::show;
 use states::rules::old_rules;
-use std::io::Input;
 use std::process::ExitCode;
 use std::rt::{Env, Files};
 use table_command::{first_look, table};
@@ -262,12 +261,9 @@ fn start_by<R: Env + Files + Input>(rt: &R, console: &Console) {
     run(rt, console, &word[..n], count - 2);
 }
 
-// Status 1 where something was complained of.
+// The exit status says whether something was complained of.
 fn main(rt: HostRuntime) -> ExitCode {
     let console = Console::new(rt.stdout(), rt.stderr());
     start_by(&rt, &console);
-    if console.has_complained() {
-        return ExitCode::FAILURE;
-    }
-    ExitCode::SUCCESS
+    ExitCode::from(console.status())
 }

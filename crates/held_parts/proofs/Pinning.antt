@@ -1,7 +1,7 @@
 -- The pins of a part, one after another.
 --   place_held                          the states listed are those of an operand
 --   Pinning, pinning_first, pinning_none, pinning_one, pinning_all     the pins among the entries so far
-use Prim.Native.Nat.{ℕ, ◌+◌, ◌-◌, ◌<◌, ◌≤◌}
+use Prim.Native.Nat.{ℕ, ◌+◌, ◌-◌, ◌≤◌}
 use native.Mathlib.Omega.{arith}
 use native.Mathlib.Numerals.{add-one}
 use mathlib.Core.Path.{◌≡◌, refl}
@@ -13,7 +13,7 @@ use Rattle.alf.specs.declared.Rules.{Rules}
 use Rattle.steady_pins.specs.Pinned.{pin_at}
 use Rattle.steady_pins.proofs.PinMoves.{moves_none, moves_one}
 use Rattle.evaluator.specs.Rows.{state_of}
-use Rattle.answer_table.specs.Tables.{entry, Column}
+use Rattle.answer_table.specs.Tables.{Column}
 use Rattle.held_parts.specs.Holding.{Cleared, list_moves, place_moves, part_moves}
 use Rattle.held_parts.proofs.Clearing.{cleared_none, cleared_then, cleared_as}
 

@@ -3,7 +3,7 @@
 --   ends_at, list_moves, place_moves, part_moves     which: those that end at a row; at a row where states listed change,
 --                                where those of an operand do, where those of a part's pins do
 --   Leaf, Holding                what is asked for an operand, and for a part
-use Rattle.std.specs.Prelude.{ℕ, ◌+◌, ◌-◌, ◌*◌, ◌<◌, ◌≤◌, ◌≡◌, Bool, not, List, eqb, length, if◌then◌else◌}
+use Rattle.std.specs.Prelude.{ℕ, ◌+◌, ◌-◌, ◌<◌, ◌≤◌, ◌≡◌, Bool, not, List, eqb, length, if◌then◌else◌}
 use Rattle.alf.specs.declared.Rules.{Rules}
 use Rattle.alf.specs.Windows.{NO}
 use Rattle.trees.specs.Parts.{EndsBoolean}

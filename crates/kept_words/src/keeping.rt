@@ -8,7 +8,6 @@ use kept_texts::keeping::keep_text;
 use loading::files::Filled;
 use loading::patterns::fill_patterns;
 use names::is_name;
-use std::io::Input;
 use std::rt::Files;
 use text_parts::lines::{behind_line, is_blank, kept as kept_bytes, line_at};
 use text_parts::parts::front;

@@ -4,7 +4,6 @@ use alf::Rules;
 use complaints::unfit;
 use console::output::Console;
 use loading::arguments::{arg_count, take_argument};
-use std::io::Input;
 use std::rt::{Env, Files};
 use text_parts::lines::line_of;
 

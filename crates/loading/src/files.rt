@@ -3,7 +3,7 @@ ghost use Rattle.std.specs.Prelude.{◌≤◌, IfOk, length};
 
 use console::output::{CLOSED, Console, complain, failed, is_of_closed, note, unnamed};
 use std::fs::File;
-use std::io::{Error, Input, Read};
+use std::io::{Error, Read};
 use std::rt::Files;
 use std::{io, str};
 

@@ -1,7 +1,6 @@
 // A file of patterns, read whole or not at all.
 use crate::files::{Filled, fill};
 use console::output::{Console, complain, note};
-use std::io::Input;
 use std::rt::Files;
 
 // What was read; a file that fills all of the room is too long.

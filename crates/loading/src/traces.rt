@@ -3,7 +3,6 @@ use crate::arguments::path_argument;
 use crate::files::{Filled, fill};
 use complaints::refused;
 use console::output::Console;
-use std::io::Input;
 use std::rt::{Env, Files};
 use text_parts::parts::front;
 use trace_reader::Reading;

@@ -12,7 +12,6 @@ use console::output::{Console, complain, note};
 use loading::arguments::path_argument;
 use loading::files::{Filled, fill};
 use loading::traces::{Loaded, nothing};
-use std::io::Input;
 use std::rt::{Env, Files};
 use text_parts::lines::line_at;
 use text_parts::parts::front;

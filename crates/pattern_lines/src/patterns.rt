@@ -22,7 +22,7 @@ fn line(
     pattern(console, rules, names, n, states, front(text, kept(text)), s)
 }
 
-// All lines of a text.
+// All lines of a text, while somebody reads what is said of them.
 pub fn lines(
     console: &Console,
     rules: Rules,
@@ -35,6 +35,9 @@ pub fn lines(
     let mut sums = s;
     let mut at: usize = 0;
     while at < text.len() {
+        if console.is_unread() {
+            return sums;
+        }
         sums = line(console, rules, names, n, states, line_at(text, at), sums);
         at = behind_line(text, at);
     }

@@ -2,15 +2,13 @@
 --   mask_marked, all_marked        the bits of a mask are the members of the set
 --   members_same, members_changed, members_all      the names of such a set
 --   slot_in, name_slot, size_none, size_one, member_none, member_one, member-fits    name i, where its bit is set
-use Rattle.std.specs.Prelude.{if◌then◌else◌}
 use Prim.Native.Nat.{ℕ, ◌+◌, ◌-◌, ◌*◌, ◌<◌, ◌≤◌}
 use native.Mathlib.Omega.{arith}
 use mathlib.Core.Path.{◌≡◌, refl, sym, ap, ◌∙◌}
 use mathlib.Core.Bool.{Bool, true, false}
-use mathlib.Core.List.{List, [], ◌∷◌, ◌++◌}
+use mathlib.Core.List.{List, [], ◌∷◌}
 use lib.Dec.{eqb}
 use lib.ListN.{length, take, drop}
-use Rattle.basics.specs.Words.{listed}
 use Rattle.basics.specs.Memory.{Put, Room}
 use Rattle.basics.proofs.PartByPart.{put_none, put_then, put_length}
 use Rattle.alf.specs.Names.{name_at}
@@ -21,7 +19,7 @@ use Rattle.listing.specs.Inner.{Sized}
 use Rattle.trace_writer.specs.Putting.{SlotsLent}
 use Rattle.trace_writer.proofs.Putting.{SlotName, slot_name}
 use Rattle.row_lines.specs.Lines.{member, members}
-use Rattle.row_lines.specs.Inner.{marked, SlotIn, MemberFits}
+use Rattle.row_lines.specs.Inner.{marked, SlotIn}
 use Rattle.row_lines.proofs.InTurn.{parts_same}
 
 bit_one : (b : Bool) → eqb (bit b) 1 ≡ b

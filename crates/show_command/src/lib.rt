@@ -51,6 +51,9 @@ fn show_some(
 fn show_all(console: &Console, names: &[u8], times: &[u64], states: &[u8], out: &mut [u8]) {
     let mut r: usize = 0;
     while r < times.len() {
+        if console.is_unread() {
+            return;
+        }
         show_some(console, names, times, states, r, out);
         r += ROWS;
     }

@@ -3,7 +3,7 @@
 --   put_lengths, one_lengths         the lists stay as long as they are
 --   long                             no alternative is longer than the longest
 --   beyond                           a step that there is not
-use Prim.Native.Nat.{ℕ, zero, suc, ◌+◌, ◌<◌, ◌≤◌}
+use Prim.Native.Nat.{ℕ, zero, suc, ◌+◌, ◌≤◌}
 use native.Mathlib.Omega.{arith}
 use native.Mathlib.Nat.{add-zero}
 use mathlib.Core.Path.{◌≡◌, refl, ap, sym, ◌∙◌}
@@ -14,10 +14,8 @@ use Rattle.basics.specs.Words.{greatest_of}
 use Rattle.basics.proofs.Stores.{sets_append}
 use Rattle.alf.specs.Expressions.{Edge, name}
 use Rattle.alf.specs.Bytes.{edge_number}
-use Rattle.alf.specs.Alternatives.{Test, test, Step, Alternative, alternatives, steps_of}
-use Rattle.trees.specs.Parts.{vector_at}
-use Rattle.acceptance.specs.Sizes.{alternative_at, ShapedAt}
-use Rattle.steady_pins.proofs.PinnedAlternatives.{placed_length}
+use Rattle.alf.specs.Alternatives.{Test, test, Step, Alternative}
+use Rattle.acceptance.specs.Sizes.{alternative_at}
 use Rattle.step_tests.specs.OperandPlaces.{place_of, edge_of, end_of, numbers, ends}
 use Rattle.step_tests.specs.Steps.{step_at, Placing, Put, OnePut}
 

@@ -4,7 +4,7 @@
 use Prim.Native.Nat.{ℕ, zero, suc, ◌+◌, ◌-◌, ◌<◌, ◌≤◌}
 use native.Mathlib.Omega.{arith}
 use mathlib.Core.Path.{◌≡◌, refl, ap, sym, ◌∙◌}
-use mathlib.Core.List.{List, [], ◌∷◌, ◌++◌, append-nil}
+use mathlib.Core.List.{[], ◌∷◌, ◌++◌, append-nil}
 use lib.ListN.{length, get_or, get_or-eq_default}
 use Rattle.alf.specs.Expressions.{Boolean, the, pair}
 use Rattle.alf.specs.Alternatives.{test, Alternative, padded, zipped, overlaid, conditioned}

@@ -7,7 +7,7 @@ use loading::files::Filled;
 use loading::patterns::fill_patterns;
 use pattern_lines::accounts::pattern;
 use pattern_lines::patterns::lines;
-use std::io::{Input, IsTerminal};
+use std::io::IsTerminal;
 use std::rt::{Env, Files};
 use table_lines::lines::Sums;
 use text_parts::parts::front;
@@ -123,7 +123,7 @@ fn finish(console: &Console, behind: bool, n: usize) {
     }
 }
 
-// All patterns of the command's words, from argument `first` on.
+// All patterns of the command's words, from argument `first` on, while somebody reads what is said of them.
 pub fn arguments<R: Env + Files + Input>(
     rt: &R,
     console: &Console,
@@ -139,6 +139,9 @@ pub fn arguments<R: Env + Files + Input>(
     let mut behind = false;
     let mut i: usize = first;
     while i < count {
+        if console.is_unread() {
+            return sums;
+        }
         progress(console, i, count, n);
         let option = is_option(rt, i, behind);
         if !option {

@@ -9,7 +9,6 @@ use loading::arguments::arg_count;
 use pattern_lines::accounts::{say_heading, say_total};
 use pattern_lines::patterns::lines;
 use states::rules::old_rules;
-use std::io::Input;
 use std::rt::{Env, Files};
 use table_arguments::arguments::arguments;
 use table_lines::lines::Sums;

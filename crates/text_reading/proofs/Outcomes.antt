@@ -1,7 +1,7 @@
 -- What the first pass over a text returns, and what the second one asks.
 --   text_empty, head_in, head_refused, rows_in, rows_refused, text_good     the first pass
 --   split, few_both, names_fit_lem, rows_fit                                    what the second pass asks
-use Prim.Native.Nat.{ℕ, ◌+◌, ◌*◌, ◌<◌, ◌≤◌}
+use Prim.Native.Nat.{ℕ, ◌*◌, ◌<◌, ◌≤◌}
 use native.Mathlib.Omega.{arith}
 use mathlib.Core.Path.{◌≡◌, refl, sym, ap, ◌∙◌}
 use mathlib.Core.Bool.{Bool}

@@ -19,7 +19,6 @@ use Rattle.trace_texts.specs.Words.{Word}
 use Rattle.trace_texts.specs.Texts.{is_changed, tells, named, none, time_bound, is_time}
 use borrow.Author.Tests.{lt-ltb}
 use Rattle.alf.specs.Names.{is_decimal}
-use Rattle.alf.specs.Traces.{changed}
 use Rattle.figures.specs.Numbers.{decimal}
 use Rattle.figures.proofs.Digits.{decimal-read, decimal_length, width_some}
 use Rattle.trace_text_laws.proofs.WordBytes.{Digit, digit_is, decimal-digits}

@@ -1,3 +1,2 @@
 // A trace as a text: theorems alone.
 #![tactic(auto)]
-

@@ -3,7 +3,7 @@
 --   right_placed, left_placed       a condition behind the vector, and before it
 use Rattle.std.specs.Prelude.{if◌then◌else◌}
 use Prim.Native.Nat.{ℕ, ◌-◌, min}
-use mathlib.Core.Path.{◌≡◌, refl, ◌∙◌}
+use mathlib.Core.Path.{◌≡◌, refl}
 use mathlib.Core.List.{List}
 use lib.ListN.{length}
 use Rattle.alf.specs.Expressions.{Boolean, Edge, Join, Vector, edge, join, while, on-right, on-left}

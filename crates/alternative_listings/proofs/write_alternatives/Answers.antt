@@ -7,4 +7,4 @@ pub write_named-requires : goal.write_named-requires
 write_named-requires c = names_passed _ c.check_names-checked.ensures c.in-Done.is
 
 pub returns-in-Refused : goal.returns-in-Refused
-returns-in-Refused c = refused_names _ c.check_names-checked.ensures c.type_inv.out
+returns-in-Refused c = refused_names _ c.check_names-checked.ensures c.in-Refused.is

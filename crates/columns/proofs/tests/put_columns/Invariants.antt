@@ -1,6 +1,5 @@
 -- `tests::put_columns` meets its contract. The loop's invariant: the columns so far are there.
 use Prim.Native.Nat.{◌-◌}
-use borrow.Author.Rules.{rules}
 use Rattle.columns.proofs.Asking.{Lining}
 use Rattle.columns.proofs.tests.put_columns.Given as goal
 

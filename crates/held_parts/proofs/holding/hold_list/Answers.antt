@@ -20,11 +20,10 @@ clear-requires c =
     record { most = omega (arith, s.most); room = s.room; long = c.loop-b.invariant.1.is.long }
 
 pub loop-b-preserved-then-list-b : goal.loop-b-preserved-then-list-b
-loop-b-preserved-then-list-b c =
-    (
-      omega arith,
-      moving_next c.loop-b.invariant.1 c.requires.most c.if-list-b.true c.clear.ensures,
-    )
+loop-b-preserved-then-list-b c = (
+  omega arith,
+  moving_next c.loop-b.invariant.1 c.requires.most c.if-list-b.true c.clear.ensures,
+)
 
 pub loop-b-preserved : goal.loop-b-preserved
 loop-b-preserved c = (omega arith, staying_next c.loop-b.invariant.1 c.if-list-b.false)

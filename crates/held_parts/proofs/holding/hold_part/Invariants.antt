@@ -1,6 +1,5 @@
 -- `holding::hold_part` meets its contract. The loop's invariant: the pins among the first `k` entries are held.
 use Prim.Native.Nat.{◌-◌, ◌*◌, ◌≤◌}
-use borrow.Author.Rules.{rules}
 use Rattle.held_parts.proofs.Pinning.{Pinning}
 use Rattle.held_parts.proofs.holding.hold_part.Given as goal
 

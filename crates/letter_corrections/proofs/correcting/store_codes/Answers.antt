@@ -14,7 +14,7 @@ put-requires c =
     omega (arith, c.requires.full)
 
 pub returns-in-Refused : goal.returns-in-Refused
-returns-in-Refused c = stored_refused c.requires c.judge_correction-v.ensures c.type_inv.new
+returns-in-Refused c = stored_refused c.requires c.judge_correction-v.ensures c.in-Refused.is
 
 pub returns-in-Good : goal.returns-in-Good
 returns-in-Good c =

@@ -1,7 +1,6 @@
 -- `matcher::answers::alternative_at` meets its contract. The loop's invariant: with the steps still to be asked,
 -- `least` comes to the least of all, and their tests start at `at`.
 use Prim.Native.Nat.{◌-◌}
-use borrow.Author.Rules.{rules}
 use Rattle.alf.specs.Values.{state_at}
 use Rattle.alternatives.specs.InMemory.{tests_of}
 use Rattle.matcher.proofs.Matching.{Stepping}

@@ -1,7 +1,6 @@
 -- `matcher::answers::match_event` meets its contract. The loop's invariant is Walking: with the alternatives still to
 -- be tried, `best` comes to the best of all and k to the number tried.
 use Prim.Native.Nat.{◌-◌}
-use borrow.Author.Rules.{rules}
 use lib.ListN.{length}
 use Rattle.alf.specs.Values.{state_at}
 use Rattle.alternatives.specs.InMemory.{tests_of}

@@ -1,7 +1,6 @@
 -- `matcher::answers::step_at` meets its contract. The loop's invariant: with the tests still to be asked, `least` comes
 -- to the least of all.
 use Prim.Native.Nat.{◌-◌}
-use borrow.Author.Rules.{rules}
 use Rattle.alf.specs.Values.{state_at}
 use Rattle.alternatives.specs.InMemory.{tests_of}
 use Rattle.matcher.proofs.Matching.{Asking}

@@ -1,7 +1,6 @@
 -- `matcher::tables::match_all` meets its contract. The loop's invariant is Filling: the rows before i are in both
 -- lists.
 use Prim.Native.Nat.{◌-◌}
-use borrow.Author.Rules.{rules}
 use Rattle.alf.specs.Values.{state_at}
 use Rattle.alternatives.specs.InMemory.{alternatives_of_lem}
 use Rattle.matcher.proofs.Filling.{Filling}

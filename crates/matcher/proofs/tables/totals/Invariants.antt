@@ -1,6 +1,5 @@
 -- `matcher::tables::totals` meets its contract. The loop's invariant is Counting: the totals of the rows before i.
 use Prim.Native.Nat.{◌-◌}
-use borrow.Author.Rules.{rules}
 use Rattle.alf.specs.Values.{state_at}
 use Rattle.alternatives.specs.InMemory.{alternatives_of_lem}
 use Rattle.matcher.proofs.Filling.{Counting}

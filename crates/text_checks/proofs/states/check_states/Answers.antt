@@ -35,12 +35,11 @@ pub loop-i-smaller : goal.loop-i-smaller
 loop-i-smaller c = omega (arith, c.loop-i-test.true)
 
 pub loop-i-preserved : goal.loop-i-preserved
-loop-i-preserved c =
-    (
-      omega (arith, c.loop-i-test.true),
-      states_next c.loop-i-test.true c.loop-i.invariant.1 c.find_word-s.ensures
-          c.if-end-start.false c.code_at.ensures c.if-code_at-gt7.false,
-    )
+loop-i-preserved c = (
+  omega (arith, c.loop-i-test.true),
+  states_next c.loop-i-test.true c.loop-i.invariant.1 c.find_word-s.ensures
+      c.if-end-start.false c.code_at.ensures c.if-code_at-gt7.false,
+)
 
 pub returns : goal.returns
 returns c =

@@ -39,13 +39,12 @@ pub loop-i-smaller : goal.loop-i-smaller
 loop-i-smaller c = omega (arith, c.loop-i-test.true)
 
 pub loop-i-preserved : goal.loop-i-preserved
-loop-i-preserved c =
-    (
-      omega (arith, c.loop-i-test.true),
-      finds_on c.loop-i.invariant.1 c.find_word-next.ensures,
-      codes_next _ _ _ _ _ c.loop-i-test.true c.loop-i.invariant.1 c.code_at.ensures
-          c.loop-i.invariant.2,
-    )
+loop-i-preserved c = (
+  omega (arith, c.loop-i-test.true),
+  finds_on c.loop-i.invariant.1 c.find_word-next.ensures,
+  codes_next _ _ _ _ _ c.loop-i-test.true c.loop-i.invariant.1 c.code_at.ensures
+      c.loop-i.invariant.2,
+)
 
 pub overflow_add-result : goal.overflow_add-result
 overflow_add-result c = omega (arith, c.requires.room)

@@ -21,11 +21,10 @@ pub loop-i-smaller : goal.loop-i-smaller
 loop-i-smaller c = omega (arith, c.loop-i-test.true)
 
 pub loop-i-preserved : goal.loop-i-preserved
-loop-i-preserved c =
-    (
-      omega (arith, c.loop-i-test.true),
-      looking_next c.loop-i.invariant.1 c.skip_word-behind.ensures c.skip_blanks-at-in-loop-i.ensures,
-    )
+loop-i-preserved c = (
+  omega (arith, c.loop-i-test.true),
+  looking_next c.loop-i.invariant.1 c.skip_word-behind.ensures c.skip_blanks-at-in-loop-i.ensures,
+)
 
 pub skip_word-end-requires : goal.skip_word-end-requires
 skip_word-end-requires c = c.loop-i.invariant.1.within

@@ -4,10 +4,10 @@ use Rattle.tree_listings.proofs.TreeTexts.{counted_few, line_refused, line_writt
 use Rattle.tree_listings.proofs.lines.write_totals.Goals as goal
 
 pub overflow_cast-n : goal.overflow_cast-n
-overflow_cast-n c = omega (arith, counted_few c.totals-counted.ensures c.type_inv.out)
+overflow_cast-n c = omega (arith, counted_few c.totals-counted.ensures c.in-Counted.is)
 
 pub returns-in-Refused : goal.returns-in-Refused
-returns-in-Refused c = line_refused c.totals-counted.ensures c.type_inv.out
+returns-in-Refused c = line_refused c.totals-counted.ensures c.in-Refused.is
 
 pub returns-in-Counted : goal.returns-in-Counted
-returns-in-Counted c = line_written c.totals-counted.ensures _ c.type_inv.out c.write_line.ensures
+returns-in-Counted c = line_written c.totals-counted.ensures _ c.in-Counted.is c.write_line.ensures

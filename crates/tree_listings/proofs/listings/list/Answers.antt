@@ -6,7 +6,7 @@ pub list_good-requires : goal.list_good-requires
 list_good-requires c = list_asked c.args.times.now c.check_rows-v.ensures c.in-Good.is
 
 pub returns-in-Refused : goal.returns-in-Refused
-returns-in-Refused c = list_refused _ c.check_rows-v.ensures c.type_inv.out
+returns-in-Refused c = list_refused _ c.check_rows-v.ensures c.in-Refused.is
 
 pub returns-in-Good : goal.returns-in-Good
 returns-in-Good c = list_written _ c.check_rows-v.ensures c.in-Good.is c.list_good.ensures

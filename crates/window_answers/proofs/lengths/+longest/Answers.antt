@@ -2,7 +2,6 @@ use native.Mathlib.Omega.{arith}
 use Rattle.trees.proofs.Vectors.{vector_pos, right_ends, before_ends, ends_left, condition_is, join_is}
 use Rattle.window_answers.proofs.Longest.{edge_longest, before_longest, condition_longest}
 use Rattle.window_answers.proofs.Longest.{sum_longest, sum_fits, greater_longest}
-use Rattle.window_answers.proofs.lengths.longest.Reads as longest
 use Rattle.window_answers.proofs.lengths.+longest.Goals as goal
 
 pub overflow_sub-at : goal.overflow_sub-at
