@@ -13,7 +13,6 @@ use Rattle.alf.specs.declared.Rules.{Rules}
 use Rattle.alf.specs.declared.Answer.{Answer}
 use Rattle.alf.specs.declared.Began.{Began}
 use Rattle.basics.specs.declared.Outcome.{Outcome}
-use Rattle.basics.specs.declared.Outcome.TheVariants as outcome
 use Rattle.alf.specs.Refusals.{Order, Comes}
 use Rattle.alf.proofs.Answers.{number_same}
 use Rattle.queue_calls.proofs.ByAlternatives.{tree_pushed}

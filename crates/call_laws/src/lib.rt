@@ -1,3 +1,2 @@
 // What the calls promise together: nothing but proofs.
 #![tactic(auto)]
-

@@ -1,8 +1,8 @@
 -- What the calls over alternatives handed in come to, case by case; the queue's stand apart.
 --   TimedRow, match_asked, match_refused, match_date, match_told; totals-..
 --   TimedRows, all_asked, all_refused, all_marks, all_told
-use mathlib.Core.Path.{◌≡◌, refl, ap, sym, ◌∙◌}
-use mathlib.Core.Bool.{Bool, true, false}
+use mathlib.Core.Path.{◌≡◌, refl, ap, ◌∙◌}
+use mathlib.Core.Bool.{Bool, true}
 use mathlib.Core.List.{List}
 use Prim.Native.Nat.{ℕ, ◌<◌}
 use native.Mathlib.Omega.{arith}

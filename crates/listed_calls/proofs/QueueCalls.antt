@@ -1,8 +1,8 @@
 -- What a push for alternatives handed in comes to, case by case.
 --   queue_many, queue_lists, queue_kept    whether a queue may be handed in with the alternatives
 --   push_asked, push-refused, push_told
-use mathlib.Core.Path.{◌≡◌, refl, ap, sym, ◌∙◌}
-use mathlib.Core.Bool.{Bool, true, false}
+use mathlib.Core.Path.{◌≡◌, refl, ◌∙◌}
+use mathlib.Core.Bool.{Bool, false}
 use mathlib.Core.List.{List}
 use Prim.Native.Nat.{ℕ, ◌<◌}
 use native.Mathlib.Omega.{arith}

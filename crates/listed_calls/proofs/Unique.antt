@@ -4,7 +4,6 @@
 use mathlib.Core.Path.{◌≡◌, sym, ap, ◌∙◌}
 use mathlib.Core.List.{List}
 use Prim.Native.Nat.{ℕ}
-use Rattle.basics.specs.Refusing.{refusal}
 use Rattle.basics.specs.declared.Outcome.{Outcome}
 use Rattle.alf.specs.declared.Rules.{Rules}
 use Rattle.alf.proofs.Outcomes.{refused_passed, refused_by_unique}

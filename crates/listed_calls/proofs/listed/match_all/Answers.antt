@@ -25,7 +25,7 @@ returns-in-Refused c =
     all_refused c.fits-good.ensures args.times.now args.answers.now args.tried.now
     args.given.now args.began.now _
     c.lists_are-lent.ensures c.lists_fit-lists.ensures c.judge_timed-v.ensures
-    c.type_inv.began
+    c.in-Refused.is
 
 pub returns-in-Good : goal.returns-in-Good
 returns-in-Good c =

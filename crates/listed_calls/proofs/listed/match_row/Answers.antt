@@ -16,7 +16,7 @@ date-requires c =
 pub returns-in-Refused : goal.returns-in-Refused
 returns-in-Refused c =
     match_refused c.fits-good.ensures c.lists_fit-lists.ensures c.judge_timed_row-v.ensures
-    c.type_inv.states
+    c.in-Refused.is
 
 pub returns-in-Good : goal.returns-in-Good
 returns-in-Good c =

@@ -10,7 +10,7 @@ push-requires c =
 pub returns-in-Refused : goal.returns-in-Refused
 returns-in-Refused c =
     push-refused c.row_fits-lists.ensures c.queue_good-good.ensures c.judge_push-v.ensures
-    c.type_inv.row
+    c.in-Refused.is
 
 pub returns-in-Good : goal.returns-in-Good
 returns-in-Good c =

@@ -8,7 +8,7 @@ totals-requires c =
 
 pub returns-in-Refused : goal.returns-in-Refused
 returns-in-Refused c =
-    totals_refused c.fits-good.ensures c.rows_fit-lists.ensures c.judge-v.ensures c.type_inv.states
+    totals_refused c.fits-good.ensures c.rows_fit-lists.ensures c.judge-v.ensures c.in-Refused.is
 
 pub returns-in-Good : goal.returns-in-Good
 returns-in-Good c =

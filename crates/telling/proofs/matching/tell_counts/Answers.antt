@@ -1,7 +1,6 @@
 -- `tell_counts` meets its contract.
 use mathlib.Core.Path.{ap, sym}
 use Rattle.telling.specs.Matching.{told_counts}
-use borrow.Author.Rules.{rules}
 use Rattle.telling.proofs.matching.tell_counts.Goals as goal
 
 pub returns-in-Counted : goal.returns-in-Counted

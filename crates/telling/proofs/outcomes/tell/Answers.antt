@@ -1,7 +1,6 @@
 -- `tell` meets its contract.
 use mathlib.Core.Path.{ap, sym}
 use Rattle.telling.specs.Handing.{told}
-use borrow.Author.Rules.{rules}
 use Rattle.telling.proofs.outcomes.tell.Goals as goal
 
 pub returns-in-Done : goal.returns-in-Done

@@ -1,7 +1,6 @@
 -- `tell_changes` meets its contract.
 use mathlib.Core.Path.{ap, sym}
 use Rattle.telling.specs.Handing.{told_changes}
-use borrow.Author.Rules.{rules}
 use Rattle.telling.proofs.rows.tell_changes.Goals as goal
 
 pub returns-in-Changed : goal.returns-in-Changed

@@ -1,7 +1,6 @@
 -- `tell_trace` meets its contract.
 use mathlib.Core.Path.{ap, sym}
 use Rattle.telling.specs.Handing.{told_trace}
-use borrow.Author.Rules.{rules}
 use Rattle.telling.proofs.rows.tell_trace.Goals as goal
 
 pub returns-in-Read : goal.returns-in-Read
