@@ -55,12 +55,7 @@ pub fn dachsmond_table_line(
 }
 
 // The line of a pattern that is refused.
-pub fn dachsmond_table_refused(
-    pattern: &[u8],
-    number: u8,
-    place: usize,
-    out: &mut [u8],
-) -> Told
+pub fn dachsmond_table_refused(pattern: &[u8], number: u8, place: usize, out: &mut [u8]) -> Told
     ensures { Hands (Delivers (refused_line pattern.now number place) out.old
         out.new) told result }
 {

@@ -52,13 +52,7 @@ pub fn dachsmond_match_all(
 }
 
 // How many of the rows answer yes, no and unknown.
-pub fn dachsmond_totals(
-    rules: Rules,
-    names: usize,
-    n: usize,
-    tree: &[u8],
-    states: &[u8],
-) -> Counted
+pub fn dachsmond_totals(rules: Rules, names: usize, n: usize, tree: &[u8], states: &[u8]) -> Counted
     ensures { Hands (RowTotals rules names n tree.now
         states.now) told_counts result }
 {
@@ -83,12 +77,7 @@ pub fn dachsmond_rewrite(
 }
 
 // A flag for each of its alternatives, 1 where it is contradictory, else 0, into a lent list.
-pub fn dachsmond_contradictions(
-    rules: Rules,
-    names: usize,
-    tree: &[u8],
-    flags: &mut [u8],
-) -> Told
+pub fn dachsmond_contradictions(rules: Rules, names: usize, tree: &[u8], flags: &mut [u8]) -> Told
     ensures { Hands (Contradicts rules names tree.now flags.old
         flags.new) told result }
 {

@@ -36,12 +36,7 @@ pub fn dachsmond_read_expression(
 }
 
 // The text of a tree into a lent buffer.
-pub fn dachsmond_write_expression(
-    names: &[u8],
-    tree: &[u8],
-    vector: bool,
-    out: &mut [u8],
-) -> Told
+pub fn dachsmond_write_expression(names: &[u8], tree: &[u8], vector: bool, out: &mut [u8]) -> Told
     ensures { Hands (Writes names.now tree.now (sort_of_lem vector) out.old
         out.new) told result }
 {

@@ -44,7 +44,9 @@ pub extern "C" fn dachsmond_listed_match_row(
         tests.now edges.now operands.now states.now
         times.now row) told_match result }
 {
-    dachsmond::listed::dachsmond_listed_match_row(rules, names, n, tree, steps, tests, edges, operands, times, states, row)
+    dachsmond::listed::dachsmond_listed_match_row(
+        rules, names, n, tree, steps, tests, edges, operands, times, states, row,
+    )
 }
 
 // The same for all rows, into lent lists.
@@ -70,7 +72,10 @@ pub extern "C" fn dachsmond_listed_match_all(
         times.now answers.old tried.old given.old began.old
         answers.new tried.new given.new began.new) told result }
 {
-    dachsmond::listed::dachsmond_listed_match_all(rules, names, n, tree, steps, tests, edges, operands, times, states, answers, tried, given, began)
+    dachsmond::listed::dachsmond_listed_match_all(
+        rules, names, n, tree, steps, tests, edges, operands, times, states, answers, tried, given,
+        began,
+    )
 }
 
 // How many of the rows answer yes, no and unknown.
@@ -90,7 +95,9 @@ pub extern "C" fn dachsmond_listed_totals(
         tests.now
         edges.now operands.now states.now) told_counts result }
 {
-    dachsmond::listed::dachsmond_listed_totals(rules, names, n, tree, steps, tests, edges, operands, states)
+    dachsmond::listed::dachsmond_listed_totals(
+        rules, names, n, tree, steps, tests, edges, operands, states,
+    )
 }
 
 // One row more, with its time: its answer, the number tried, the time where its match began, and the queue then.
@@ -111,5 +118,7 @@ pub extern "C" fn dachsmond_listed_push(
         tests.now edges.now operands.now (queue_of_lem queue) time
         row.now) told_push result }
 {
-    dachsmond::listed::dachsmond_listed_push(rules, names, tree, steps, tests, edges, operands, queue, time, row)
+    dachsmond::listed::dachsmond_listed_push(
+        rules, names, tree, steps, tests, edges, operands, queue, time, row,
+    )
 }

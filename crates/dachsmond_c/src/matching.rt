@@ -43,7 +43,9 @@ pub extern "C" fn dachsmond_match_all(
         answers.old tried.old given.old began.old
         answers.new tried.new given.new began.new) told result }
 {
-    dachsmond::matching::dachsmond_match_all(rules, names, n, tree, times, states, answers, tried, given, began)
+    dachsmond::matching::dachsmond_match_all(
+        rules, names, n, tree, times, states, answers, tried, given, began,
+    )
 }
 
 // How many of the rows answer yes, no and unknown.

@@ -77,33 +77,33 @@ module _ (tree : List ℕ) (names : ℕ) (few : length tree ≤ 256) where
       let (e, s) = alone tree names end start w (omega (arith, l.ends)) a in
       record { ends = e; start = start; from = s; accepted = a }
 
-  operands_there : (end : ℕ) (p : Vector) → Lies tree end (vector_bytes p) → VectorOver (min names 32) p
+  operands_there : (p : Vector) (end : ℕ) → Lies tree end (vector_bytes p) → VectorOver (min names 32) p
       → vector_depth p ≤ 32
       → Placed (λ i c. Operand tree names i) end p
   unfolding vector_bytes VectorOver vector_depth
-  operands_there end (edge e c) l (k, o) d =
+  operands_there (edge e c) end l (k, o) d =
       let h = deeper 1 (boolean c) (boolean_depth c) in
       on_edge {end = end} {e = e} {c = c}
       (operand_there c o (omega (arith, h, d)) (lies_second [] (boolean_bytes c) _ l)) (omega (arith, l.ends))
-  operands_there end (join j p q) l (o, u) d =
+  operands_there (join j p q) end l (o, u) d =
       let h = deeper (join_level j) (vector p) (vector_depth p) in
       let k = deeper (join_level j - 1) (vector q) (vector_depth q) in
       on_join {end = end} {j = j} {p = p} {q = q}
-      (operands_there _ p (lies_first (vector_bytes p) (vector_bytes q) _ l) o (omega (arith, h, d)))
-      (operands_there _ q (lies_second (vector_bytes p) (vector_bytes q) _ l) u (omega (arith, k, d)))
+      (operands_there p _ (lies_first (vector_bytes p) (vector_bytes q) _ l) o (omega (arith, h, d)))
+      (operands_there q _ (lies_second (vector_bytes p) (vector_bytes q) _ l) u (omega (arith, k, d)))
       (omega (arith, l.ends))
-  operands_there end (while on-right p c) l (o, u) d =
+  operands_there (while on-right p c) end l (o, u) d =
       let h = deeper 3 (vector p) (vector_depth p) in
       let k = deeper 2 (boolean c) (boolean_depth c) in
       behind {end = end} {p = p} {c = c}
-      (operands_there _ p (lies_first (vector_bytes p) (boolean_bytes c) _ l) o (omega (arith, h, d)))
+      (operands_there p _ (lies_first (vector_bytes p) (boolean_bytes c) _ l) o (omega (arith, h, d)))
       (operand_there c u (omega (arith, k, d)) (lies_second (vector_bytes p) (boolean_bytes c) _ l))
       (omega (arith, l.ends))
-  operands_there end (while on-left p c) l (o, u) d =
+  operands_there (while on-left p c) end l (o, u) d =
       let h = deeper 2 (vector p) (vector_depth p) in
       let k = deeper 3 (boolean c) (boolean_depth c) in
       ahead {end = end} {p = p} {c = c}
-      (operands_there _ p (lies_second (boolean_bytes c) (vector_bytes p) _ l) o (omega (arith, h, d)))
+      (operands_there p _ (lies_second (boolean_bytes c) (vector_bytes p) _ l) o (omega (arith, h, d)))
       (operand_there c u (omega (arith, k, d)) (lies_first (boolean_bytes c) (vector_bytes p) _ l))
       (omega (arith, l.ends))
 
@@ -151,5 +151,5 @@ tree_operands {ρ} tree names a =
     let b : depth_of (vector v.p) ≤ 32 = rw v.is_vector_lem at a.brackets in
     let l : Lies tree (length tree) (vector_bytes v.p) = rw h.bytes (lies_whole tree) in
     let there : Placed (λ i c. Operand tree names i) (length tree) (vector_at tree names (length tree)) =
-    rw (ap top_vector d) (operands_there tree names a.tokens (length tree) v.p l h.over b) in
+    rw (ap top_vector d) (operands_there tree names a.tokens v.p (length tree) l h.over b) in
     each_places (Operand tree names) (found_entries ρ (Operand tree names) tree names (length tree) there) there
