@@ -1,3 +1,2 @@
 // Theorems alone: what an answer depends on (document 02, [11]).
 #![tactic(auto)]
-
