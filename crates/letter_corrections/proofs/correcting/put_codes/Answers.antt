@@ -14,12 +14,11 @@ bounds-out-i c =
     omega (arith, length-map c.args.letters.now state_of, c.requires, put_length c.loop-i.invariant.1)
 
 pub loop-i-preserved : goal.loop-i-preserved
-loop-i-preserved c =
-    (
-      omega arith,
-      codes_more c.args.letters.now c.loop-i-test.true c.code_of.ensures
-          c.loop-i.invariant.1,
-    )
+loop-i-preserved c = (
+  omega arith,
+  codes_more c.args.letters.now c.loop-i-test.true c.code_of.ensures
+      c.loop-i.invariant.1,
+)
 
 pub shape_of-out : goal.shape_of-out
 shape_of-out c = put_length c.loop-i.invariant.1
