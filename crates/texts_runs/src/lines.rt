@@ -1,7 +1,7 @@
 // Lines of the input: a kind, a blank, a text, and behind a blank and `#` the reason for what is expected. The kinds:
 // `b` and `v` for a text that is read as a boolean or a vector, `s` for a list of so many bytes, `t` for a list of
 // three names and a text, `B` and `V` for a tree and the room to write it in.
-use crate::names::list_of;
+use crate::name_lists::list_of;
 use crate::shown::{say_sort, show, show_tree};
 use alf::Sort;
 use run_printing::printing::{broken, character, write};

@@ -4,7 +4,7 @@
 #![tactic(auto)]
 
 mod lines;
-mod names;
+mod name_lists;
 mod shown;
 
 use std::io;
