@@ -1,3 +1,0 @@
--- The definitions of this crate.
-pub mod Needless
-pub mod Older

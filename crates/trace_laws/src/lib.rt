@@ -1,2 +1,0 @@
-// The theorems of the trace files: nothing but proofs.
-#![tactic(auto)]
