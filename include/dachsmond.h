@@ -1,5 +1,5 @@
 /* Dachsmond for C. Each function's meaning is document 01's; `crates/dachsmond` has the contracts, which are proved.
-   Link with libdachsmond.a (`rt staticlib dachsmond`, x86-64).
+   Link with libdachsmond.a: `rt lib` in crates/dachsmond_c makes it as out/libdachsmond_c.a (x86-64).
 
    Lent memory is a pointer and a length in entries; a pointer is not null, also where the length is 0, and lists that
    a call writes to overlap no other. A number of 0 is done. Another is document 01's number of the refusal, with its

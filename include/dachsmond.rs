@@ -7,7 +7,7 @@
 //! row. A time is a u64. A tree is the bytes of an expression, one a node, operands before their operator. A call takes less than 256 KB
 //! of stack; the proofs say nothing of that, and tests/stack measures it and reckons it from the object code.
 //!
-//! It is built beside libdachsmond.a (`rt staticlib dachsmond`, x86-64), as tests/rust-example does.
+//! It is built beside libdachsmond.a (`rt lib` in crates/dachsmond_c, x86-64), as tests/rust-example does.
 
 /// The rules, which every call that reads, rewrites or evaluates takes; hold them fixed through a trace and its
 /// corrections, and hand a tree to the calls under the rules by which it was read.
