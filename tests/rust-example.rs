@@ -1,6 +1,6 @@
 //! The library from Rust: the table of document 01's cases 1 to 7 and 11 on table T, each pattern counted at once and
 //! row by row. It prints what `dachsmond` prints as its first look.
-#![no_main] // on Arm the toolchain's emulator does not start Rust's runtime
+#![no_main] // on another processor the emulator may not start Rust's runtime
 
 use dachsmond::{
     empty_queue, old_rules, push, read_expression, read_trace, table_heading, table_line, table_total, totals,

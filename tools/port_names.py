@@ -3,6 +3,8 @@
 
 usage: port_names.py                     in the repository: turns crates/ by tools/port_names.tsv, one row a name
        port_names.py gather TREE..       writes the table from trees that port.py has turned (KIT is their Rattle)
+       port_names.py left [TREE]         turns what was left by tools/port_names_left.tsv: names that a library has too,
+                                         constructors, names of imported modules
 
 A name is turned in definitions, proofs, clauses, comments and must-fail edits, and never in a string. Functions of src/ keep
 their names, as they have no dash and no capital. The table has no two names that fall together: each new name was nowhere.
@@ -127,7 +129,28 @@ def turned(text, rows, rust):
     return TOKEN.sub(turn, text)
 
 
+IMPORT = re.compile(r"(?m)^(?:ghost )?use ((?!Rattle\.)[^\s{}]+)\.\{([^}]*)\}")
+
+
+def turn_left(root):
+    """A name that a file imports from a library stays there; the goals of a function keep their names."""
+    with open(os.path.join(HERE, 'port_names_left.tsv'), encoding='utf-8') as f:
+        rows = dict(line.rstrip('\n').split('\t') for line in f)
+    n = 0
+    for p in texts(root, ('.antt', '.rt', '.edit', '.antt.txt', '.rt.txt')):
+        old = read(p)
+        foreign = {w for m in IMPORT.finditer(old) for w in re.split(r'[,\s]+', m[2])}
+        new = turned(old, {w: x for w, x in rows.items() if w not in foreign}, False)
+        if new != old:
+            with open(p, 'w', encoding='utf-8') as f:
+                f.write(new)
+            n += 1
+    print(f'{n} files turned')
+
+
 def main(argv):
+    if argv[:1] == ['left']:
+        return turn_left(argv[1] if argv[1:] else os.getcwd())
     if argv[:1] == ['gather']:
         return gather(argv[1:])
     rows = dict(line.rstrip('\n').split('\t') for line in open(TABLE, encoding='utf-8'))

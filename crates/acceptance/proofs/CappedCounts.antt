@@ -10,7 +10,7 @@ use lib.Dec.{ltb}
 use lib.ListN.{length-map}
 use borrow.Author.Tests.{ltb-true, ltb-false}
 use Rattle.alf.specs.Expressions.{Boolean, Edge, Vector, edge, join, while, Side}
-use Rattle.alf.specs.Expressions.{Join, followed-by, either_order, with-or-then, any_order, with, or_else}
+use Rattle.alf.specs.Expressions.{Join, followed_by_join, either_order, with_or_then, any_order, with, or_else}
 use Rattle.alf.specs.Decoder.{join_at}
 use Rattle.alf.specs.Alternatives.{conditioned, alternatives, number_of_alternatives}
 use Rattle.alf.proofs.Growth.{some_alternative}
@@ -65,9 +65,9 @@ cap_product n m p q = go (ltb n 65) (ltb m 65) refl refl
 pub cap_count : (j : Join) (n m : ℕ) → 0 < n → 0 < m
     → min 65 (count_of j n m) ≡ min 65 (count_of j (min 65 n) (min 65 m))
 unfolding count_of
-cap_count followed-by n m p q = cap_product n m p q
+cap_count followed_by_join n m p q = cap_product n m p q
 cap_count either_order n m p q = let e = cap_product n m p q in omega arith
-cap_count with-or-then n m p q = let e = cap_product n m p q in omega arith
+cap_count with_or_then n m p q = let e = cap_product n m p q in omega arith
 cap_count any_order n m p q = let e = cap_product n m p q in omega arith
 cap_count with n m p q = cap_product n m p q
 cap_count or_else n m p q = omega arith

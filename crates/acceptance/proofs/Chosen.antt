@@ -9,7 +9,7 @@ use mathlib.Core.List.{List, []}
 use lib.ListN.{length, get_or}
 use Rattle.basics.specs.Words.{sum_of}
 use Rattle.alf.specs.Expressions.{Boolean, literal, Edge, Vector, edge, join, while, Side}
-use Rattle.alf.specs.Expressions.{Join, followed-by, either_order, with-or-then, any_order, with, or_else}
+use Rattle.alf.specs.Expressions.{Join, followed_by_join, either_order, with_or_then, any_order, with, or_else}
 use Rattle.alf.specs.Decoder.{join_at}
 use Rattle.alf.specs.Alternatives.{conditioned, alternatives, number_of_alternatives, tests}
 use Rattle.alternatives.specs.declared.picking.How.{How}
@@ -63,9 +63,9 @@ unfolding count_of
 few_operands j n m p q l = go j l (le-mul_of_pos_right n q) (rw (mul_comm m n) at (le-mul_of_pos_right m p))
   where
     go : (j : Join) → count_of j n m ≤ 64 → n ≤ n * m → m ≤ n * m → (n ≤ 64) × (m ≤ 64)
-    go followed-by l x y = (omega arith, omega arith)
+    go followed_by_join l x y = (omega arith, omega arith)
     go either_order l x y = (omega arith, omega arith)
-    go with-or-then l x y = (omega arith, omega arith)
+    go with_or_then l x y = (omega arith, omega arith)
     go any_order l x y = (omega arith, omega arith)
     go with l x y = (omega arith, omega arith)
     go or_else l x y = (omega arith, omega arith)

@@ -1,5 +1,5 @@
 -- The size of a tree with its pins, one alternative after the other, whatever its operands are.
--- Main names: MeasuringAt, first-at, next_at, all-at; shaping_at; over_number_at, over_steps_at, over_tests_at,
+-- Main names: MeasuringAt, first_at, next_at, all_at; shaping_at; over_number_at, over_steps_at, over_tests_at,
 -- within_at; tree_pinned, measured_meant.
 use Prim.Native.Nat.{ℕ, ◌+◌, ◌<◌, ◌≤◌, min, max}
 use native.Mathlib.Omega.{arith}
@@ -32,8 +32,8 @@ unfolding number_of_alternatives
 number_placed operand pins end p e = let d = placed_number operand pins end p in omega arith
 
 module _ {pins tree : List ℕ} {names end : ℕ} where
-  pub first-at : MeasuringAt pins tree names end 0 0 0
-  first-at = record { given = λ operand. first_measure _ }
+  pub first_at : MeasuringAt pins tree names end 0 0 0
+  first_at = record { given = λ operand. first_measure _ }
 
   -- an alternative below a number within the limit is there
   pub shaping_at : {a n : ℕ} → PinnedTree pins tree names end
@@ -51,9 +51,9 @@ module _ {pins tree : List ℕ} {names end : ℕ} where
           → t < length (alternatives (by_places operand pins end (vector_at tree names end)))
       there operand = rw (placed_number operand pins end (vector_at tree names end)) c.chosen.there
 
-  pub all-at : {t n s k : ℕ} → MeasuringAt pins tree names end t s k → t ≤ n → n ≤ t
+  pub all_at : {t n s k : ℕ} → MeasuringAt pins tree names end t s k → t ≤ n → n ≤ t
       → MeasuringAt pins tree names end n s k
-  all-at m l u = record { given = λ operand. measured_all (m.given operand) l u }
+  all_at m l u = record { given = λ operand. measured_all (m.given operand) l u }
 
   -- limit 8
   module _ {n : ℕ} (e : n ≡ min 65 (number_of_alternatives (vector_at tree names end))) where

@@ -12,7 +12,7 @@ use Rattle.alf.specs.Alternatives.{number_of_alternatives}
 use Rattle.trees.specs.Parts.{EndsVector, vector_at}
 use Rattle.alternatives.specs.Picks.{count_of}
 use Rattle.acceptance.specs.Sizes.{Counts}
-use Rattle.trees.proofs.Vectors.{Conditioned, Joined, edge-is, before_is}
+use Rattle.trees.proofs.Vectors.{Conditioned, Joined, edge_is, before_is}
 use Rattle.acceptance.proofs.CappedCounts.{number_edge, number_while, number_join, number_some, cap_count}
 
 pub counts_small : {b n m : ℕ} → Counts b n m → n * m ≤ 4225
@@ -24,7 +24,7 @@ Number t names end r = r ≡ min 65 (number_of_alternatives (vector_at t names e
 
 module _ (t : List ℕ) (names end : ℕ) where
   pub edge_number_lem : EndsVector t names end → 64 ≤ get_or t (end - 1) 0 → Number t names end 1
-  edge_number_lem h k = rw (edge-is t names end h k, number_edge) refl
+  edge_number_lem h k = rw (edge_is t names end h k, number_edge) refl
 
   pub before_number : {r : ℕ} → EndsVector t names end → get_or t (end - 1) 0 ≡ 57 → Number t names (end - 1) r
       → Number t names end r

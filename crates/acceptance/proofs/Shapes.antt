@@ -8,12 +8,12 @@ use mathlib.Core.Path.{◌≡◌, refl}
 use mathlib.Core.Logic.{◌⊎◌, inl, inr}
 use mathlib.Core.List.{List, []}
 use lib.ListN.{length, get_or}
-use Rattle.alf.specs.Expressions.{Boolean, literal, Vector, edge, join, on-right, on-left}
+use Rattle.alf.specs.Expressions.{Boolean, literal, Vector, edge, join, on_right, on_left}
 use Rattle.alf.specs.Decoder.{join_at}
 use Rattle.alf.specs.Alternatives.{Alternative, alternatives, number_of_alternatives}
 use Rattle.alternatives.specs.declared.picking.How.{How}
 use Rattle.trees.specs.Parts.{vector_at, Start}
-use Rattle.trees.proofs.Vectors.{Conditioned, Joined, vector_pos, edge-is, before_is, condition_is, join_is}
+use Rattle.trees.proofs.Vectors.{Conditioned, Joined, vector_pos, edge_is, before_is, condition_is, join_is}
 use Rattle.alternatives.specs.Picks.{put, Picked}
 use Rattle.alternatives.proofs.Finding.{in_left, in_right}
 use Rattle.steady_pins.specs.Pinned.{pin_count_lem, by_places}
@@ -72,7 +72,7 @@ module _ {pins t : List ℕ} {names end a : ℕ} (h : Shaping pins t names end a
     edge_on_lem : {k : ℕ} → 64 ≤ get_or t (end - 1) 0 → PinNumber pins end k → At end a 1 (1 + k)
     unfolding by_places
     edge_on_lem {k} l d =
-        let e = edge-is t names end h.chosen.ends l in
+        let e = edge_is t names end h.chosen.ends l in
         let here = rw (e, number_edge) at h.chosen.there in
         rw e
         (pinned_shape operand pins end (edge _ (operand (end - 1))) a (edge_there _ _ a here) (edge_one _ _ a here)
@@ -85,7 +85,7 @@ module _ {pins t : List ℕ} {names end a : ℕ} (h : Shaping pins t names end a
         let c = before_chosen t names end a h.chosen k in
         rw (
           before_is t names end h.chosen.ends k,
-          while_at on-left _ _ a (placed_there operand pins t names (end - 1) a c),
+          while_at on_left _ _ a (placed_there operand pins t names (end - 1) a c),
         ) (y.given _ _ x)
 
     condition_on : {m s n s' n' : ℕ} → Conditioned t names end m → Start t names (end - 1) m → At m a s n
@@ -96,7 +96,7 @@ module _ {pins t : List ℕ} {names end a : ℕ} (h : Shaping pins t names end a
         rw (
           c.is,
           boolean_start t names (end - 1) c.right g,
-          while_at on-right _ _ a (placed_there operand pins t names m a d),
+          while_at on_right _ _ a (placed_there operand pins t names m a d),
         ) (y.given _ _ x)
 
     module _ {m x y : ℕ} (j : Joined t names end m) (e : Number t names m x) (d : Number t names (end - 1) y)

@@ -59,9 +59,9 @@ module _ (names times states : List ℕ) (n from to : ℕ) (out : List ℕ) wher
     unfolding Comes Passed
     part_passed = passed_left (rows_order (names_in names) times states from (to - from)) _ w.outcome.0.1.1.1
 
-    part-of : PartOf n from to
+    part_of : PartOf n from to
     unfolding Comes Passed
-    part-of =
+    part_of =
         let there : (PartOf n from to → ⊥) → ⊥ = λ h. w.outcome.0.1.1.0 0 (record { given = h; there = refl }) in
         record {
           some = lt_stable from to (λ h. there (λ p. h p.some));
@@ -122,7 +122,7 @@ module _ (names times states : List ℕ) (n : ℕ) where
   one_shown w =
       record {
         whole = part_told names times states n _ _ _ w;
-        part = part-of names times states n _ _ _ w;
+        part = part_of names times states n _ _ _ w;
         lists = lists_passed names times states n _ _ _ w;
         rows = part_passed names times states n _ _ _ w;
       }

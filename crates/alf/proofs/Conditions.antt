@@ -7,7 +7,7 @@ use mathlib.Core.List.{List, [], ◌∷◌, ◌++◌}
 use Prim.Native.Nat.{ℕ, zero, suc, ◌-◌}
 use lib.ListN.{length, replicate}
 use Rattle.alf.specs.Expressions.{Boolean, the, pair, Vector, edge, join, while, Over, VectorOver}
-use Rattle.alf.specs.Expressions.{Join, followed-by, either_order, with-or-then, any_order, with, or_else}
+use Rattle.alf.specs.Expressions.{Join, followed_by_join, either_order, with_or_then, any_order, with, or_else}
 use Rattle.alf.specs.Alternatives.{Test, test, Alternative, padded, zipped, overlaid, conditioned}
 use Rattle.alf.specs.Alternatives.{chained, overlapped, rewritten, alternatives}
 use Rattle.basics.proofs.AllEntries.{All, none, more, all_append, all_map}
@@ -57,9 +57,9 @@ module _ (Q : Boolean → Type 0) where
 
   rewritten_ask : (j : Join) {xs ys : List Alternative} → AllAsk xs → AllAsk ys → AllAsk (rewritten j xs ys)
   unfolding rewritten
-  rewritten_ask followed-by s t = chained_ask s t
+  rewritten_ask followed_by_join s t = chained_ask s t
   rewritten_ask either_order s t = all_append (chained_ask s t) (chained_ask t s)
-  rewritten_ask with-or-then s t = all_append (overlapped_ask s t) (chained_ask s t)
+  rewritten_ask with_or_then s t = all_append (overlapped_ask s t) (chained_ask s t)
   rewritten_ask any_order s t = all_append (all_append (chained_ask s t) (overlapped_ask s t)) (chained_ask t s)
   rewritten_ask with s t = overlapped_ask s t
   rewritten_ask or_else s t = all_append s t

@@ -35,10 +35,10 @@ some_at (suc n) i p l h = go (some_at n i p) (equal? i n)
     go r (inl e) = ap (λ (q : Bool). some n p || q) (ap p (sym e) ∙ h) ∙ or_yes (some n p)
     go r (inr d) = rw (r (omega arith) h) refl
 
-some-none : (n : ℕ) (p : ℕ → Bool) → ((i : ℕ) → i < n → p i ≡ false) → some n p ≡ false
+some_none : (n : ℕ) (p : ℕ → Bool) → ((i : ℕ) → i < n → p i ≡ false) → some n p ≡ false
 unfolding some
-some-none zero p h = refl
-some-none (suc n) p h = rw (some-none n p (λ i l. h i (omega arith)), h n (omega arith)) refl
+some_none zero p h = refl
+some_none (suc n) p h = rw (some_none n p (λ i l. h i (omega arith)), h n (omega arith)) refl
 
 all_append : {A : Type 0} (p : A → Bool) (xs ys : List A) → all p xs ≡ true → all p ys ≡ true
     → all p (xs ++ ys) ≡ true
@@ -138,7 +138,7 @@ module _ (st : Boolean → ℕ → ℕ) (names : ℕ) (codes : (n r : ℕ) → n
   yes_not_contradictory : (a : ℕ) → steps_from st x a ≡ 2 → contradictory names x ≡ false
   unfolding contradictory
   yes_not_contradictory a y =
-      some-none names _ (λ n l. some-none (length x + 1) _
+      some_none names _ (λ n l. some_none (length x + 1) _
       (λ j m. ap not (possible_yes _ _ (codes n (a + j) l) (literals_yes st n x a j y))))
 
   pub contradictory_not_yes : contradictory names x ≡ true → (a : ℕ) → steps_from st x a ≡ 2 → ⊥

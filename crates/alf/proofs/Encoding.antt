@@ -8,7 +8,7 @@ use mathlib.Core.List.{List, [], ◌∷◌, ◌++◌}
 use lib.ListN.{get_or, length, take}
 use lib.Seq.{take-suc, take-length}
 use Rattle.alf.specs.Expressions.{Boolean, name, literal, negated, binary, choice, Vector, edge, join, while}
-use Rattle.alf.specs.Expressions.{on-right, on-left, Expression, boolean, vector}
+use Rattle.alf.specs.Expressions.{on_right, on_left, Expression, boolean, vector}
 use Rattle.alf.specs.Expressions.{Over, VectorOver, ExpressionOver}
 use Rattle.alf.specs.Bytes.{boolean_bytes, vector_bytes, bytes_of}
 use Rattle.alf.specs.Decoder.{Stack, empty, push, operation_at, run}
@@ -55,9 +55,9 @@ module _ (names : ℕ) (few : names ≤ 32) where
   runs_vector (edge e c) (k, o) s = rw (runs_append, runs_boolean c o s, edge_operation names e k) refl
   runs_vector (join j p q) (o, u) s =
       rw (runs_append, runs_vector p o s, runs_append, runs_vector q u, join_operation) refl
-  runs_vector (while on-right p c) (o, u) s =
+  runs_vector (while on_right p c) (o, u) s =
       rw (runs_append, runs_vector p o s, runs_append, runs_boolean c u, right_operation) refl
-  runs_vector (while on-left p c) (o, u) s =
+  runs_vector (while on_left p c) (o, u) s =
       rw (runs_append, runs_boolean c u s, runs_append, runs_vector p o, left_operation) refl
 
   runs_bytes : (e : Expression) → ExpressionOver names e → (s : Stack) → runs names (bytes_of e) s ≡ push e s

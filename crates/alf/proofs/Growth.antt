@@ -15,7 +15,7 @@ use lib.ListN.{length, replicate, length-append, length-map}
 use borrow.Author.Tests.{lt-ltb, ltb-true}
 use Rattle.basics.specs.Words.{greatest_of, sum_of}
 use Rattle.alf.specs.Expressions.{Boolean, the, pair, Vector, edge, join, while, Side}
-use Rattle.alf.specs.Expressions.{Join, followed-by, either_order, with-or-then, any_order, with, or_else}
+use Rattle.alf.specs.Expressions.{Join, followed_by_join, either_order, with_or_then, any_order, with, or_else}
 use Rattle.alf.specs.Alternatives.{test, Alternative, each, padded, zipped, overlaid}
 use Rattle.alf.specs.Alternatives.{conditioned}
 use Rattle.alf.specs.Alternatives.{rewritten, alternatives, tests}
@@ -171,9 +171,9 @@ module _ {f : Alternative → Alternative → Alternative} (K : Keeps f) (xs ys 
 rewritten_left : (j : Join) (xs ys : List Alternative) → 0 < length xs → 0 < length ys
     → Within xs (rewritten j xs ys)
 unfolding rewritten
-rewritten_left followed-by xs ys h k = left_within chain_keeps xs ys k
+rewritten_left followed_by_join xs ys h k = left_within chain_keeps xs ys k
 rewritten_left either_order xs ys h k = within_trans (left_within chain_keeps xs ys k) (within_left _ _)
-rewritten_left with-or-then xs ys h k = within_trans (left_within overlay_keeps xs ys k) (within_left _ _)
+rewritten_left with_or_then xs ys h k = within_trans (left_within overlay_keeps xs ys k) (within_left _ _)
 rewritten_left any_order xs ys h k =
     within_trans (within_trans (left_within chain_keeps xs ys k) (within_left _ _)) (within_left _ _)
 rewritten_left with xs ys h k = left_within overlay_keeps xs ys k
@@ -182,9 +182,9 @@ rewritten_left or_else xs ys h k = within_left xs ys
 rewritten_right : (j : Join) (xs ys : List Alternative) → 0 < length xs → 0 < length ys
     → Within ys (rewritten j xs ys)
 unfolding rewritten
-rewritten_right followed-by xs ys h k = right_within chain_keeps xs ys h
+rewritten_right followed_by_join xs ys h k = right_within chain_keeps xs ys h
 rewritten_right either_order xs ys h k = within_trans (right_within chain_keeps xs ys h) (within_left _ _)
-rewritten_right with-or-then xs ys h k = within_trans (right_within overlay_keeps xs ys h) (within_left _ _)
+rewritten_right with_or_then xs ys h k = within_trans (right_within overlay_keeps xs ys h) (within_left _ _)
 rewritten_right any_order xs ys h k =
     within_trans (within_trans (right_within chain_keeps xs ys h) (within_left _ _)) (within_left _ _)
 rewritten_right with xs ys h k = right_within overlay_keeps xs ys h
@@ -219,9 +219,9 @@ unfolding alternatives
 while_part s p c = conditioned_part c (alternatives p)
 
 -- a part over a limit makes a whole over a limit
-or-true : (p q : Bool) → q ≡ true → (p || q) ≡ true
-or-true true q h = refl
-or-true false q h = h
+or_true : (p q : Bool) → q ≡ true → (p || q) ≡ true
+or_true true q h = refl
+or_true false q h = h
 
 or_cases : (p q : Bool) {R : Type 0} → (p || q) ≡ true → (p ≡ true → R) → (q ≡ true → R) → R
 or_cases true q h f g = f refl
@@ -231,9 +231,9 @@ pub limit_part : (xs zs : List Alternative) → Within xs zs → over_limit xs �
 unfolding over_limit
 limit_part xs zs w h =
     or_cases _ _ h (λ e. rw (up 64 w.number e) refl)
-    (λ r. or-true (ltb 64 (length zs)) _
+    (λ r. or_true (ltb 64 (length zs)) _
     (or_cases _ _ r (λ e. rw (up 16 w.steps e) refl)
-    (λ e. or-true (ltb 16 (greatest_of length zs)) _ (up 64 w.most e))))
+    (λ e. or_true (ltb 16 (greatest_of length zs)) _ (up 64 w.most e))))
   where
     up : (n : ℕ) {a b : ℕ} → a ≤ b → ltb n a ≡ true → ltb n b ≡ true
     up n {a} {b} l e = lt-ltb n b (omega (arith, ltb-true n a e))

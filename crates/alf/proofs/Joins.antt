@@ -11,7 +11,7 @@ use Rattle.alf.specs.Expressions.{Boolean}
 use Rattle.alf.specs.Windows.{Window, followed_by, either}
 use Rattle.alf.specs.Alternatives.{Alternative, steps_from}
 use Rattle.basics.proofs.Bools.{equal?}
-use Rattle.basics.proofs.Extremes.{min_max_left, greatest_same, greatest_zero, greatest-one, greatest_max}
+use Rattle.basics.proofs.Extremes.{min_max_left, greatest_same, greatest_zero, greatest_one, greatest_max}
 use Rattle.alf.proofs.Steps.{steps_append}
 use Rattle.alf.proofs.Lifting.{win, win_on, win_off, Lifts}
 
@@ -80,7 +80,7 @@ module _ (st : Boolean → ℕ → ℕ) (x y : Alternative) (a b : ℕ) where
       go : (b ≡ a + length x + length y) ⊎ (b ≡ a + length x + length y → ⊥)
           → greatest (b - (a + 1)) split ≡ win st (x ++ y) a b
       go (inl e) =
-          greatest-one (b - (a + 1)) (length x - 1) split (omega arith) (λ i l n. split_off i n h)
+          greatest_one (b - (a + 1)) (length x - 1) split (omega arith) (λ i l n. split_off i n h)
           ∙ split_on e h
           ∙ sym (win_on st (x ++ y) a b (omega (arith, length-append x y)))
       go (inr n) =

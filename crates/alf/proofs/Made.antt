@@ -6,7 +6,7 @@ use mathlib.Core.Bool.{false}
 use lib.Dec.{ltb, eqb}
 use borrow.Author.Tests.{ltb-true, ltb-false, eqb-true}
 use Rattle.alf.specs.Expressions.{Boolean, name, literal, negated, binary, choice, Vector, edge, join, while}
-use Rattle.alf.specs.Expressions.{on-right, on-left, Expression, boolean, vector}
+use Rattle.alf.specs.Expressions.{on_right, on_left, Expression, boolean, vector}
 use Rattle.alf.specs.Decoder.{Stack, empty, broken, push, Operation, of_one, of_two, of_three, of_vectors}
 use Rattle.alf.specs.Decoder.{of_side, wrong, binary_at, join_at, edge_at, leaf_at, pair_at}
 use Rattle.alf.specs.Decoder.{three_at, one_at, operation_at}
@@ -29,10 +29,10 @@ pub data Made (names b : ℕ) (s : Stack) : Stack → Type 0 where
   a_join : {p q : Vector} {r : Stack} → 50 ≤ b → b < 56 → s ≡ push (vector q) (push (vector p) r)
       → Made names b s (push (vector (join (join_at (b - 50)) p q)) r)
   a_condition : {p : Vector} {c : Boolean} {r : Stack} → b ≡ 56 → s ≡ push (boolean c) (push (vector p) r)
-      → Made names b s (push (vector (while on-right p c)) r)
+      → Made names b s (push (vector (while on_right p c)) r)
   a_condition_before : {p : Vector} {c : Boolean} {r : Stack} → b ≡ 57
       → s ≡ push (vector p) (push (boolean c) r)
-      → Made names b s (push (vector (while on-left p c)) r)
+      → Made names b s (push (vector (while on_left p c)) r)
   nothing : Made names b s broken
 
 -- a stack has a boolean expression on top, or not; a vector expression, or not
@@ -88,16 +88,16 @@ module _ (P : Stack → Type 0) (none : P broken) (s : Stack) where
       (λ q o e. rw e (by_vector o (λ d. rw d none) (λ p r d. rw d (made_of p q r (e ∙ ap (push (vector q)) d)))))
 
   run_right : ((p : Vector) (c : Boolean) (r : Stack) → s ≡ push (boolean c) (push (vector p) r)
-      → P (push (vector (while on-right p c)) r))
-      → P (run (of_side on-right) s)
+      → P (push (vector (while on_right p c)) r))
+      → P (run (of_side on_right) s)
   unfolding run if_so is_boolean is_vector top_boolean top_vector under
   run_right made_of =
       by_boolean s (λ e. rw e none)
       (λ c o e. rw e (by_vector o (λ d. rw d none) (λ p r d. rw d (made_of p c r (e ∙ ap (push (boolean c)) d)))))
 
   run_left : ((p : Vector) (c : Boolean) (r : Stack) → s ≡ push (vector p) (push (boolean c) r)
-      → P (push (vector (while on-left p c)) r))
-      → P (run (of_side on-left) s)
+      → P (push (vector (while on_left p c)) r))
+      → P (run (of_side on_left) s)
   unfolding run if_so is_boolean is_vector top_boolean top_vector under
   run_left made_of =
       by_vector s (λ e. rw e none)

@@ -13,8 +13,8 @@ use borrow.Author.Tests.{lt-ltb, le-ltb, ltb-true, eqb-true}
 use Rattle.alf.specs.Expressions.{name, literal, binary, choice}
 use Rattle.alf.specs.Expressions.{Binary, and, or, xor, xnor, equals, differs, above, below, is_at_least, is_at_most}
 use Rattle.alf.specs.Expressions.{Half, any, the, Edge, pair, changes, stays, edge, join}
-use Rattle.alf.specs.Expressions.{Join, followed-by, either_order, with-or-then, any_order, with, or_else}
-use Rattle.alf.specs.Expressions.{on-right, on-left, vector, HalfKnown, EdgeKnown}
+use Rattle.alf.specs.Expressions.{Join, followed_by_join, either_order, with_or_then, any_order, with, or_else}
+use Rattle.alf.specs.Expressions.{on_right, on_left, vector, HalfKnown, EdgeKnown}
 use Rattle.alf.specs.Bytes.{binary_byte, join_byte, half_number, edge_number}
 use Rattle.alf.specs.Decoder.{binary_at, join_at, half_at, edge_at}
 use Rattle.alf.specs.Decoder.{leaf, of_one, of_two, of_three, of_vectors, of_side, negation}
@@ -108,9 +108,9 @@ binary_operation names is_at_most = refl
 
 pub join_operation : (names : ℕ) (j : Join) → operation_at names (join_byte j) ≡ of_vectors (join j)
 unfolding operation_at pair_at join_byte join_at
-join_operation names followed-by = refl
+join_operation names followed_by_join = refl
 join_operation names either_order = refl
-join_operation names with-or-then = refl
+join_operation names with_or_then = refl
 join_operation names any_order = refl
 join_operation names with = refl
 join_operation names or_else = refl
@@ -123,11 +123,11 @@ pub choice_operation : (names : ℕ) → operation_at names 60 ≡ of_three choi
 unfolding operation_at three_at
 choice_operation names = refl
 
-pub right_operation : (names : ℕ) → operation_at names 56 ≡ of_side on-right
+pub right_operation : (names : ℕ) → operation_at names 56 ≡ of_side on_right
 unfolding operation_at pair_at
 right_operation names = refl
 
-pub left_operation : (names : ℕ) → operation_at names 57 ≡ of_side on-left
+pub left_operation : (names : ℕ) → operation_at names 57 ≡ of_side on_left
 unfolding operation_at pair_at
 left_operation names = refl
 

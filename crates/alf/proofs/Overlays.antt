@@ -12,7 +12,7 @@ use Rattle.alf.specs.Expressions.{Boolean}
 use Rattle.alf.specs.Windows.{Window, either, together}
 use Rattle.alf.specs.Alternatives.{Alternative, overlaid, steps_from}
 use Rattle.basics.proofs.Bools.{equal?, below?}
-use Rattle.basics.proofs.Extremes.{min_max_left, greatest_same, greatest_zero, greatest-one, greatest_max}
+use Rattle.basics.proofs.Extremes.{min_max_left, greatest_same, greatest_zero, greatest_one, greatest_max}
 use Rattle.alf.proofs.Steps.{steps_overlaid, overlaid_length}
 use Rattle.alf.proofs.Lifting.{win, win_on, win_off, Lifts}
 
@@ -66,11 +66,11 @@ overlay_no_right : (P : Window) (a b : ℕ) → together P (λ c d. 0) a b ≡ 0
 overlay_no_right P a b = overlay_turn P (λ c d. 0) a b ∙ overlay_no_left P a b
 
 -- min is no where one of the two is
-min-left : (u v : ℕ) → u ≡ 0 → min u v ≡ 0
-min-left u v e = omega arith
+min_left : (u v : ℕ) → u ≡ 0 → min u v ≡ 0
+min_left u v e = omega arith
 
-min-right : (u v : ℕ) → v ≡ 0 → min u v ≡ 0
-min-right u v e = omega arith
+min_right : (u v : ℕ) → v ≡ 0 → min u v ≡ 0
+min_right u v e = omega arith
 
 module _ (st : Boolean → ℕ → ℕ) (x y : Alternative) (a b : ℕ) where
   -- x from a and y from a + i, both to b: no unless their lengths fit
@@ -83,8 +83,8 @@ module _ (st : Boolean → ℕ → ℕ) (x y : Alternative) (a b : ℕ) where
           → (b ≡ a + i + length y) ⊎ (b ≡ a + i + length y → ⊥)
           → min (win st x a b) (win st y (a + i) b) ≡ 0
       go (inl e) (inl f) = absurd (n (omega arith) (omega arith) (omega arith))
-      go (inl e) (inr f) = min-right _ _ (win_off st y (a + i) b f)
-      go (inr e) f = min-left _ _ (win_off st x a b e)
+      go (inl e) (inr f) = min_right _ _ (win_off st y (a + i) b f)
+      go (inr e) f = min_left _ _ (win_off st x a b e)
 
   over_on : b ≡ a + length x → length y ≤ length x
       → min (win st x a b) (win st y (a + (length x - length y)) b) ≡ steps_from st (overlaid x y) a
@@ -147,7 +147,7 @@ module _ (st : Boolean → ℕ → ℕ) (x y : Alternative) (a b : ℕ) (l : len
       go : (b ≡ a + length x) ⊎ (b ≡ a + length x → ⊥)
           → greatest (b + 1 - a) over ≡ win st (overlaid x y) a b
       go (inl e) =
-          greatest-one (b + 1 - a) (length x - length y) over (omega arith) (λ i m n. over_other i n)
+          greatest_one (b + 1 - a) (length x - length y) over (omega arith) (λ i m n. over_other i n)
           ∙ over_there e
           ∙ sym (win_on st (overlaid x y) a b (omega (arith, overlaid_length x y)))
       go (inr n) =

@@ -10,7 +10,7 @@ use mathlib.Core.List.{[], ◌∷◌}
 use Rattle.basics.specs.Words.{greatest, least, some, all}
 use Rattle.alf.specs.declared.Rules.{Rules}
 use Rattle.alf.specs.States.{X, U, reduce, table, among, matches, in_cells, in_lines, relations}
-use Rattle.alf.specs.Expressions.{edge, join, while, with, on-right, Vector}
+use Rattle.alf.specs.Expressions.{edge, join, while, with, on_right, Vector}
 use Rattle.alf.specs.Values.{value, recorded_or, state, state_at}
 use Rattle.alf.specs.Windows.{asked, digit_asked, letter_asked, edge_on, followed_by, together, certainty}
 use Rattle.alf.specs.Windows.{held}
@@ -44,7 +44,7 @@ unfolding states row_answer numbered best answer joined together followed_by gre
     asked digit_asked letter_asked reduce
 not_left_aligned ρ = refl
 
-pub not_last_row_only : (ρ : Rules) → row_answer (state_at ρ names states) (while on-right pulse A) 2 ≡ 0
+pub not_last_row_only : (ρ : Rules) → row_answer (state_at ρ names states) (while on_right pulse A) 2 ≡ 0
 unfolding states row_answer numbered best answer joined followed_by greatest least held certainty value recorded_or state
     edge_on asked digit_asked letter_asked reduce
 not_last_row_only ρ = refl

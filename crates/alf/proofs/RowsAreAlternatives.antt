@@ -18,7 +18,7 @@ use Rattle.alf.specs.Windows.{answer, best, row_answer, numbered}
 use Rattle.alf.specs.Alternatives.{Alternative, alternatives, steps_from, on_window, at_row, best_of, answer_of}
 use Rattle.basics.proofs.Bools.{below?}
 use Rattle.basics.proofs.AllEntries.{none, more}
-use Rattle.basics.proofs.Extremes.{greatest_same, greatest_zero, greatest-one, greatest_of_swap, greatest_of_same}
+use Rattle.basics.proofs.Extremes.{greatest_same, greatest_zero, greatest_one, greatest_of_swap, greatest_of_same}
 use Rattle.alf.proofs.Steps.{steps_small}
 use Rattle.alf.proofs.Lifting.{Steps, most, win_on, win_off}
 use Rattle.alf.proofs.WindowsAreAlternatives.{window_alternatives, every_has_steps}
@@ -51,7 +51,7 @@ module _ (st : Boolean → ℕ → ℕ) where
       go (inl h) =
           greatest_zero (i + 1) F (λ a l. win_off st x a i (λ e. omega arith)) ∙ sym (row_off i x h)
       go (inr h) =
-          greatest-one (i + 1) (i - length x) F (omega arith) (λ a l n. win_off st x a i (λ e. n (omega arith)))
+          greatest_one (i + 1) (i - length x) F (omega arith) (λ a l n. win_off st x a i (λ e. n (omega arith)))
           ∙ win_on st x (i - length x) i (omega arith)
           ∙ sym (row_on i x h)
 

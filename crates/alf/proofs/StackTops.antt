@@ -6,7 +6,7 @@ use native.Mathlib.Omega.{arith}
 use mathlib.Core.Path.{◌≡◌, refl}
 use mathlib.Core.Bool.{true}
 use Rattle.alf.specs.Expressions.{name, literal, negated, binary, choice, edge, join, while}
-use Rattle.alf.specs.Expressions.{on-right, on-left}
+use Rattle.alf.specs.Expressions.{on_right, on_left}
 use Rattle.alf.specs.Decoder.{Stack, binary_at, join_at, edge_at, is_boolean, is_vector, top_boolean, top_vector, under}
 use Rattle.basics.proofs.Bools.{never}
 use Rattle.alf.proofs.Made.{Made, a_name, a_literal, a_negation, a_binary, a_choice, an_edge, a_join}
@@ -45,12 +45,12 @@ pub record JoinTop (b : ℕ) (s s' : Stack) : Type 0 where
   pub left : is_vector (under s) ≡ true
 
 pub record ConditionTop (s s' : Stack) : Type 0 where
-  pub is : top_vector s' ≡ while on-right (top_vector (under s)) (top_boolean s)
+  pub is : top_vector s' ≡ while on_right (top_vector (under s)) (top_boolean s)
   pub right : is_boolean s ≡ true
   pub left : is_vector (under s) ≡ true
 
 pub record ConditionBeforeTop (s s' : Stack) : Type 0 where
-  pub is : top_vector s' ≡ while on-left (top_vector s) (top_boolean (under s))
+  pub is : top_vector s' ≡ while on_left (top_vector s) (top_boolean (under s))
   pub right : is_vector s ≡ true
   pub left : is_boolean (under s) ≡ true
 

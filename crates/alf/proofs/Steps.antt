@@ -107,9 +107,9 @@ module _ (st : Boolean → ℕ → ℕ) where
   steps_small [] a = omega arith
   steps_small (s ∷ x) a = let e = step_small s a in omega arith
 
-  step-append : (s t : Step) (a : ℕ) → step_at st (s ++ t) a ≡ min (step_at st s a) (step_at st t a)
+  step_append : (s t : Step) (a : ℕ) → step_at st (s ++ t) a ≡ min (step_at st s a) (step_at st t a)
   unfolding step_at
-  step-append s t a = least_of_append (test_at st a) s t (least_of_small (test_at st a) t)
+  step_append s t a = least_of_append (test_at st a) s t (least_of_small (test_at st a) t)
 
   pub steps_append : (x y : Alternative) (a : ℕ)
       → steps_from st (x ++ y) a ≡ min (steps_from st x a) (steps_from st y (a + length x))
@@ -137,7 +137,7 @@ module _ (st : Boolean → ℕ → ℕ) where
   steps_zipped (s ∷ x) [] a h = absurd (omega arith)
   steps_zipped (s ∷ x) (t ∷ y) a h =
       let i = steps_zipped x y (a + 1) (omega arith) in
-      let e = step-append s t a in
+      let e = step_append s t a in
       omega arith
 
   pub steps_overlaid : (x y : Alternative) (a : ℕ)
@@ -175,7 +175,7 @@ module _ (st : Boolean → ℕ → ℕ) where
       ≡ min (step_at st s a) (min (certainty (st c a)) (certainty (st c (a + 1))))
   unfolding step_at least_of test_at edge_on
   step_conditioned c s a =
-      let e = step-append s (test (pair (the 1) (the 1)) c ∷ []) a in
+      let e = step_append s (test (pair (the 1) (the 1)) c ∷ []) a in
       let p = asked_one (st c a) in
       let q = asked_one (st c (a + 1)) in
       let u = step_small s a in

@@ -14,7 +14,7 @@ use lib.ListN.{length, length-append}
 use borrow.Author.Tests.{eq-eqb, ne_eqb}
 use Rattle.basics.specs.Words.{greatest_of, least_of}
 use Rattle.alf.specs.Expressions.{Boolean, Edge, Vector, edge, join, while}
-use Rattle.alf.specs.Expressions.{Join, followed-by, either_order, with-or-then, any_order, with, or_else}
+use Rattle.alf.specs.Expressions.{Join, followed_by_join, either_order, with_or_then, any_order, with, or_else}
 use Rattle.alf.specs.Windows.{Window, edge_on, followed_by, either, together, held, joined, answer}
 use Rattle.alf.specs.Alternatives.{Alternative, test, chained, overlapped, overlaid, conditioned, rewritten}
 use Rattle.alf.specs.Alternatives.{alternatives, test_at, step_at, steps_from, on_window}
@@ -36,9 +36,9 @@ overlapped_steps = all_each overlaid (λ x y h k. omega (arith, overlaid_length 
 
 rewritten_steps : (j : Join) {xs ys : List Alternative} → Steps xs → Steps ys → Steps (rewritten j xs ys)
 unfolding rewritten
-rewritten_steps followed-by s t = chained_steps s t
+rewritten_steps followed_by_join s t = chained_steps s t
 rewritten_steps either_order s t = all_append (chained_steps s t) (chained_steps t s)
-rewritten_steps with-or-then s t = all_append (overlapped_steps s t) (chained_steps s t)
+rewritten_steps with_or_then s t = all_append (overlapped_steps s t) (chained_steps s t)
 rewritten_steps any_order s t = all_append (all_append (chained_steps s t) (overlapped_steps s t)) (chained_steps t s)
 rewritten_steps with s t = overlapped_steps s t
 rewritten_steps or_else s t = all_append s t
@@ -76,10 +76,10 @@ module _ (st : Boolean → ℕ → ℕ) where
       → Means Q ys
       → Means (joined j P Q) (rewritten j xs ys)
   unfolding joined rewritten
-  means_joined followed-by P Q xs ys s t p q = means_chained P Q xs ys s t p q
+  means_joined followed_by_join P Q xs ys s t p q = means_chained P Q xs ys s t p q
   means_joined either_order P Q xs ys s t p q =
       means_either _ _ _ _ (means_chained P Q xs ys s t p q) (means_chained Q P ys xs t s q p)
-  means_joined with-or-then P Q xs ys s t p q =
+  means_joined with_or_then P Q xs ys s t p q =
       means_either _ _ _ _ (means_overlapped P Q xs ys s t p q) (means_chained P Q xs ys s t p q)
   means_joined any_order P Q xs ys s t p q =
       means_either _ _ _ _

@@ -12,7 +12,7 @@ use Rattle.std.specs.Prelude.{ℕ, zero, suc, ◌+◌, ◌-◌, min, Bool, false
 use Rattle.basics.specs.Words.{greatest_of, least_of, sum_of, some, all}
 use Rattle.alf.specs.Expressions.{Boolean, name, literal, negated, binary, choice}
 use Rattle.alf.specs.Expressions.{Half, the, Edge, pair, changes, stays, Vector, edge, join, while}
-use Rattle.alf.specs.Expressions.{Join, followed-by, either_order, with-or-then, any_order, with, or_else}
+use Rattle.alf.specs.Expressions.{Join, followed_by_join, either_order, with_or_then, any_order, with, or_else}
 use Rattle.alf.specs.Windows.{Rank, NO, YES, asked, edge_on, numbered}
 
 -- A step is a list of edge tests; an alternative is a list of steps.
@@ -56,9 +56,9 @@ conditioned c x = map (λ s. s ++ (test (pair (the 1) (the 1)) c ∷ [])) x
 
 -- `|`: left ones, then right ones; the compact operators by their expansion
 unfoldable pub rewritten : Join → List Alternative → List Alternative → List Alternative
-rewritten followed-by xs ys = chained xs ys
+rewritten followed_by_join xs ys = chained xs ys
 rewritten either_order xs ys = chained xs ys ++ chained ys xs
-rewritten with-or-then xs ys = overlapped xs ys ++ chained xs ys
+rewritten with_or_then xs ys = overlapped xs ys ++ chained xs ys
 rewritten any_order xs ys = (chained xs ys ++ overlapped xs ys) ++ chained ys xs
 rewritten with xs ys = overlapped xs ys
 rewritten or_else xs ys = xs ++ ys

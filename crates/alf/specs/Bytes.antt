@@ -11,8 +11,8 @@ use Rattle.std.specs.Prelude.{ℕ, ◌+◌, ◌*◌, min, ◌≡◌, List, [], �
 use Rattle.alf.specs.Expressions.{Boolean, name, literal, negated, binary, choice}
 use Rattle.alf.specs.Expressions.{Binary, and, or, xor, xnor, equals, differs, above, below, is_at_least, is_at_most}
 use Rattle.alf.specs.Expressions.{Half, any, the, Edge, pair, changes, stays, Vector, edge, join, while}
-use Rattle.alf.specs.Expressions.{Join, followed-by, either_order, with-or-then, any_order, with, or_else}
-use Rattle.alf.specs.Expressions.{on-right, on-left, Expression, boolean, vector, ExpressionOver}
+use Rattle.alf.specs.Expressions.{Join, followed_by_join, either_order, with_or_then, any_order, with, or_else}
+use Rattle.alf.specs.Expressions.{on_right, on_left, Expression, boolean, vector, ExpressionOver}
 
 -- From an expression to its bytes.
 unfoldable pub binary_byte : Binary → ℕ
@@ -28,9 +28,9 @@ binary_byte is_at_least = 48
 binary_byte is_at_most = 49
 
 unfoldable pub join_byte : Join → ℕ
-join_byte followed-by = 50
+join_byte followed_by_join = 50
 join_byte either_order = 51
-join_byte with-or-then = 52
+join_byte with_or_then = 52
 join_byte any_order = 53
 join_byte with = 54
 join_byte or_else = 55
@@ -55,8 +55,8 @@ boolean_bytes (choice c a b) = boolean_bytes c ++ (boolean_bytes a ++ (boolean_b
 unfoldable pub vector_bytes : Vector → List ℕ
 vector_bytes (edge e c) = boolean_bytes c ++ ((64 + edge_number e) ∷ [])
 vector_bytes (join j p q) = vector_bytes p ++ (vector_bytes q ++ (join_byte j ∷ []))
-vector_bytes (while on-right p c) = vector_bytes p ++ (boolean_bytes c ++ (56 ∷ []))
-vector_bytes (while on-left p c) = boolean_bytes c ++ (vector_bytes p ++ (57 ∷ []))
+vector_bytes (while on_right p c) = vector_bytes p ++ (boolean_bytes c ++ (56 ∷ []))
+vector_bytes (while on_left p c) = boolean_bytes c ++ (vector_bytes p ++ (57 ∷ []))
 
 unfoldable pub bytes_of : Expression → List ℕ
 bytes_of (boolean c) = boolean_bytes c

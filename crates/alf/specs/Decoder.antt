@@ -9,8 +9,8 @@ use Rattle.std.specs.Prelude.{ℕ, zero, suc, ◌-◌, ◌/◌, ◌%◌, Bool, t
 use Rattle.alf.specs.Expressions.{Boolean, name, literal, negated, binary, choice}
 use Rattle.alf.specs.Expressions.{Binary, and, or, xor, xnor, equals, differs, above, below, is_at_least, is_at_most}
 use Rattle.alf.specs.Expressions.{Half, any, the, Edge, pair, changes, stays, Vector, edge, join, while}
-use Rattle.alf.specs.Expressions.{Join, followed-by, either_order, with-or-then, any_order, with, or_else}
-use Rattle.alf.specs.Expressions.{Side, on-right, on-left, Expression, boolean, vector}
+use Rattle.alf.specs.Expressions.{Join, followed_by_join, either_order, with_or_then, any_order, with, or_else}
+use Rattle.alf.specs.Expressions.{Side, on_right, on_left, Expression, boolean, vector}
 
 -- Each byte takes its operands from a stack of expressions and puts what it makes of them there.
 pub data Stack : Type 0 where
@@ -32,7 +32,7 @@ binary_at k =
     get_or (and ∷ or ∷ xor ∷ xnor ∷ equals ∷ differs ∷ above ∷ below ∷ is_at_least ∷ is_at_most ∷ []) k and
 
 unfoldable pub join_at : ℕ → Join
-join_at k = get_or (followed-by ∷ either_order ∷ with-or-then ∷ any_order ∷ with ∷ or_else ∷ []) k or_else
+join_at k = get_or (followed_by_join ∷ either_order ∷ with_or_then ∷ any_order ∷ with ∷ or_else ∷ []) k or_else
 
 unfoldable pub half_at : ℕ → Half
 half_at zero = any
@@ -55,7 +55,7 @@ unfoldable pub pair_at : ℕ → Operation
 pair_at b =
     if ltb b 50 then of_two (binary (binary_at (b - 40)))
     else if ltb b 56 then of_vectors (join (join_at (b - 50)))
-    else if eqb b 56 then of_side on-right else if eqb b 57 then of_side on-left else wrong
+    else if eqb b 56 then of_side on_right else if eqb b 57 then of_side on_left else wrong
 
 unfoldable pub three_at : ℕ → Operation
 three_at b = if eqb b 60 then of_three choice else wrong
@@ -117,12 +117,12 @@ run (of_three f) s =
 run (of_vectors f) s =
     if_so (is_vector s && is_vector (under s))
     (push (vector (f (top_vector (under s)) (top_vector s))) (under (under s)))
-run (of_side on-right) s =
+run (of_side on_right) s =
     if_so (is_boolean s && is_vector (under s))
-    (push (vector (while on-right (top_vector (under s)) (top_boolean s))) (under (under s)))
-run (of_side on-left) s =
+    (push (vector (while on_right (top_vector (under s)) (top_boolean s))) (under (under s)))
+run (of_side on_left) s =
     if_so (is_vector s && is_boolean (under s))
-    (push (vector (while on-left (top_vector s) (top_boolean (under s)))) (under (under s)))
+    (push (vector (while on_left (top_vector s) (top_boolean (under s)))) (under (under s)))
 run wrong s = broken
 
 -- the stack that the first n bytes build

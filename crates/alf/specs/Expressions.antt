@@ -32,11 +32,11 @@ pub data Edge : Type 0 where
 
 -- operators of two vectors: -> <-> &> <&> & |
 pub data Join : Type 0 where
-  followed-by either_order with-or-then any_order with or_else : Join
+  followed_by_join either_order with_or_then any_order with or_else : Join
 
 -- where a condition stands: P & c, or c & P
 pub data Side : Type 0 where
-  on-right on-left : Side
+  on_right on_left : Side
 
 pub data Vector : Type 0 where
   edge : Edge → Boolean → Vector

@@ -10,22 +10,22 @@ use mathlib.Core.List.{List, [], ◌∷◌, ◌++◌, reverse_aux}
 use Rattle.basics.specs.Words.{all}
 use Rattle.alf.specs.declared.Rules.{Rules}
 use Rattle.alf.specs.Expressions.{name, Half, any, the, Edge, pair, changes, stays, Vector, edge, join, while}
-use Rattle.alf.specs.Expressions.{Join, followed-by, either_order, with-or-then, any_order, with, or_else}
+use Rattle.alf.specs.Expressions.{Join, followed_by_join, either_order, with_or_then, any_order, with, or_else}
 use Rattle.alf.specs.Alternatives.{is_name}
 
 -- `->`; `&`. "Compact operators are not runs."
 unfoldable pub is_then : Join → Bool
-is_then followed-by = true
+is_then followed_by_join = true
 is_then either_order = false
-is_then with-or-then = false
+is_then with_or_then = false
 is_then any_order = false
 is_then with = false
 is_then or_else = false
 
 unfoldable pub is_with : Join → Bool
-is_with followed-by = false
+is_with followed_by_join = false
 is_with either_order = false
-is_with with-or-then = false
+is_with with_or_then = false
 is_with any_order = false
 is_with with = true
 is_with or_else = false

@@ -11,7 +11,7 @@ use Rattle.alf.specs.declared.Rules.{Rules}
 use Rattle.alf.specs.States.{X, H, Z}
 use Rattle.alf.specs.Expressions.{Boolean, name, literal, binary, choice, and, or, equals}
 use Rattle.alf.specs.Expressions.{the, Edge, pair, changes}
-use Rattle.alf.specs.Expressions.{Vector, edge, join, while, on-right, followed-by, any_order, with}
+use Rattle.alf.specs.Expressions.{Vector, edge, join, while, on_right, followed_by_join, any_order, with}
 use Rattle.alf.specs.Values.{state_at, value_at}
 use Rattle.alf.specs.Windows.{row_answer}
 use Rattle.alf.specs.Alternatives.{steps_of}
@@ -69,7 +69,7 @@ pub data Case : Type 0 where
 
 -- 01 A -> 10 B
 abbrev pub pulse : Vector
-pulse = join followed-by (edge rise A) (edge fall B)
+pulse = join followed_by_join (edge rise A) (edge fall B)
 
 unfoldable pub cases : List Case
 cases =
@@ -78,7 +78,7 @@ cases =
     -- 2
     ∷ answers (bytes "01 A -> 10 B") pulse (3 ∷ 0 ∷ 1 ∷ 0 ∷ 0 ∷ 2 ∷ [])
     -- 3
-    ∷ answers (bytes "( 01 A -> 10 B ) & C") (while on-right pulse C) (3 ∷ 0 ∷ 2 ∷ 0 ∷ 0 ∷ 2 ∷ [])
+    ∷ answers (bytes "( 01 A -> 10 B ) & C") (while on_right pulse C) (3 ∷ 0 ∷ 2 ∷ 0 ∷ 0 ∷ 2 ∷ [])
     -- 4
     ∷ answers (bytes "01 ( A & B )") (edge rise (binary and A B)) (3 ∷ 1 ∷ 0 ∷ 0 ∷ 2 ∷ 0 ∷ [])
     -- 5

@@ -12,7 +12,7 @@ use Rattle.basics.specs.Words.{greatest, least}
 use Rattle.alf.specs.States.{X, reduce}
 use Rattle.alf.specs.Expressions.{Boolean, Half, any, the, Edge, pair, changes, stays}
 use Rattle.alf.specs.Expressions.{Vector, edge, join, while}
-use Rattle.alf.specs.Expressions.{Join, followed-by, either_order, with-or-then, any_order, with, or_else}
+use Rattle.alf.specs.Expressions.{Join, followed_by_join, either_order, with_or_then, any_order, with, or_else}
 
 -- Answers are ordered no < unknown < yes. A rank is the place of an answer in this order, so that the lesser is `min`
 -- and the greater `max`; it is written as a word. It is not document 01's number of the answer: see `numbered`.
@@ -76,9 +76,9 @@ held c a b = least (b + 1 - a) (λ i. certainty (c (a + i)))
 
 -- P <-> Q is P -> Q | Q -> P; P &> Q is P & Q | P -> Q; P <&> Q is P -> Q | P & Q | Q -> P
 unfoldable pub joined : Join → Window → Window → Window
-joined followed-by P Q = followed_by P Q
+joined followed_by_join P Q = followed_by P Q
 joined either_order P Q = either (followed_by P Q) (followed_by Q P)
-joined with-or-then P Q = either (together P Q) (followed_by P Q)
+joined with_or_then P Q = either (together P Q) (followed_by P Q)
 joined any_order P Q = either (either (followed_by P Q) (together P Q)) (followed_by Q P)
 joined with P Q = together P Q
 joined or_else P Q = either P Q

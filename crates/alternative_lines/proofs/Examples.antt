@@ -10,7 +10,7 @@ use Rattle.alf.specs.Names.{until_zero, slot}
 use Rattle.alf.specs.States.{reduce}
 use Rattle.alf.specs.Windows.{asked, digit_asked, letter_asked}
 use Rattle.alf.specs.Expressions.{Boolean, negated, binary, or, the, pair, changes, Vector, edge, join, while}
-use Rattle.alf.specs.Expressions.{followed-by, any_order, with, or_else, on-right}
+use Rattle.alf.specs.Expressions.{followed_by_join, any_order, with, or_else, on_right}
 use Rattle.alf.specs.Bytes.{binary_byte, half_number, edge_number, boolean_bytes, vector_bytes, bytes_of}
 use Rattle.alf.specs.Alternatives.{test, each, padded, zipped, overlaid, conditioned, rewritten, alternatives, is_name}
 use Rattle.alf.specs.Alternatives.{halves, literals_at, possible, contradictory}
@@ -39,12 +39,12 @@ names = slot_of 65 ++ (slot_of 66 ++ slot_of 67)
 abbrev pub contradicting : Vector
 contradicting =
     join or_else (join with (edge rise A) (edge fall A))
-    (join followed-by (edge (pair (the 2) (the 1)) (binary or A B)) (edge changes C))
+    (join followed_by_join (edge (pair (the 2) (the 1)) (binary or A B)) (edge changes C))
 
 pub as_printed :
     (listing names (alternatives (join any_order (edge rise A) (edge fall B)))
     ≡ bytes "number\tnote\talternative\n1\t-\t01 A -> 10 B\n2\t-\t01 A & 10 B\n3\t-\t10 B -> 01 A\n")
-    × (listing names (alternatives (while on-right pulse C))
+    × (listing names (alternatives (while on_right pulse C))
     ≡ bytes "number\tnote\talternative\n1\t-\t01 A & 11 C -> 10 B & 11 C\n")
     × (listing names (alternatives (join with (edge fall C) pulse))
     ≡ bytes "number\tnote\talternative\n1\t-\t01 A -> 10 C & 10 B\n")

@@ -1,6 +1,6 @@
 -- The parts of a line, and the lines one by one.
 --   number_countable, number_put, note_none, note_some, mark_put, line_put      the parts
---   LinesSoFar, lines-first, -asked, -next, -last      a line for each alternative
+--   LinesSoFar, lines_first, -asked, -next, -last      a line for each alternative
 --   heading_put      the heading before them
 use Prim.Native.Nat.{ℕ, ◌+◌, ◌*◌, ◌<◌, ◌≤◌}
 use native.Mathlib.Omega.{arith}
@@ -84,10 +84,10 @@ heading_short : length (bytes "number\tnote\talternative\n") ≤ 24
 unfolding bytes
 heading_short = omega arith
 
-line-is : (names : List ℕ) (number flag : ℕ) (x : Alternative)
+line_is : (names : List ℕ) (number flag : ℕ) (x : Alternative)
     → marked number flag ++ (alternative_text names x ++ bytes "\n") ≡ line_of names number (flagged flag) x
 unfolding line_of marked noted joined bytes
-line-is names number flag x = simp append_assoc
+line_is names number flag x = simp append_assoc
 
 pub line_put : (names : List ℕ) (number flag : ℕ) (x : Alternative) {out out' out'' out''' : List ℕ}
     {at p q r : ℕ}
@@ -95,7 +95,7 @@ pub line_put : (names : List ℕ) (number flag : ℕ) (x : Alternative) {out out
     → Put out'' q (bytes "\n") out''' r → Puts out at (line_of names number (flagged flag) x) 266538531 out''' r
 line_put names number flag x a b c =
     let z = both_put a (both_put b (record { put = c; few = one })) in
-    record { put = put_as (line-is names number flag x) z.put; few = rw (line-is names number flag x) at z.few }
+    record { put = put_as (line_is names number flag x) z.put; few = rw (line_is names number flag x) at z.few }
 
 -- the lines of the first k alternatives are written; the next one starts at step s and test t
 pub record LinesSoFar (names steps tests flags : List ℕ) (all : List Test) (out₀ : List ℕ) (at s t k : ℕ)
@@ -116,8 +116,8 @@ module _ {names tree steps tests edges operands flags : List ℕ} {at : ℕ}
   many = tests_length tree (names_in names) edges operands h.shape.known.enough
 
   module _ {out₀ : List ℕ} where
-    pub lines-first : LinesSoFar names steps tests flags all out₀ at 0 0 0 out₀ at
-    lines-first =
+    pub lines_first : LinesSoFar names steps tests flags all out₀ at 0 0 0 out₀ at
+    lines_first =
         record {
           within = omega arith;
           steps_room = omega (arith, h.shape.enough_steps);

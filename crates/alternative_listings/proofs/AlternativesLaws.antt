@@ -27,7 +27,7 @@ use Rattle.tokens.proofs.ShownBytes.{refused_in_unique}
 use Rattle.reader.specs.declared.Read.{Read}
 use Rattle.reader.specs.Reading.{read_order, ReadsText}
 use Rattle.reader.proofs.Unique.{gives_unique}
-use Rattle.text_laws.proofs.ReadTrees.{Found, read-refused, read_sole, found_accepted, found_vector}
+use Rattle.text_laws.proofs.ReadTrees.{Found, read_refused, read_sole, found_accepted, found_vector}
 use Rattle.text_laws.proofs.ReadTrees.{vector_given, vector_decodes}
 use Rattle.figures.specs.Delivering.{line_order}
 use Rattle.figures.proofs.Delivering.{delivers_unique}
@@ -39,7 +39,7 @@ use Rattle.alternative_listings.specs.AlternativesText.{RewritesText, refused, r
 
 pub refused_text : {ρ : Rules} {names text out : List ℕ} {r : Read} → ReadsText ρ names text sort.Vector r
     → r.refused ≡ true → RewritesText ρ names text out out (record { written = Refused r.refusal; untold = 0 })
-refused_text h e = refused (read-refused h e)
+refused_text h e = refused (read_refused h e)
 
 -- the names and the tree of a text are good, so 9 is left
 module _ (ρ : Rules) (names tree : List ℕ) (room : ℕ) (good : Passed (names_order names))

@@ -23,7 +23,7 @@ use Rattle.alf.specs.Refusals.{RefusedWith, Passed, Comes}
 use Rattle.names.specs.Check.{names_order}
 use Rattle.acceptance.specs.Accepted.{Accepted}
 use Rattle.alternatives.specs.InMemory.{sum, alternatives_of_lem}
-use Rattle.alternatives.proofs.Cuts.{cut-length, tests_length}
+use Rattle.alternatives.proofs.Cuts.{cut_length, tests_length}
 use Rattle.rewriting.specs.declared.lists.Alternatives.{Alternatives}
 use Rattle.rewriting.specs.Lists.{joined, alternatives_at, step_list, test_list, edge_list, Holds}
 use Rattle.contradictions.specs.Possible.{flag_of, flag_list, Flagged, Reported}
@@ -68,7 +68,7 @@ module _ {names tree steps tests edges operands : List ℕ} (h : Listed names tr
 
   number : length (flag_list (names_in names) xs) ≡ length steps
   unfolding flag_list alternatives_of_lem
-  number = length-map xs _ ∙ cut-length steps _
+  number = length-map xs _ ∙ cut_length steps _
 
   pub noted_all : {flags flags' : List ℕ} → Flagged (names_in names) xs flags flags'
       → AllLines names tree steps tests edges operands flags' 0

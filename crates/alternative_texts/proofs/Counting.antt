@@ -17,7 +17,7 @@ use Rattle.alf.specs.Decoder.{edge_at}
 use Rattle.alf.specs.Alternatives.{Test, test}
 use Rattle.trees.specs.Parts.{boolean_at}
 use Rattle.alternatives.specs.InMemory.{cut, test_of, sum}
-use Rattle.alternatives.proofs.Cuts.{cut-length, sum_nil, sum-cons, test_at_lem, tests_length}
+use Rattle.alternatives.proofs.Cuts.{cut_length, sum_nil, sum_cons, test_at_lem, tests_length}
 use Rattle.alternative_texts.specs.Texts.{readable, missing, expression_of, untold_test, untold}
 use Rattle.alternative_texts.specs.Inner.{ShowsTest, Testable, Tested, Untold, all_tests}
 
@@ -89,26 +89,26 @@ module _ {names tree edges operands : List ℕ} (h : Tested names tree edges ope
         omega (arith, g.is, ap (sum_of (untold_test names)) (drop_of_length-le all b))
 
 -- sums over pieces
-sum-append : {A : Type 0} (f : A → ℕ) (xs ys : List A) → sum_of f (xs ++ ys) ≡ sum_of f xs + sum_of f ys
+sum_append : {A : Type 0} (f : A → ℕ) (xs ys : List A) → sum_of f (xs ++ ys) ≡ sum_of f xs + sum_of f ys
 unfolding sum_of
-sum-append f [] ys = omega arith
-sum-append f (x ∷ xs) ys = omega (arith, sum-append f xs ys)
+sum_append f [] ys = omega arith
+sum_append f (x ∷ xs) ys = omega (arith, sum_append f xs ys)
 
 sum_cut : {A : Type 0} (f : A → ℕ) (ns : List ℕ) (xs : List A)
     → sum_of (sum_of f) (cut ns xs) ≡ sum_of f (take (sum ns) xs)
 unfolding sum_of cut
 sum_cut f [] xs = rw sum_nil refl
 sum_cut f (n ∷ ns) xs =
-    rw (sum-cons n ns, take-add n (sum ns) xs)
+    rw (sum_cons n ns, take-add n (sum ns) xs)
     (ap (λ (m : ℕ). sum_of f (take n xs) + m) (sum_cut f ns (drop n xs))
-    ∙ sym (sum-append f (take n xs) (take (sum ns) (drop n xs))))
+    ∙ sym (sum_append f (take n xs) (take (sum ns) (drop n xs))))
 
 pub counted_all : (names steps tests : List ℕ) (all : List Test) → length tests ≤ sum steps
     → length all ≤ sum tests
     → untold names (cut steps (cut tests all)) ≡ sum_of (untold_test names) all
 unfolding untold
 counted_all names steps tests all l m =
-    let a : length (cut tests all) ≤ sum steps = omega (arith, cut-length tests all) in
+    let a : length (cut tests all) ≤ sum steps = omega (arith, cut_length tests all) in
     sum_cut (sum_of (untold_test names)) steps (cut tests all)
     ∙ ap (sum_of (sum_of (untold_test names))) (take_all (sum steps) (cut tests all) a)
     ∙ sum_cut (untold_test names) tests all

@@ -1,7 +1,7 @@
 -- The text of a step, from the lists.
 --   test_asked, test_countable, test_put      a test with the gap before it
 --   StepSoFar, step_first, -asked, -next, -last      the tests of a step, one by one
---   tests_asked, empty_countable, step_empty, step-some      a step with the gap before it, by whether it has tests
+--   tests_asked, empty_countable, step_empty, step_some      a step with the gap before it, by whether it has tests
 use Prim.Native.Nat.{ℕ, zero, suc, ◌+◌, ◌*◌, ◌<◌, ◌≤◌}
 use native.Mathlib.Omega.{arith}
 use mathlib.Core.Path.{◌≡◌, refl, sym, ap, ◌∙◌}
@@ -101,10 +101,10 @@ module _ {names tree edges operands : List ℕ} {t n at : ℕ} (h : OneStep name
           (test_at_lem tree (names_in names) edges operands (t + i) no_test (omega (arith, h.there))
           h.tested.known.enough)
 
-      pub step-next : {out' : List ℕ} {q : ℕ} → i < n
+      pub step_next : {out' : List ℕ} {q : ℕ} → i < n
           → Puts out p (lead (bytes " & ") i ++ text_of_test names tree edges operands (t + i)) 4099 out' q
           → StepSoFar names all t n out₀ at (i + 1) out' q
-      step-next l u =
+      step_next l u =
           record {
             within = omega arith;
             laying = parts_next (test_text names) (bytes " & ") i g.laying (apart l) u.put;
@@ -182,10 +182,10 @@ module _ {names tree edges operands : List ℕ} {t n at : ℕ} (h : OneStep name
         h.there,
       )
 
-  pub step-some : {out'' : List ℕ} {r : ℕ} → (n ≡ 0 → ⊥)
+  pub step_some : {out'' : List ℕ} {r : ℕ} → (n ≡ 0 → ⊥)
       → Puts out' p (between (bytes " & ") (map (test_text names) (step_in every t n))) 1045245 out'' r
       → Puts out at (lead (bytes " -> ") j ++ step_text names (step_in every t n)) 1045249 out'' r
-  step-some f q =
+  step_some f q =
       let e = filled names (step_in every t n) (some_tests f) in
       let w = ap (λ (l : List ℕ). lead (bytes " -> ") j ++ l) (sym e) in
       record {

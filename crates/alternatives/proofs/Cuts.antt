@@ -19,9 +19,9 @@ pub sum_nil : sum [] ≡ 0
 unfolding sum sum_of
 sum_nil = refl
 
-pub sum-cons : (n : ℕ) (ns : List ℕ) → sum (n ∷ ns) ≡ n + sum ns
+pub sum_cons : (n : ℕ) (ns : List ℕ) → sum (n ∷ ns) ≡ n + sum ns
 unfolding sum sum_of
-sum-cons n ns = refl
+sum_cons n ns = refl
 
 pub cut_cons : {A : Type 0} (n : ℕ) (ns : List ℕ) (xs : List A)
     → cut (n ∷ ns) xs ≡ take n xs ∷ cut ns (drop n xs)
@@ -36,10 +36,10 @@ pub cut_next : {A : Type 0} (ns : List ℕ) (xs : List A) (k : ℕ) → k < leng
     → cut (drop k ns) xs ≡ take (get_or ns k 0) xs ∷ cut (drop (k + 1) ns) (drop (get_or ns k 0) xs)
 cut_next ns xs k h = rw (drop-cons ns k 0, cut_cons, add-one) refl
 
-pub cut-length : {A : Type 0} (ns : List ℕ) (xs : List A) → length (cut ns xs) ≡ length ns
+pub cut_length : {A : Type 0} (ns : List ℕ) (xs : List A) → length (cut ns xs) ≡ length ns
 unfolding cut
-cut-length [] xs = refl
-cut-length (n ∷ ns) xs = ap suc (cut-length ns (drop n xs))
+cut_length [] xs = refl
+cut_length (n ∷ ns) xs = ap suc (cut_length ns (drop n xs))
 
 -- what is left of the pieces behind the first m
 pub cut_drop : {A : Type 0} (m : ℕ) (ns : List ℕ) (xs : List A)
@@ -52,7 +52,7 @@ cut_drop (suc m) (n ∷ ns) xs = cut_drop m ns (drop n xs) ∙ ap (cut (drop m n
 
 -- the sum behind entry j, and of entries j on
 pub sum_next : (ns : List ℕ) (j : ℕ) → j < length ns → sum (drop j ns) ≡ get_or ns j 0 + sum (drop (j + 1) ns)
-sum_next ns j h = rw (drop-cons ns j 0, add-one) (sum-cons (get_or ns j 0) (drop (suc j) ns))
+sum_next ns j h = rw (drop-cons ns j 0, add-one) (sum_cons (get_or ns j 0) (drop (suc j) ns))
 
 pub sum_take : (ns : List ℕ) (n : ℕ) → sum (take n ns) + sum (drop n ns) ≡ sum ns
 unfolding sum sum_of
@@ -108,7 +108,7 @@ test_at_lem tree names (k ∷ edges) (e ∷ ends) (suc t) d h m =
 -- a sum over a part, from its front
 pub sum_part : (ns : List ℕ) (s n i : ℕ) → i < n → s + i < length ns
     → sum (part ns s n i) ≡ get_or ns (s + i) 0 + sum (part ns s n (i + 1))
-sum_part ns s n i h k = rw (part_next ns s n i 0 h k, sum-cons) refl
+sum_part ns s n i h k = rw (part_next ns s n i 0 h k, sum_cons) refl
 
 -- the greatest of a list, from its front
 pub most_next : (ns : List ℕ) (i : ℕ) → i < length ns

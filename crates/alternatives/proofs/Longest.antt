@@ -11,7 +11,7 @@ use Rattle.basics.specs.Words.{greatest_of, sum_of}
 use Rattle.alf.specs.Alternatives.{Alternative}
 use Rattle.basics.proofs.AllEntries.{All, none, more, all_weaken}
 use Rattle.alternatives.specs.InMemory.{cut, sum, Shape, tests_of, alternatives_of_lem}
-use Rattle.alternatives.proofs.Cuts.{cut-length}
+use Rattle.alternatives.proofs.Cuts.{cut_length}
 use Rattle.alternatives.specs.InMemory.{longest_of}
 
 pieces : {A : Type 0} (ns : List ℕ) (ys : List A) → sum ns ≤ length ys
@@ -28,7 +28,7 @@ pub longest_is : {tree : List ℕ} {names : ℕ} {steps tests edges operands : L
     → greatest_of (λ n. n) steps ≡ longest_of (alternatives_of_lem tree names steps tests edges operands)
 unfolding alternatives_of_lem
 longest_is {tree} {names} {steps} {tests} {edges} {operands} s =
-    let e = cut-length tests (tests_of tree names edges operands) in
+    let e = cut_length tests (tests_of tree names edges operands) in
     sym (pieces steps (cut tests (tests_of tree names edges operands)) (omega (arith, s.enough_steps)))
 
 pub longest_within : (xs : List Alternative) → All (λ x. length x ≤ longest_of xs) xs

@@ -12,7 +12,7 @@ use lib.Seq.{get_or-append-add}
 use lib.Dec.{ltb}
 use lib.ListN.{get_or, length, length-append, length-map, get_or-append}
 use borrow.Author.Tests.{ltb-true, ltb-false}
-use Rattle.alf.specs.Expressions.{Join, followed-by, either_order, with-or-then, any_order, with, or_else}
+use Rattle.alf.specs.Expressions.{Join, followed_by_join, either_order, with_or_then, any_order, with, or_else}
 use Rattle.alf.specs.Decoder.{join_at}
 use Rattle.alf.specs.Alternatives.{Alternative, each, chained, overlaid, overlapped, rewritten}
 use Rattle.alf.proofs.Growth.{length_each}
@@ -24,10 +24,10 @@ use Rattle.basics.proofs.Entries.{get_d_map, get_d_second}
 pub count_rewritten : (j : Join) (xs ys : List Alternative)
     → length (rewritten j xs ys) ≡ count_of j (length xs) (length ys)
 unfolding rewritten count_of
-count_rewritten followed-by xs ys = length_each ◌++◌ xs ys
+count_rewritten followed_by_join xs ys = length_each ◌++◌ xs ys
 count_rewritten either_order xs ys =
     length-append (chained xs ys) _ ∙ simp length_each (rw (mul_comm (length ys)) refl)
-count_rewritten with-or-then xs ys = length-append (overlapped xs ys) _ ∙ simp length_each
+count_rewritten with_or_then xs ys = length-append (overlapped xs ys) _ ∙ simp length_each
 count_rewritten any_order xs ys =
     length-append (chained xs ys ++ overlapped xs ys) _
     ∙ rw (length-append (chained xs ys)) (simp length_each (rw (mul_comm (length ys)) refl))
@@ -135,7 +135,7 @@ module _ (n m v : ℕ) (p : 0 < n) (q : 0 < m) (l : v < n * m) where
   first_chained (suc (suc (suc (suc zero)))) o a b = absurd (b refl)
   first_chained (suc (suc (suc (suc (suc k))))) o a b = absurd (omega arith)
 
-  pub first_with_or_then : Picked with-or-then n m v Together (v / m) (v % m)
+  pub first_with_or_then : Picked with_or_then n m v Together (v / m) (v % m)
   unfolding rewritten put
   first_with_or_then =
       record {
@@ -158,7 +158,7 @@ module _ (n m v : ℕ) (p : 0 < n) (q : 0 < m) (l : v < n * m) where
         is = λ xs ys e d. second n m v xs ys e d ◌++◌ _ ∙ back n m v p q l xs ys e d;
       }
 
-  pub second_with_or_then : Picked with-or-then n m (n * m + v) LeftFirst (v / m) (v % m)
+  pub second_with_or_then : Picked with_or_then n m (n * m + v) LeftFirst (v / m) (v % m)
   unfolding rewritten put
   second_with_or_then =
       record {

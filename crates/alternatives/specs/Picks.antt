@@ -4,7 +4,7 @@
 --   Picked                            alternative t is put together of these two
 --   Operands, Picking, PickingOn      what is asked
 use Rattle.std.specs.Prelude.{ℕ, ◌+◌, ◌-◌, ◌*◌, ◌<◌, ◌≤◌, ◌≡◌, List, [], ◌++◌, length, get_or}
-use Rattle.alf.specs.Expressions.{Join, followed-by, either_order, with-or-then, any_order, with, or_else}
+use Rattle.alf.specs.Expressions.{Join, followed_by_join, either_order, with_or_then, any_order, with, or_else}
 use Rattle.alf.specs.Decoder.{join_at}
 use Rattle.alf.specs.Alternatives.{Alternative, overlaid, rewritten}
 use Rattle.alternatives.specs.declared.picking.How.{How}
@@ -12,9 +12,9 @@ use Rattle.alternatives.specs.declared.picking.How.TheVariants.{Left, Right, Lef
 
 -- how many alternatives an operator makes of n and m of them
 unfoldable pub count_of : Join → ℕ → ℕ → ℕ
-count_of followed-by n m = n * m
+count_of followed_by_join n m = n * m
 count_of either_order n m = n * m + n * m
-count_of with-or-then n m = n * m + n * m
+count_of with_or_then n m = n * m + n * m
 count_of any_order n m = n * m + n * m + n * m
 count_of with n m = n * m
 count_of or_else n m = n + m

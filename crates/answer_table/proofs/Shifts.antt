@@ -9,7 +9,7 @@ use mathlib.Core.Path.{◌≡◌, refl, ap}
 use mathlib.Core.Logic.{◌⊎◌, inl, inr}
 use borrow.Author.Tests.{lt-ltb, le-ltb, eq-eqb, ne_eqb}
 use Rattle.alf.specs.Expressions.{Edge}
-use Rattle.alf.specs.Expressions.{Join, followed-by, either_order, with-or-then, any_order, with, or_else}
+use Rattle.alf.specs.Expressions.{Join, followed_by_join, either_order, with_or_then, any_order, with, or_else}
 use Rattle.alf.specs.Windows.{Window, certainty, held, followed_by, either, together, joined}
 use Rattle.alf.specs.Decoder.{edge_at, join_at}
 use Rattle.basics.proofs.Bools.{below?, equal?}
@@ -120,12 +120,12 @@ module _ (to : ℕ → ℕ) (keeps : Keeps to) (hi a b : ℕ) (some : a < b) (la
     (p : As to hi P R) (q : As to hi Q S) where
   joined_as : Off P → Off Q → Off R → Off S → (j : Join) → joined j P Q a b ≡ joined j R S (to a) (to b)
   unfolding joined either
-  joined_as f g h k followed-by = followed_as to keeps hi a b some last p q
+  joined_as f g h k followed_by_join = followed_as to keeps hi a b some last p q
   joined_as f g h k either_order =
       let x = followed_as to keeps hi a b some last p q in
       let y = followed_as to keeps hi a b some last q p in
       omega arith
-  joined_as f g h k with-or-then =
+  joined_as f g h k with_or_then =
       let x = together_as to keeps hi a b some last p q f g h k in
       let y = followed_as to keeps hi a b some last p q in
       omega arith

@@ -27,16 +27,16 @@ or_case : (a b : Bool) → a || b ≡ true → (a ≡ true) ⊎ (b ≡ true)
 or_case true b e = inl refl
 or_case false b e = inr e
 
-not-true : false ≡ true → ⊥
-not-true e = let z : ◌≡◌ {A = ℕ} 0 1 = cc in omega arith
+not_true : false ≡ true → ⊥
+not_true e = let z : ◌≡◌ {A = ℕ} 0 1 = cc in omega arith
 
 key_one_of : (ks : List ℕ) (b : ℕ) → key ks b ≡ true → OneOf ks b
-key_one_of [] b e = not-true e
+key_one_of [] b e = not_true e
 key_one_of (k ∷ []) b e = go (or_case (eqb b k) false e)
   where
     go : (eqb b k ≡ true) ⊎ (false ≡ true) → b ≡ k
     go (inl h) = eqb-true b k h
-    go (inr h) = absurd (not-true h)
+    go (inr h) = absurd (not_true h)
 key_one_of (k ∷ (j ∷ ks)) b e = go (or_case (eqb b k) (key (j ∷ ks) b) e) (key_one_of (j ∷ ks) b)
   where
     go :

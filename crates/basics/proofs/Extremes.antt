@@ -1,7 +1,7 @@
 -- Laws of the greatest and the least, over a range and over a list.
 --   min_max_left                  the least goes through the greater
 --   greatest_same, least_same     of equal entries
---   greatest_zero, greatest-one   of entries that are no, and all but one
+--   greatest_zero, greatest_one   of entries that are no, and all but one
 --   greatest_max                  of the greater of two
 --   least_first                   the first entry apart
 --   greatest_of_append, -map, -same, -swap, least_of_append, -small
@@ -47,11 +47,11 @@ unfolding greatest
 greatest_max zero f g = refl
 greatest_max (suc n) f g = let e = greatest_max n f g in omega arith
 
-pub greatest-one : (n k : ℕ) (f : ℕ → ℕ) → k < n → ((i : ℕ) → i < n → (i ≡ k → ⊥) → f i ≡ 0)
+pub greatest_one : (n k : ℕ) (f : ℕ → ℕ) → k < n → ((i : ℕ) → i < n → (i ≡ k → ⊥) → f i ≡ 0)
     → greatest n f ≡ f k
 unfolding greatest
-greatest-one zero k f l h = absurd (omega arith)
-greatest-one (suc n) k f l h = go (λ m g. greatest-one n k f m g) (equal? k n)
+greatest_one zero k f l h = absurd (omega arith)
+greatest_one (suc n) k f l h = go (λ m g. greatest_one n k f m g) (equal? k n)
   where
     go :
         (k < n → ((i : ℕ) → i < n → (i ≡ k → ⊥) → f i ≡ 0) → greatest n f ≡ f k) →

@@ -1,5 +1,5 @@
 -- Laws of `some`, one number after the other.
---   some-none, some_step, some_next, some_found     no number yet; one more, where none passed before; one that passes
+--   some_none, some_step, some_next, some_found     no number yet; one more, where none passed before; one that passes
 --   Seeking, seeking_first, -found, -next, -end     a loop over the numbers below m that stops where one passes
 use Prim.Native.Nat.{ℕ, zero, suc, ◌+◌, ◌<◌, ◌≤◌}
 use native.Mathlib.Omega.{arith}
@@ -11,9 +11,9 @@ use Rattle.basics.specs.Words.{some}
 use Rattle.basics.proofs.Bools.{equal?, or_yes}
 
 module _ (p : ℕ → Bool) where
-  pub some-none : some 0 p ≡ false
+  pub some_none : some 0 p ≡ false
   unfolding some
-  some-none = refl
+  some_none = refl
 
   pub some_step : (n : ℕ) → some n p ≡ false → some (n + 1) p ≡ p n
   unfolding some
@@ -37,7 +37,7 @@ pub record Seeking (p : ℕ → Bool) (m i : ℕ) : Type 0 where
   pub none : some i p ≡ false
 
 pub seeking_first : {p : ℕ → Bool} {m : ℕ} → Seeking p m 0
-seeking_first {p} = record { within = omega arith; none = some-none p }
+seeking_first {p} = record { within = omega arith; none = some_none p }
 
 module _ {p : ℕ → Bool} {m i : ℕ} (g : Seeking p m i) {r : Bool} where
   pub seeking_found : i < m → r ≡ p i → r ≡ true → true ≡ some m p

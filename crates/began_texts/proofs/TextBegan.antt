@@ -25,7 +25,7 @@ use Rattle.tokens.proofs.ShownBytes.{in_first, in_then, in_silent}
 use Rattle.reader.specs.declared.Read.{Read}
 use Rattle.reader.specs.Reading.{read_order, Gives, ReadsText}
 use Rattle.reader.proofs.Unique.{gives_unique}
-use Rattle.text_laws.proofs.ReadTrees.{Found, read-refused, found_vector, vector_given, vector_decodes, found_accepted}
+use Rattle.text_laws.proofs.ReadTrees.{Found, read_refused, found_vector, vector_given, vector_decodes, found_accepted}
 use Rattle.row_listings.specs.Listings.{OfGiven}
 use Rattle.row_listings.proofs.TextListings.{vector_one}
 use Rattle.expression_listings.proofs.RowListings.{lent_comes}
@@ -39,7 +39,7 @@ module _ (ρ : Rules) (names times states text : List ℕ) where
 
   pub began_refused : {r : Read} {out : List ℕ} → ReadsText ρ names text sort.Vector r → r.refused ≡ true
       → ListsBeganText ρ names times states text out out (Refused r.refusal)
-  began_refused h e = refuses (in_first text (read_order ρ names text sort.Vector) _ (read-refused h e)) refl
+  began_refused h e = refuses (in_first text (read_order ρ names text sort.Vector) _ (read_refused h e)) refl
 
   -- 9 of the pattern that the text gives
   module _ (x : Vector) (g : Gives ρ names text sort.Vector (vector x)) where

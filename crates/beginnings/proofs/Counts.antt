@@ -6,7 +6,7 @@ use mathlib.Core.List.{List, [], ◌∷◌}
 use lib.ListN.{length, get_or, drop, length-drop}
 use lib.Seq.{length-take-le}
 use Rattle.alternatives.specs.InMemory.{cut, sum, Shape, tests_of, alternatives_of_lem}
-use Rattle.alternatives.proofs.Cuts.{sum-cons, cut-length}
+use Rattle.alternatives.proofs.Cuts.{sum_cons, cut_length}
 use Rattle.beginnings.proofs.ByTries.{Counted}
 
 -- each piece of a list is as long as it is asked to be
@@ -14,9 +14,9 @@ pub cut_each : {A : Type 0} (ns : List ℕ) (xs : List A) → sum ns ≤ length 
     → length (get_or (cut ns xs) k []) ≡ get_or ns k 0
 unfolding cut
 cut_each [] xs h k l = absurd (omega arith)
-cut_each (n ∷ ns) xs h zero l = length-take-le n xs (omega (arith, sum-cons n ns))
+cut_each (n ∷ ns) xs h zero l = length-take-le n xs (omega (arith, sum_cons n ns))
 cut_each (n ∷ ns) xs h (suc k) l =
-    cut_each ns (drop n xs) (omega (arith, sum-cons n ns, length-drop n xs)) k (omega arith)
+    cut_each ns (drop n xs) (omega (arith, sum_cons n ns, length-drop n xs)) k (omega arith)
 
 pub counted : {tree : List ℕ} {names : ℕ} {steps tests edges operands : List ℕ}
     → Shape tree names steps tests edges operands
@@ -25,9 +25,9 @@ unfolding alternatives_of_lem
 counted {tree} {names} {steps} {tests} {edges} {operands} s =
     let parts = cut tests (tests_of tree names edges operands) in
     record {
-      long = sym (cut-length steps parts);
+      long = sym (cut_length steps parts);
       each = λ k h.
           sym (cut_each steps parts
-          (omega (arith, s.enough_steps, cut-length tests (tests_of tree names edges operands))) k
-          (omega (arith, h, cut-length steps parts)));
+          (omega (arith, s.enough_steps, cut_length tests (tests_of tree names edges operands))) k
+          (omega (arith, h, cut_length steps parts)));
     }

@@ -1,7 +1,7 @@
 -- Document 02, [11], as a partner uses it: every pin outside a set that holds the named ones is overwritten by any
 -- states, and all rows before the last K+1 are cut away. For any rules.
 --   fed_row                       a row of rows put one after the other
---   blanked_same, sent-same       the overwritten trace agrees with the trace on the pins that are named
+--   blanked_same, sent_same       the overwritten trace agrees with the trace on the pins that are named
 --   blanked_answer, blanked_tries, blanked_totals     the whole trace overwritten: the same at every row, and in all
 --   sent_answer, sent_tries       what is sent for a row: the same at its last row
 --   blanked_lists                 the totals of alternatives handed in
@@ -78,8 +78,8 @@ module _ (pins : ℕ → Bool) (other : ℕ → ℕ → ℕ) (k : ℕ) (states :
               ∙ row_kept (i - d) m (below m e) e);
         }
 
-    pub sent-same : (K i : ℕ) → SamePins pins K k states (sent pins other K k i states) i (min i K)
-    sent-same K i =
+    pub sent_same : (K i : ℕ) → SamePins pins K k states (sent pins other K k i states) i (min i K)
+    sent_same K i =
         record {
           number = omega arith;
           same = λ d m a b e.
@@ -125,7 +125,7 @@ module _ (ρ : Rules) (k : ℕ) (p : Vector) (pins : ℕ → Bool) (named : (n :
 
     sent_alike : SamePins (names_in read) (steps_of read) k states view i (min i (steps_of p))
     sent_alike =
-        rw (meant_steps ρ p) (fewer_pins inside (sent-same pins other k states below (steps_of p) i))
+        rw (meant_steps ρ p) (fewer_pins inside (sent_same pins other k states below (steps_of p) i))
 
     pub sent_answer : row_answer (state_at ρ k states) (meant ρ p) i
         ≡ row_answer (state_at ρ k (sent pins other (steps_of p) k i states)) (meant ρ p) (min i (steps_of p))

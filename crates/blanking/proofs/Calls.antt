@@ -42,7 +42,7 @@ use Rattle.blanking.specs.Pins.{SamePins, sent}
 use Rattle.blanking.proofs.FilledNames.{meant_named}
 use Rattle.blanking.proofs.ListedSteps.{passed_step}
 use Rattle.blanking.proofs.PinsAlone.{fewer_pins, pins_answer, pins_tries, lists_answer, lists_tries}
-use Rattle.blanking.proofs.Blanking.{sent-same, blanked_totals, blanked_lists}
+use Rattle.blanking.proofs.Blanking.{sent_same, blanked_totals, blanked_lists}
 
 -- an entry of a list from a rule
 entry : (n i : ℕ) (f : ℕ → ℕ) → i < n → get_or (listed_words.listed 0 n f) i 0 ≡ f i
@@ -126,7 +126,7 @@ module _ (ρ : Rules) (k : ℕ) (tree : List ℕ) where
         (min i (steps_of (expression ρ tree k))) (Found m')
         → (m.answer ≡ m'.answer) × (m.tries ≡ m'.tries)
     sent_row {i = i} {states = states} x y =
-        match_row_lem (fewer_pins named (sent-same pins other k states below (steps_of (expression ρ tree k)) i)) x y
+        match_row_lem (fewer_pins named (sent_same pins other k states below (steps_of (expression ρ tree k)) i)) x y
 
 -- alternatives handed in
 module _ (ρ : Rules) (k : ℕ) (tree steps tests edges operands : List ℕ) where

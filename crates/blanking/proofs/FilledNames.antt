@@ -113,15 +113,15 @@ module _ (pins : ℕ → Bool) where
   part_inside b a (join j p q) g h o =
       let l : Inside p = λ n. left p q (o n) in
       let r : Inside q = λ n. right p q (o n) in
-      let then-left = part_inside b (front q a) p g (front_among q a r h) l in
-      let then-right = part_inside (back p b) a q (back_among p b l g) h r in
-      let alone-left = part_inside alone alone p none_among none_among l in
-      let alone-right = part_inside alone alone q none_among none_among r in
+      let then_left = part_inside b (front q a) p g (front_among q a r h) l in
+      let then_right = part_inside (back p b) a q (back_among p b l g) h r in
+      let alone_left = part_inside alone alone p none_among none_among l in
+      let alone_right = part_inside alone alone q none_among none_among r in
       if_all Inside (is_then j)
-      (λ e. both_inside (filled_beside b (front q a) p) (filled_beside (back p b) a q) then-left then-right)
+      (λ e. both_inside (filled_beside b (front q a) p) (filled_beside (back p b) a q) then_left then_right)
       (λ e.
       if_all Inside (is_step_lem (join j p q)) (λ d. step_inside b a (join j p q) g h o)
-      (λ d. both_inside (filled_beside alone alone p) (filled_beside alone alone q) alone-left alone-right))
+      (λ d. both_inside (filled_beside alone alone p) (filled_beside alone alone q) alone_left alone_right))
   part_inside b a (while s p c) g h o =
       let f = part_inside alone alone p none_among none_among (λ n e. o n (or_first (names_in p n) (names c n) e)) in
       λ n e.

@@ -48,7 +48,7 @@ module _ {tree : List ℕ} {names : ℕ} {states steps counts ends slots : List 
         record {
           answered = λ edges operands g h k.
               over_same _ p (λ i l. rw (row_some i)
-              (ap numbered (rw (row_some i) at (a.best-is edges operands g h k i l))));
+              (ap numbered (rw (row_some i) at (a.best_is edges operands g h k i l))));
           counted = λ edges operands g h k.
               over_same _ q (λ i l. rw (row_some i) (rw (row_some i) at (a.tries_is edges operands g h k i l)));
         }

@@ -57,7 +57,7 @@ module _ {tree : List ℕ} {names : ℕ} {states steps counts ends slots : List 
             let is : (i : ℕ) → i < m
             → numbered (get_or best i 0)
             ≡ answer_of (state_at ρ names states) (alternatives_of_lem tree names steps counts edges operands) (from + i)
-            = λ i l. rw (row_some i) (ap numbered (rw (row_some i) at (a.best-is edges operands g h k i l))) in
+            = λ i l. rw (row_some i) (ap numbered (rw (row_some i) at (a.best_is edges operands g h k i l))) in
             record {
               yeses = p ∙ count_same m _ _ (λ i l. number_yes _ (a.small i l) ∙ ap (λ (x : ℕ). eqb x 1) (is i l));
               noes = q ∙ count_same m _ _ (λ i l. number_no _ (a.small i l) ∙ ap (λ (x : ℕ). eqb x 0) (is i l));

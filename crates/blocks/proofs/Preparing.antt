@@ -131,9 +131,9 @@ module _ {tree : List ℕ} {names : ℕ} {states steps counts ends slots : List 
       record {
         small = b.small;
         few = b.few;
-        best-is = λ edges operands p h k i l.
+        best_is = λ edges operands p h k i l.
             rw (row i) at
-            (b.best-is (state_at ρ names states) _ (from - 16) (m + 15) (holding c p k) (omega arith)
+            (b.best_is (state_at ρ names states) _ (from - 16) (m + 15) (holding c p k) (omega arith)
             (omega (arith, tests_length tree names edges operands k)) i l);
         tries_is = λ edges operands p h k i l.
             rw (row i) at

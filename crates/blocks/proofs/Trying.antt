@@ -151,7 +151,7 @@ module _ {steps counts slots cols : List ℕ} {m : ℕ} {acc₀ best₀ tries₀
       module _ {acc' best' tries' : List ℕ} (met : AlternativeMet counts slots s n t cols m acc acc')
           (taken : Taken m acc' best tries best' tries') where
         abbrev join : Over best 0 m (λ i. max (get_or best i 0) (get_or acc' i 0)) best'
-        join = taken.best-is
+        join = taken.best_is
 
         abbrev try : Over tries 0 m (λ i. get_or tries i 0 + (if eqb (get_or best i 0) 2 then 0 else 1)) tries'
         try = taken.tries_is
@@ -197,7 +197,7 @@ module _ {steps counts slots cols : List ℕ} {m : ℕ} {acc₀ best₀ tries₀
     walking_end h = record {
       small = g.small;
       few = λ r l. omega (arith, g.few r l, g.within, asked.few);
-      best-is = λ st x lo w a b c r l. (end st x lo w a b c r l).0;
+      best_is = λ st x lo w a b c r l. (end st x lo w a b c r l).0;
       tries_is = λ st x lo w a b c r l. (end st x lo w a b c r l).1;
     }
       where

@@ -56,7 +56,7 @@ pub record TakeAsked (m : ℕ) (acc best tries : List ℕ) : Type 0 where
   pub counted : Counted tries m best
 
 pub record Taken (m : ℕ) (acc best tries best' tries' : List ℕ) : Type 0 where
-  pub best-is : Over best 0 m (λ i. max (get_or best i 0) (get_or acc i 0)) best'
+  pub best_is : Over best 0 m (λ i. max (get_or best i 0) (get_or acc i 0)) best'
   pub tries_is : Over tries 0 m (λ i. get_or tries i 0 + (if eqb (get_or best i 0) 2 then 0 else 1)) tries'
 
 -- a list of zeros
@@ -80,7 +80,7 @@ pub record BlockAsked (steps counts slots cols : List ℕ) (m : ℕ) (acc best t
 pub record BlockMatched (steps counts slots cols : List ℕ) (m : ℕ) (best tries : List ℕ) : Type 0 where
   pub small : (i : ℕ) → i < m → get_or best i 0 ≤ 2
   pub few : (i : ℕ) → i < m → get_or tries i 0 ≤ 64
-  pub best-is : (st : Boolean → ℕ → ℕ) (tests : List Test) (lo w : ℕ) → Holding st tests lo w slots cols
+  pub best_is : (st : Boolean → ℕ → ℕ) (tests : List Test) (lo w : ℕ) → Holding st tests lo w slots cols
       → m + 15 ≤ w → sum counts ≤ length tests → (i : ℕ) → i < m
       → get_or best i 0 ≡ best_of st (cut steps (cut counts tests)) (lo + 16 + i)
   pub tries_is : (st : Boolean → ℕ → ℕ) (tests : List Test) (lo w : ℕ) → Holding st tests lo w slots cols

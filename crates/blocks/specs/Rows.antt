@@ -72,7 +72,7 @@ pub record Answered (ρ : Rules) (tree : List ℕ) (names : ℕ) (states steps c
     (tables : List ℕ) (from m : ℕ) (best tries : List ℕ) : Type 0 where
   pub small : (i : ℕ) → i < m → get_or best i 0 ≤ 2
   pub few : (i : ℕ) → i < m → get_or tries i 0 ≤ 64
-  pub best-is : (edges operands : List ℕ) → Prepared tree names edges operands ends slots many tables
+  pub best_is : (edges operands : List ℕ) → Prepared tree names edges operands ends slots many tables
       → sum counts ≤ length edges → length edges ≤ length operands → (i : ℕ) → i < m
       → get_or best i 0
       ≡ best_of (state_at ρ names states) (alternatives_of_lem tree names steps counts edges operands) (from + i)

@@ -2,7 +2,7 @@
 --   mask_same                of two tests that agree below n
 --   part_at                  an entry of a part of a list
 --   row_set, row_changes     the changes of two parts are those of the row
---   row-none, row_later      row 0 has none; a later one has a row before it
+--   row_none, row_later      row 0 has none; a later one has a row before it
 use mathlib.Core.Path.{◌≡◌, refl, ap₂, sym, ◌∙◌}
 use mathlib.Core.Bool.{Bool, false, not}
 use mathlib.Core.List.{List}
@@ -66,9 +66,9 @@ unfolding count
 none_counted zero = refl
 none_counted (suc n) = let e = none_counted n in omega arith
 
-pub row-none : (names : ℕ) (states : List ℕ) (row : ℕ) → row ≡ 0 → RowSet names states row 0 0
+pub row_none : (names : ℕ) (states : List ℕ) (row : ℕ) → row ≡ 0 → RowSet names states row 0 0
 unfolding change_mask change_count changed
-row-none names states row e =
+row_none names states row e =
     rw e (record { changed = sym (none_changed names); number = sym (none_counted names) })
 
 pub row_later : (row names : ℕ) → (row ≡ 0 → ⊥) → names ≤ row * names

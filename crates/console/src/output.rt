@@ -11,8 +11,8 @@ pub const CLOSED: i32 = 9;
 // 128 and the number of SIGPIPE.
 const UNREAD: u8 = 141;
 
-// Where the program writes, whether it complained, whether standard output took not all, whether it is a pipe that nobody
-// reads, and whether standard input was asked for.
+// Where the program writes, whether it complained, whether standard output took not all, whether it or standard error is
+// a pipe that nobody reads, and whether standard input was asked for.
 #[derive(Drop)]
 pub struct Console {
     out: Stdout,
@@ -35,7 +35,7 @@ impl Console {
         }
     }
 
-    // The program's exit status: 1 where something was complained of, and where nobody reads standard output, that of a
+    // The program's exit status: 1 where something was complained of, and where nobody reads what is written, that of a
     // program which the signal for it ends.
     pub fn status(&self) -> u8 {
         if self.unread.get() {
@@ -44,7 +44,8 @@ impl Console {
         if self.complained.get() { 1 } else { 0 }
     }
 
-    // Whether standard output is a pipe that nobody reads. Nothing that is done then can be seen, and nothing is saved.
+    // Whether standard output or error is a pipe that nobody reads. The program is at its end then: nothing more is
+    // written, and nothing is saved.
     pub fn is_unread(&self) -> bool {
         self.unread.get()
     }
@@ -94,19 +95,32 @@ pub fn is_of_closed(e: &Error) -> bool {
     }
 }
 
-// Where standard error takes not all, there is nobody to tell.
 pub fn note(console: &Console, text: &[u8]) {
     if console.is_unread() {
         return;
     }
-    let _ = console.err.write_all(text);
+    match console.err.write_all(text) {
+        Ok(()) => {}
+        Err(e) => untold(console, &e),
+    }
 }
 
 pub fn note_number(console: &Console, n: usize) {
     if console.is_unread() {
         return;
     }
-    let _ = console.err.print(n);
+    match console.err.print(n) {
+        Ok(()) => {}
+        Err(e) => untold(console, &e),
+    }
+}
+
+// Standard error took not all: there is nobody to tell. A pipe that nobody reads ends the program.
+fn untold(console: &Console, e: &Error) {
+    if e.kind() == ErrorKind::BrokenPipe {
+        console.lost.set(true);
+        console.unread.set(true);
+    }
 }
 
 // The exit status says that there was a complaint.

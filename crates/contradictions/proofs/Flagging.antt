@@ -15,7 +15,7 @@ use Rattle.alf.specs.Expressions.{Half}
 use Rattle.alf.specs.Alternatives.{Test, Alternative, halves, first, second, possible, contradictory}
 use Rattle.basics.proofs.Bools.{never}
 use Rattle.alternatives.specs.InMemory.{cut, tests_of, sum, step_in, alternative_in, alternatives_in, alternatives_of_lem}
-use Rattle.alternatives.proofs.Cuts.{cut-length, sum_next, sum_part_drop, tests_length}
+use Rattle.alternatives.proofs.Cuts.{cut_length, sum_next, sum_part_drop, tests_length}
 use Rattle.matcher.proofs.Walking.{alternatives_next}
 use Rattle.contradictions.specs.Possible.{side_of, allowed, row_literals, impossible}
 use Rattle.contradictions.specs.Possible.{flag_of, flag_list, Rows, Reported}
@@ -81,7 +81,7 @@ module _ {tree : List ℕ} {names : ℕ} {steps tests edges operands flags₀ : 
   whole = tests_length tree names edges operands h.shape.known.enough
 
   number : length ys ≡ length steps
-  number = cut-length steps (cut tests all)
+  number = cut_length steps (cut tests all)
 
   pub flagging_first : Flagging names steps tests all flags₀ flags₀ 0 0 0
   flagging_first =
@@ -94,12 +94,12 @@ module _ {tree : List ℕ} {names : ℕ} {steps tests edges operands flags₀ : 
       }
 
   module _ {flags : List ℕ} {s t k : ℕ} (g : Flagging names steps tests all flags₀ flags s t k) where
-    pub flags-length : length flags ≡ length flags₀
-    flags-length = writing_length g.flags_are
+    pub flags_length : length flags ≡ length flags₀
+    flags_length = writing_length g.flags_are
 
     module _ (l : k < length steps) where
       pub flag_room : k < length flags
-      flag_room = omega (arith, flags-length, h.room)
+      flag_room = omega (arith, flags_length, h.room)
 
       pub flagging_rows : Rows tree names tests edges operands s (get_or steps k 0) t
       flagging_rows =

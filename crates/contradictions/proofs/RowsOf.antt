@@ -16,7 +16,7 @@ use Rattle.alternatives.specs.InMemory.{cut, tests_of, sum, step_in, alternative
 use Rattle.alternatives.proofs.Cuts.{sum_take, sum_next}
 use Rattle.matcher.proofs.Matching.{alternative_length}
 use Rattle.contradictions.specs.Possible.{row_literals, impossible, Row, Rows}
-use Rattle.basics.proofs.Seeking.{some-none, some_step, some_next, some_found}
+use Rattle.basics.proofs.Seeking.{some_none, some_step, some_next, some_found}
 
 -- the step that leads to row j; none to row 0
 unfoldable pub step_before : Alternative → ℕ → Step
@@ -56,7 +56,7 @@ module _ (tests : List ℕ) (all : List Test) (s n t : ℕ) where
 
   pub rowing_first : (name : ℕ) → Rowing name t 0 0
   unfolding step_before sum sum_of
-  rowing_first name = record { within = omega arith; none = some-none _; place = refl; step = refl }
+  rowing_first name = record { within = omega arith; none = some_none _; place = refl; step = refl }
 
   module _ (h : s + n ≤ length tests) where
     here : (j : ℕ) → j < n → j < length (drop s tests)

@@ -14,7 +14,7 @@ use lib.ListN.{length, get_or, get_or-eq_default}
 use Rattle.basics.specs.Refusing.{refusal}
 use Rattle.alf.specs.declared.Rules.{Rules}
 use Rattle.alf.specs.declared.Sort.{Sort}
-use Rattle.alf.specs.declared.Sort.TheVariants as the-sort
+use Rattle.alf.specs.declared.Sort.TheVariants as the_sort
 use Rattle.basics.specs.declared.Refusal.{Refusal}
 use Rattle.basics.specs.declared.Outcome.{Outcome}
 use Rattle.basics.specs.declared.Outcome.TheVariants.{Done, Refused}
@@ -70,7 +70,7 @@ module _ (lent P Q : Type 0) (l : lent) (q : Q) (rest : Order) where
   lent_comes made (Refused r) h = lent_by h
 
 -- what an accepted tree is, by its sort
-pub tree_vector : (ρ : Rules) (k : ℕ) (times states tree : List ℕ) → Accepted ρ k the-sort.Vector tree
+pub tree_vector : (ρ : Rules) (k : ℕ) (times states tree : List ℕ) → Accepted ρ k the_sort.Vector tree
     → tree_listing ρ k times states tree ≡ pattern_listing ρ k times states (meant ρ (vector_at tree k (length tree)))
 unfolding Decodes top_vector listing_of
 tree_vector ρ k times states tree a =
@@ -79,7 +79,7 @@ tree_vector ρ k times states tree a =
     ap (listing_of ρ k times states) (decoded k tree (vector v.p) d)
     ∙ ap (λ (p : Vector). pattern_listing ρ k times states (meant ρ p)) (sym (ap top_vector d))
 
-pub tree_boolean : (ρ : Rules) (k : ℕ) (times states tree : List ℕ) → Accepted ρ k the-sort.Boolean tree
+pub tree_boolean : (ρ : Rules) (k : ℕ) (times states tree : List ℕ) → Accepted ρ k the_sort.Boolean tree
     → tree_listing ρ k times states tree ≡ value_listing ρ k times states (boolean_at tree k (length tree))
 unfolding Decodes top_boolean listing_of
 tree_boolean ρ k times states tree a =
@@ -88,7 +88,7 @@ tree_boolean ρ k times states tree a =
     ap (listing_of ρ k times states) (decoded k tree (boolean b.c) d)
     ∙ ap (value_listing ρ k times states) (sym (ap top_boolean d))
 
-tree_over : {ρ : Rules} (k : ℕ) (tree : List ℕ) → Accepted ρ k the-sort.Boolean tree
+tree_over : {ρ : Rules} (k : ℕ) (tree : List ℕ) → Accepted ρ k the_sort.Boolean tree
     → Over k (boolean_at tree k (length tree))
 unfolding Decodes top_boolean ExpressionOver
 tree_over k tree a =
@@ -107,7 +107,7 @@ accepted_as e h = rw e at h
 
 -- a pattern's tree
 pub pattern_listed : {ρ : Rules} {k : ℕ} {tree times states out out' : List ℕ} {r : Outcome}
-    → Accepted ρ k the-sort.Vector tree
+    → Accepted ρ k the_sort.Vector tree
     → ListsTree ρ k (length times) tree times states out out' r
     → RowsText k times states (tree_listing ρ k times states tree) out out' r
 pattern_listed {ρ} {k} {tree} {times} {states} {r = r} a h =
@@ -136,7 +136,7 @@ recorded states s i = go (below? i (length states))
 module _ (ρ : Rules) (k : ℕ) (tree times states values : List ℕ) (lent : Type 0)
     (e : length values ≡ length times) (good : Codes states → (i : ℕ) → i < length values → get_or values i 0 ≤ 7)
   where
-    refused_as : (room : ℕ) → Passed (calls.rows_order ρ k (length times) lent tree the-sort.Boolean states)
+    refused_as : (room : ℕ) → Passed (calls.rows_order ρ k (length times) lent tree the_sort.Boolean states)
         → (i j : ℕ) → RefusedWith (list_order times values room) i j
         → RefusedWith (rows_order k times states (check 9 (no_room (length (values_listing times values)) room) ∷ [])) i j
     unfolding Passed RefusedWith
@@ -152,7 +152,7 @@ module _ (ρ : Rules) (k : ℕ) (tree times states values : List ℕ) (lent : Ty
         inr (lent_18 lent _ n, inr (s, inl (x, a)))
     refused_as room (n, (m, (s, u))) i j (inr (b, inr (c, inr (d, h)))) = absurd h
 
-    listed_as : (room : ℕ) → Passed (calls.rows_order ρ k (length times) lent tree the-sort.Boolean states)
+    listed_as : (room : ℕ) → Passed (calls.rows_order ρ k (length times) lent tree the_sort.Boolean states)
         → (o : Outcome)
         → Comes (list_order times values room) (λ m. m ≡ length (values_listing times values)) o
         → Comes (rows_order k times states (check 9 (no_room (length (values_listing times values)) room) ∷ []))
@@ -163,7 +163,7 @@ module _ (ρ : Rules) (k : ℕ) (tree times states values : List ℕ) (lent : Ty
     listed_as room q (Refused r) h = record { by = refused_as room q _ _ h.by; bare = h.bare }
 
 module _ {ρ : Rules} {k : ℕ} {tree times states codes codes' : List ℕ} {o : Outcome}
-    (accepted : Accepted ρ k the-sort.Boolean tree) (size : length codes ≡ length times)
+    (accepted : Accepted ρ k the_sort.Boolean tree) (size : length codes ≡ length times)
     (h : AllValues ρ k (length times) tree states codes codes' o) where
   pub states_refused : {out : List ℕ} {r : Refusal} → o ≡ Refused r
       → RowsText k times states (tree_listing ρ k times states tree) out out (Refused r)

@@ -3,7 +3,7 @@
 --   width_small, width_more    one digit below ten, else one more than the tenth part has
 --   width_some, width_most     at least one; below 10^k at most k
 -- Of a number below 10^21, and so of every number of 64 bits:
---   decimal-read               the digits, read, are the number
+--   decimal_read               the digits, read, are the number
 --   decimal_first              the first is a 0 only where the number is 0
 --   decimal_short, word_short  a number of 64 bits, of 32 bits, has at most 20
 use Rattle.std.specs.Prelude.{if◌then◌else◌}
@@ -109,8 +109,8 @@ read_up_to (suc k) n l h = go (below? n 10) (read_up_to k (n / 10) (omega arith)
         ap (reading 0) (decimal_more n l s) ∙ reading_last 0 (decimal (n / 10)) (48 + n % 10)
         ∙ omega (arith, f (omega arith))
 
-pub decimal-read : (n : ℕ) → n < 10 ^ 21 → reading 0 (decimal n) ≡ n
-decimal-read n l = read_up_to n n l (omega arith)
+pub decimal_read : (n : ℕ) → n < 10 ^ 21 → reading 0 (decimal n) ≡ n
+decimal_read n l = read_up_to n n l (omega arith)
 
 first_up_to : (k n : ℕ) → n < 10 ^ 21 → n ≤ k → get_or (decimal n) 0 0 ≡ 48 → n ≡ 0
 first_up_to zero n m h e = omega arith

@@ -10,7 +10,7 @@ use Rattle.figures.specs.Share.{millionths}
 -- m / 1000000 lies at most half a millionth above yeses / events, and less than that below
 pub record Rounds (yeses events m : ℕ) : Type 0 where
   pub not_above : m * (2 * events) ≤ 2 * yeses * 1000000 + events
-  pub not-below : 2 * yeses * 1000000 + events < (m + 1) * (2 * events)
+  pub not_below : 2 * yeses * 1000000 + events < (m + 1) * (2 * events)
 
 pub share_rounds : (yeses events : ℕ) → 0 < events → Rounds yeses events (millionths yeses events)
 unfolding millionths
@@ -18,7 +18,7 @@ share_rounds yeses events h =
     let p : 0 < 2 * events = omega arith in
     record {
       not_above = div-mul-le_self (2 * yeses * 1000000 + events) (2 * events);
-      not-below = omega (
+      not_below = omega (
         arith,
         add-mul (millionths yeses events) 1 (2 * events),
         lt-div-mul-add {a = 2 * yeses * 1000000 + events} p,
@@ -28,4 +28,4 @@ share_rounds yeses events h =
 pub share_unique : (yeses events m : ℕ) → Rounds yeses events m → m ≡ millionths yeses events
 unfolding millionths
 share_unique yeses events m r =
-    sym (div-eq_of_lt-le (2 * events) r.not_above r.not-below)
+    sym (div-eq_of_lt-le (2 * events) r.not_above r.not_below)

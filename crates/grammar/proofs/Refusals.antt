@@ -7,7 +7,7 @@ use mathlib.Core.List.{List, [], ◌∷◌, ◌++◌, append-nil}
 use lib.ListN.{length}
 use Rattle.grammar.specs.declared.Token.{Token}
 use Rattle.grammar.specs.Tokens.{kind_of}
-use Rattle.grammar.specs.Grammar.{Tree, Parses, Begins, Refused, at_token, at-end}
+use Rattle.grammar.specs.Grammar.{Tree, Parses, Begins, Refused, at_token, at_end}
 use Rattle.grammar.specs.Stops.{rank, Stops}
 use Rattle.grammar.specs.Views.{View, going, stopped, halt, Does, read, stop, Ends, whole, refused}
 use Rattle.grammar.proofs.Counting.{stuck_within, stuck_after, stuck_end}
@@ -23,7 +23,7 @@ cut_begins {e = e} c = record { more = []; tree = e; whole = c.again [] }
 pub stops_refused : {ts rest : List Token} → Stops 6 ts rest → Refused ts rest
 stops_refused {rest = []} s =
     let v = via s in
-    at-end (rw (v.split, append-nil) (via_begins v)) (λ e. stuck_end s)
+    at_end (rw (v.split, append-nil) (via_begins v)) (λ e. stuck_end s)
 stops_refused {rest = t ∷ r} s =
     let v = via s in
     at_token v.split (via_begins v) (stuck_within v.pre r t (rw v.split at s))

@@ -10,18 +10,18 @@ use mathlib.Core.Bool.{Bool, true, false}
 use Rattle.alf.specs.Refusals.{First, no_grammar}
 use Rattle.grammar.specs.declared.Token.{Token}
 use Rattle.grammar.specs.declared.Parsed.{Parsed}
-use Rattle.grammar.specs.Grammar.{Tree, Expression, Begins, Refused, at_token, at-end, place_of}
+use Rattle.grammar.specs.Grammar.{Tree, Expression, Begins, Refused, at_token, at_end, place_of}
 use Rattle.grammar.specs.Answers.{Answer, tree, no_tree, refused_at, Stuck, with_token, with_end}
 use Rattle.grammar.specs.Answers.{Rising, none, next}
 use Rattle.grammar.proofs.Outcome.{parse_sound, refuse_sound}
 use Rattle.grammar.proofs.Unique.{begins_with, expression_begins, Parts, further, shorter, parts}
 
 -- places on the way
-rising-end :
+rising_end :
     {bytes : ℕ} (ts : List Token) (t : Token) (r : List Token) → Rising bytes (ts ++ (t ∷ r)) → t.place < bytes
-rising-end [] t [] (next h none) = h
-rising-end [] t (u ∷ r) (next h k) = let z = rising-end [] u r k in omega arith
-rising-end (x ∷ ts) t r (next h k) = rising-end ts t r k
+rising_end [] t [] (next h none) = h
+rising_end [] t (u ∷ r) (next h k) = let z = rising_end [] u r k in omega arith
+rising_end (x ∷ ts) t r (next h k) = rising_end ts t r k
 
 rising_part : {bytes : ℕ} (ts us : List Token) → Rising bytes (ts ++ us) → Rising bytes us
 rising_part [] us h = h
@@ -55,13 +55,13 @@ module _ {bytes i : ℕ} (a r : List Token) (t : Token) (rise : Rising bytes (a 
   not_shorter c d (x ∷ m) u q p e b n =
       let z : x ≡ u = cc in n (begins_with c m u (rw z at (rw p at b)))
 
-  not-before : Begins a → Stuck (a ++ (t ∷ r)) bytes i → ⊥
-  not-before b (with_token c d u s q n) = go (parts a (t ∷ r) c (u ∷ d) s)
+  not_before : Begins a → Stuck (a ++ (t ∷ r)) bytes i → ⊥
+  not_before b (with_token c d u s q n) = go (parts a (t ∷ r) c (u ∷ d) s)
     where
       go : Parts a (t ∷ r) c (u ∷ d) → ⊥
       go (further m p e) = not_further c d m u q e
       go (shorter m p e) = not_shorter c d m u q p e b n
-  not-before b (with_end q n) = let w = rising-end a t r rise in omega arith
+  not_before b (with_end q n) = let w = rising_end a t r rise in omega arith
 
 -- nor before the end
 not_before_end : {ts : List Token} {bytes i : ℕ} → Begins ts → i < bytes → Stuck ts bytes i → ⊥
@@ -74,9 +74,9 @@ refused_row :
 refused_row rise (at_token {before = a} {rest = r} {t = t} s b n) =
     record {
       given = with_token a r t s refl n;
-      before = λ i h k. not-before a r t (rw s at rise) h b (rw s at k);
+      before = λ i h k. not_before a r t (rw s at rise) h b (rw s at k);
     }
-refused_row rise (at-end b n) = record { given = with_end refl n; before = λ i h k. not_before_end b h k }
+refused_row rise (at_end b n) = record { given = with_end refl n; before = λ i h k. not_before_end b h k }
 
 -- an expression is stuck nowhere
 expression_free : {ts : List Token} {bytes p : ℕ} {e : Tree} → Expression ts e → Stuck ts bytes p → ⊥

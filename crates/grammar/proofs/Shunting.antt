@@ -20,7 +20,7 @@ data Frame : Type 0 where
   f_par : Frame
   f_two : Token → ℕ → Tree → Frame
   f_mid : Token → Tree → Frame
-  f-last : Token → Tree → Tree → Frame
+  f_last : Token → Tree → Tree → Frame
 
 data Held : Type 0 where
   held : Tree → List Frame → Held
@@ -32,7 +32,7 @@ reduce m e (f_one t ∷ S) = reduce m (one t e) S
 reduce m e (f_par ∷ S) = held e (f_par ∷ S)
 reduce m e (f_two t l a ∷ S) = if leb l m then reduce m (two t a e) S else held e (f_two t l a ∷ S)
 reduce m e (f_mid t c ∷ S) = held e (f_mid t c ∷ S)
-reduce m e (f-last t c a ∷ S) = if leb 6 m then reduce m (three t c a e) S else held e (f-last t c a ∷ S)
+reduce m e (f_last t c a ∷ S) = if leb 6 m then reduce m (three t c a e) S else held e (f_last t c a ∷ S)
 
 data State : Type 0 where
   want : List Frame → State
@@ -59,15 +59,15 @@ close (held e (f_one t ∷ S)) = bad
 close (held e (f_par ∷ S)) = to (have e S)
 close (held e (f_two t l a ∷ S)) = bad
 close (held e (f_mid t c ∷ S)) = bad
-close (held e (f-last t c a ∷ S)) = bad
+close (held e (f_last t c a ∷ S)) = bad
 
 abbrev part : Held → Next
 part (held e []) = bad
 part (held e (f_one t ∷ S)) = bad
 part (held e (f_par ∷ S)) = bad
 part (held e (f_two t l a ∷ S)) = bad
-part (held e (f_mid t c ∷ S)) = to (want (f-last t c e ∷ S))
-part (held e (f-last t c a ∷ S)) = bad
+part (held e (f_mid t c ∷ S)) = to (want (f_last t c e ∷ S))
+part (held e (f_last t c a ∷ S)) = bad
 
 abbrev begin : Token → ℕ → Held → Next
 begin t l (held e S) = to (want (f_two t l e ∷ S))
@@ -147,7 +147,7 @@ top (f_one t ∷ S) = 2
 top (f_par ∷ S) = 99
 top (f_two t l a ∷ S) = l
 top (f_mid t c ∷ S) = 99
-top (f-last t c a ∷ S) = 99
+top (f_last t c a ∷ S) = 99
 
 stays : (m : ℕ) (e : Tree) (S : List Frame) → 1 < m → m < 6 → m < top S → reduce m e S ≡ held e S
 stays m e [] g h k = refl
@@ -155,7 +155,7 @@ stays m e (f_one t ∷ S) g h k = absurd (omega arith)
 stays m e (f_par ∷ S) g h k = refl
 stays m e (f_two t l a ∷ S) g h k = rw (lt-leb l m k)
 stays m e (f_mid t c ∷ S) g h k = refl
-stays m e (f-last t c a ∷ S) g h k = rw (lt-leb 6 m h)
+stays m e (f_last t c a ∷ S) g h k = rw (lt-leb 6 m h)
 
 -- an expression leads the machine to its tree
 shunt :
@@ -185,8 +185,8 @@ shunt (chosen {t = t} {u = u} {us = us} {vs = vs} {rest = rest} {c = c} {a = a} 
     ∙ ap (λ (x : Held). after (ask t x) us) (stays 5 c S (lit< tt) (lit< tt) (omega arith))
     ∙ shunt r (rw k' (lit≤ tt)) (f_mid t c ∷ S) (lit< tt)
     ∙ step (have a (f_mid t c ∷ S)) u vs k'
-    ∙ shunt s q (f-last t c a ∷ S) (lit< tt)
-    ∙ same b (three t c a b) (f-last t c a ∷ S) S rest (rw (le-leb 6 (force (ahead rest)) q))
+    ∙ shunt s q (f_last t c a ∷ S) (lit< tt)
+    ∙ same b (three t c a b) (f_last t c a ∷ S) S rest (rw (le-leb 6 (force (ahead rest)) q))
 
 -- of a whole text
 leads : {ts : List Token} {e : Tree} → Parses 6 ts e [] → run (want []) ts ≡ done e

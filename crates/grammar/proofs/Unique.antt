@@ -3,7 +3,7 @@
 use mathlib.Core.Path.{◌≡◌, refl, sym, ◌∙◌}
 use mathlib.Core.List.{List, [], ◌∷◌, ◌++◌, append_assoc, append-nil}
 use Rattle.grammar.specs.declared.Token.{Token}
-use Rattle.grammar.specs.Grammar.{Tree, Expression, Begins, Refused, at_token, at-end}
+use Rattle.grammar.specs.Grammar.{Tree, Expression, Begins, Refused, at_token, at_end}
 use Rattle.grammar.proofs.Shunting.{one_tree}
 
 -- one tree
@@ -25,7 +25,7 @@ begins_with pre more t b =
 pub never_both : {ts rest : List Token} {e : Tree} → Expression ts e → Refused ts rest → ⊥
 never_both {e = e} p (at_token {before = pre} {rest = rest} {t = t} s b n) =
     n (begins_with pre rest t (expression_begins _ e (rw s at p)))
-never_both {e = e} p (at-end b n) = n e p
+never_both {e = e} p (at_end b n) = n e p
 
 -- two ways to part a list: one goes at least as far as the other
 pub data Parts (a b c d : List Token) : Type 0 where
@@ -65,8 +65,8 @@ refused_unique (at_token {before = a} {rest = r} {t = t} s b n)
     go : Parts a (t ∷ r) c (u ∷ r') → t ∷ r ≡ u ∷ r'
     go (further m p q) = no_further a r c (u ∷ r') m t p q b' n
     go (shorter m p q) = sym (no_further c r' a (t ∷ r) m u p q b n')
-refused_unique (at_token {before = a} {rest = r} {t = t} s b n) (at-end b' n') =
+refused_unique (at_token {before = a} {rest = r} {t = t} s b n) (at_end b' n') =
     absurd (n (begins_with a r t (rw s at b')))
-refused_unique (at-end b n) (at_token {before = a} {rest = r} {t = t} s b' n') =
+refused_unique (at_end b n) (at_token {before = a} {rest = r} {t = t} s b' n') =
     absurd (n' (begins_with a r t (rw s at b)))
-refused_unique (at-end b n) (at-end b' n') = refl
+refused_unique (at_end b n) (at_end b' n') = refl

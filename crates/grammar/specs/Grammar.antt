@@ -76,7 +76,7 @@ pub data Refused (ts : List Token) : List Token → Type 0 where
       Begins before →
       (Begins (before ++ (t ∷ [])) → ⊥) →
       Refused ts (t ∷ rest)
-  at-end : Begins ts → ((e : Tree) → Expression ts e → ⊥) → Refused ts []
+  at_end : Begins ts → ((e : Tree) → Expression ts e → ⊥) → Refused ts []
 
 -- the place of the first token of some, in a text of that length
 abbrev pub place_of : ℕ → List Token → ℕ

@@ -86,9 +86,9 @@ module _ {p q : ℕ → ℕ → Bool} {base : ℕ} {t u : List ℕ} where
         long = g.long;
       }
 
-or-none : (p : Bool) → (p || false) ≡ p
-or-none true = refl
-or-none false = refl
+or_none : (p : Bool) → (p || false) ≡ p
+or_none true = refl
+or_none false = refl
 
 and_none : (p : Bool) → (p && false) ≡ false
 and_none true = refl
@@ -103,7 +103,7 @@ one_more_lem n m a b = go (below? a m) (equal? a m)
   where
     go : (a < m) ⊎ (m ≤ a) → (a ≡ m) ⊎ (a ≡ m → ⊥) → (ending n m a b || is_at m n a b) ≡ ending n (m + 1) a b
     go (inl l) q =
-        rw (lt-ltb _ _ l, ne_eqb a m (λ e. omega arith), lt-ltb a (m + 1) (omega arith)) (or-none (eqb b n))
+        rw (lt-ltb _ _ l, ne_eqb a m (λ e. omega arith), lt-ltb a (m + 1) (omega arith)) (or_none (eqb b n))
     go (inr l) (inl e) = rw (le-ltb _ _ l, eq-eqb _ _ e, lt-ltb a (m + 1) (omega arith)) refl
     go (inr l) (inr d) = rw (le-ltb _ _ l, ne_eqb _ _ d, le-ltb a (m + 1) (omega arith)) refl
 
@@ -150,7 +150,7 @@ module _ (list : List ℕ) (n a b : ℕ) where
           → (up_to list n a b || eqb b (n + 1)) ≡ up_to list (n + 1) a b
       go (inl l) q =
           rw (lt-ltb _ _ l, ne_eqb b (n + 1) (λ e. omega arith), lt-ltb b (n + 1 + 1) (omega arith))
-          (or-none (list_moves list a b))
+          (or_none (list_moves list a b))
       go (inr l) (inl e) =
           let f : b - 1 ≡ n = omega arith in
           rw (le-ltb _ _ l, eq-eqb _ _ e, lt-ltb b (n + 1 + 1) (omega arith), f, e, ne_eqb _ _ d) refl

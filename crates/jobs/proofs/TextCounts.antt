@@ -30,7 +30,7 @@ use Rattle.reader.proofs.Unique.{gives_unique}
 use Rattle.matching_calls.specs.declared.matching.Counting.{Counting}
 use Rattle.matching_calls.specs.declared.matching.Counting.TheVariants.{Counted, Refused}
 use Rattle.matching_calls.specs.Matching.{expression, Counts, RowTotals}
-use Rattle.text_laws.proofs.ReadTrees.{Found, read-refused, read_sole, found_accepted, found_vector}
+use Rattle.text_laws.proofs.ReadTrees.{Found, read_refused, read_sole, found_accepted, found_vector}
 use Rattle.text_laws.proofs.ReadTrees.{vector_given, vector_decodes}
 use Rattle.jobs.specs.Counting.{trace_checks, count_order, TotalsText, CountsIn, CountsText}
 use Rattle.jobs.proofs.TextOrders.{passed_without_ten, refused_without_ten}
@@ -50,7 +50,7 @@ module _ {ρ : Rules} {names : List ℕ} {n : ℕ} {states text : List ℕ} {r :
   pub text_refused : ReadsText ρ names text sort.Vector r → r.refused ≡ true
       → CountsText ρ names n states text (Refused r.refusal)
   unfolding CountsIn
-  text_refused h e = record { comes = in_first text (read_order ρ names text sort.Vector) _ (read-refused h e) }
+  text_refused h e = record { comes = in_first text (read_order ρ names text sort.Vector) _ (read_refused h e) }
 
   module _ (f : Found ρ names text sort.Vector r) where
     counted : (c : Counting) → RowTotals ρ (names_in names) n (take r.len r.tree) states c

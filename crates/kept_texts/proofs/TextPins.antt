@@ -25,7 +25,7 @@ use Rattle.tokens.specs.Extents.{RefusedIn}
 use Rattle.tokens.proofs.ShownBytes.{in_first, in_then, in_silent}
 use Rattle.reader.specs.declared.Read.{Read}
 use Rattle.reader.specs.Reading.{read_order, ReadsText}
-use Rattle.text_laws.proofs.ReadTrees.{Found, read-refused, found_front}
+use Rattle.text_laws.proofs.ReadTrees.{Found, read_refused, found_front}
 use Rattle.named_pins.specs.Tables.{Marks}
 use Rattle.named_pins.proofs.Joined.{marks_named}
 use Rattle.kept_texts.specs.Keeping.{table_checks, KeepsText, keeps, refuses}
@@ -46,7 +46,7 @@ module _ (names kept : List ℕ) where
 module _ {ρ : Rules} {names text : List ℕ} {sort : Sort} {kept : List ℕ} {r : Read} where
   pub keep_refused : ReadsText ρ names text sort r → r.refused ≡ true
       → KeepsText ρ names text sort kept kept (Refused r.refusal)
-  keep_refused h e = refuses (in_first text (read_order ρ names text sort) _ (read-refused h e)) refl
+  keep_refused h e = refuses (in_first text (read_order ρ names text sort) _ (read_refused h e)) refl
 
   module _ (f : Found ρ names text sort r) where
     pub keep_18 : {o : Outcome} → (length kept ≡ names_in names → ⊥) → o ≡ Refused (refusal 18 0)

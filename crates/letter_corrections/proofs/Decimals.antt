@@ -20,7 +20,7 @@ use Rattle.alf.specs.Names.{is_decimal}
 use Rattle.basics.proofs.Bools.{below?, and_left, and_right}
 use Rattle.figures.specs.Numbers.{digits, width, decimal}
 use Rattle.figures.specs.Numbers.{reading}
-use Rattle.figures.proofs.Digits.{decimal-read, decimal_length, width_some}
+use Rattle.figures.proofs.Digits.{decimal_read, decimal_length, width_some}
 use Rattle.letter_corrections.specs.RowNumbers.{row_number, gone_on}
 
 unfoldable pub going : ℕ → List ℕ → ℕ
@@ -150,4 +150,4 @@ pub number_read : (n : ℕ) → n ≤ 65535 → row_number (decimal n) ≡ n
 unfolding going decimal
 number_read n h =
     sym (whole (decimal n) (λ e. omega (arith, decimal_length n, width_some n)))
-    ∙ rw (digits_all (width n) n, decimal-read n (omega arith)) (omega arith)
+    ∙ rw (digits_all (width n) n, decimal_read n (omega arith)) (omega arith)

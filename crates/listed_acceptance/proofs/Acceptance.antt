@@ -26,7 +26,7 @@ use Rattle.alf.specs.Values.{old_rules_lem}
 use Rattle.acceptance.specs.Accepted.{Accepted}
 use Rattle.basics.specs.Deciding.{Decides}
 use Rattle.alternatives.specs.InMemory.{cut, sum, tests_of, alternatives_of_lem, Tests, Shape}
-use Rattle.alternatives.proofs.Cuts.{cut-length, tests_length}
+use Rattle.alternatives.proofs.Cuts.{cut_length, tests_length}
 use Rattle.alternatives.specs.InMemory.{longest_of}
 use Rattle.alternatives.proofs.Longest.{longest_is}
 use Rattle.basics.proofs.Deciding.{same_decided}
@@ -63,7 +63,7 @@ module _ (names : ℕ) (tree steps tests edges operands : List ℕ) where
 
   as_many : length xs ≡ length steps
   unfolding alternatives_of_lem
-  as_many = cut-length steps _
+  as_many = cut_length steps _
 
   module _ (same : length operands ≡ length edges) (o : Each (Operand tree names) operands) where
     operands_tests : Tests tree names edges operands

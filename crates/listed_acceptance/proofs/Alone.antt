@@ -92,8 +92,8 @@ module _ (t : List ℕ) (names end m : ℕ) where
           go (vector p) h k = never k
 
 -- a part of a part is a part
-drop-take : (k n : ℕ) (l : List ℕ) → k ≤ n → k ≤ length l → drop k (take n l) ≡ take (n - k) (drop k l)
-drop-take k n l h b =
+drop_take : (k n : ℕ) (l : List ℕ) → k ≤ n → k ≤ length l → drop k (take n l) ≡ take (n - k) (drop k l)
+drop_take k n l h b =
     let e : n ≡ k + (n - k) = omega arith in
     ap (λ (j : ℕ). drop k (take j l)) e
     ∙ ap (drop k) (take-add k (n - k) l)
@@ -105,7 +105,7 @@ part_inside t end low m l b c =
     let e : end - low - (m - low) ≡ end - m = omega arith in
     let d : low + (m - low) ≡ m = omega arith in
     ap (take (end - low - (m - low)))
-    (drop-take (m - low) (end - low) (drop low t) (omega arith) (omega (arith, length-drop low t)))
+    (drop_take (m - low) (end - low) (drop low t) (omega arith) (omega (arith, length-drop low t)))
     ∙ take-take (end - low - (m - low)) (end - low - (m - low)) (drop (m - low) (drop low t)) (omega arith)
     ∙ ap (take (end - low - (m - low))) (drop-drop (m - low) low t)
     ∙ rw (d, e) refl

@@ -27,10 +27,10 @@ sum_lengths zero ys = refl
 sum_lengths (suc n) [] = refl
 sum_lengths (suc n) (y ∷ ys) = ap (λ (k : ℕ). length y + k) (sum_lengths n ys)
 
-drop-map : {A : Type 0} (n : ℕ) (ys : List (List A)) → map length (drop n ys) ≡ drop n (map length ys)
-drop-map zero ys = refl
-drop-map (suc n) [] = refl
-drop-map (suc n) (y ∷ ys) = drop-map n ys
+drop_map : {A : Type 0} (n : ℕ) (ys : List (List A)) → map length (drop n ys) ≡ drop n (map length ys)
+drop_map zero ys = refl
+drop_map (suc n) [] = refl
+drop_map (suc n) (y ∷ ys) = drop_map n ys
 
 -- the pieces have the lengths that they are cut by
 lengths_cut : {A : Type 0} (ns : List ℕ) (xs : List A) → sum ns ≤ length xs → map length (cut ns xs) ≡ ns
@@ -46,7 +46,7 @@ unfolding greatest_of cut tests
 tests_pieces [] ys = refl
 tests_pieces (n ∷ ns) ys =
     ap₂ (λ (x y : ℕ). max x y) (sum_lengths n ys)
-    (tests_pieces ns (drop n ys) ∙ ap (λ (l : List ℕ). greatest_of sum (cut ns l)) (drop-map n ys))
+    (tests_pieces ns (drop n ys) ∙ ap (λ (l : List ℕ). greatest_of sum (cut ns l)) (drop_map n ys))
 
 -- how many tests the alternative with most has
 pub tests_are : (steps tested : List ℕ) (all : List Test) → sum tested ≤ length all

@@ -1,6 +1,6 @@
 -- What a push for alternatives handed in comes to, case by case.
 --   queue_many, queue_lists, queue_kept    whether a queue may be handed in with the alternatives
---   push_asked, push-refused, push_told
+--   push_asked, push_refused, push_told
 use mathlib.Core.Path.{◌≡◌, refl, ◌∙◌}
 use mathlib.Core.Bool.{Bool, false}
 use mathlib.Core.List.{List}
@@ -85,10 +85,10 @@ module _ {names : ℕ} {tree steps tests edges operands : List ℕ} {q : Queue} 
         codes = s;
       }
 
-  pub push-refused : {ρ : Rules} {r : Refusal} → v ≡ Refused r
+  pub push_refused : {ρ : Rules} {r : Refusal} → v ≡ Refused r
       → ListedPush ρ names tree steps tests edges operands q time row (matching.Refused r) q
   unfolding Takes
-  push-refused e = record { comes = (judged_not as_push e, refl) }
+  push_refused e = record { comes = (judged_not as_push e, refl) }
 
   pub push_told : {ρ : Rules} {m : Dated} {p q' : Queue} {tell : Matching} → v ≡ Good
       → Pushes ρ names (alternatives_of_lem tree names steps tests edges operands) q time row m.answer m.tries

@@ -24,7 +24,8 @@ fn read_on<F: Read>(file: &mut F, buf: &mut [u8], at: usize) -> io::Result<usize
     Ok(at + got)
 }
 
-fn read_all<F: Read>(file: &mut F, buf: &mut [u8]) -> io::Result<usize> {
+// What is read, to the end of the input or as much as there is room: how many bytes.
+pub fn read_all<F: Read>(file: &mut F, buf: &mut [u8]) -> io::Result<usize> {
     let mut done: usize = 0;
     while done < buf.len() {
         let next = read_on(file, buf, done)?;

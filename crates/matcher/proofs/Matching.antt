@@ -23,7 +23,7 @@ use Rattle.alf.proofs.RowsAreAlternatives.{row_on}
 use Rattle.evaluator.proofs.AnswerNumbers.{numbered_yes}
 use Rattle.alternatives.specs.InMemory.{cut, sum, step_in, alternative_in}
 use Rattle.matcher.specs.Answers.{Matches}
-use Rattle.alternatives.proofs.Cuts.{part, part_first, part_next, part_last, cut_at, cut-length, sum_next}
+use Rattle.alternatives.proofs.Cuts.{part, part_first, part_next, part_last, cut_at, cut_length, sum_next}
 
 yes_numbered : (r : ℕ) → 2 ≤ r → 1 ≡ numbered r
 yes_numbered r h = numbered_yes r (λ e. omega arith) (λ e. omega arith)
@@ -56,7 +56,7 @@ module _ {st : Boolean → ℕ → ℕ} {all : List Test} {t n a : ℕ} where
 pub alternative_length : (tests : List ℕ) (all : List Test) (s n t : ℕ) → s + n ≤ length tests
     → length (alternative_in tests all s t n) ≡ n
 alternative_length tests all s n t h =
-    let e = cut-length (drop s tests) (drop t all) in
+    let e = cut_length (drop s tests) (drop t all) in
     let f = length-drop s tests in
     length-take n (cut (drop s tests) (drop t all)) ∙ omega arith
 

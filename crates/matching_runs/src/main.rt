@@ -4,14 +4,15 @@
 
 mod cases;
 
+use loading::files::read_all;
 use run_words::lists::decode;
 use std::io;
-use std::io::Read;
+use text_parts::parts::front;
 
 fn main(rt: HostRuntime) -> io::Result<()> {
-    let mut input = Vec::new(rt.alloc());
-    rt.reader().read_to_end(&mut input)?;
+    let mut input = [0u8; 65536];
+    let n = read_all(&mut rt.reader(), &mut input)?;
     decode(&mut input);
-    crate::cases::show_lines(rt.stdout(), &input);
+    crate::cases::show_lines(rt.stdout(), front(&input, n));
     Ok(())
 }

@@ -22,7 +22,7 @@ use Rattle.alf.specs.Bytes.{bytes_of}
 use Rattle.alf.specs.States.{among}
 use Rattle.named_pins.specs.Pins.{named}
 use Rattle.named_pins.specs.Tables.{joined, Marks}
-use Rattle.named_pins.proofs.NamedBytes.{or-none, among_append, among_one, bytes_named}
+use Rattle.named_pins.proofs.NamedBytes.{or_none, among_append, among_one, bytes_named}
 
 module _ (pins : ℕ → Bool) (kept : List ℕ) where
   pub joined_length : length (joined pins kept) ≡ length kept
@@ -41,8 +41,8 @@ joined_same pins pins' kept h =
     listed_same _ _ 0 (length kept)
     (λ n l. ap (λ (q : Bool). if q then 1 else get_or kept n 0) (h n (omega arith)))
 
-joined-none : (kept : List ℕ) → joined (λ n. false) kept ≡ kept
-joined-none kept =
+joined_none : (kept : List ℕ) → joined (λ n. false) kept ≡ kept
+joined_none kept =
     ext_get_or 0 (joined (λ n. false) kept) kept (joined_length (λ n. false) kept)
     (λ n l. joined_at (λ n. false) kept n (omega (arith, joined_length (λ n. false) kept)))
 
@@ -63,7 +63,7 @@ module _ (t kept : List ℕ) (b : ℕ) where
           (get_or-set_same (joined (λ n. among n t) kept) n 1 0 inside))
       go (inr d) =
           rw (joined_at (λ n. among n (t ++ (b ∷ []))) kept n l, among_append n t (b ∷ []), among_one n b)
-          (rw (ne_eqb b n (λ e. d (sym e)), or-none (among n t))
+          (rw (ne_eqb b n (λ e. d (sym e)), or_none (among n t))
           (get_or-set_other (joined (λ n. among n t) kept) b n 1 0 d ∙ joined_at (λ n. among n t) kept n l))
 
   joined_next : set (joined (λ n. among n t) kept) b 1 ≡ joined (λ n. among n (t ++ (b ∷ []))) kept
@@ -80,7 +80,7 @@ pub record Marking (tree kept kept' : List ℕ) (i : ℕ) : Type 0 where
 
 pub marking_first : {tree kept : List ℕ} → Marking tree kept kept 0
 unfolding among
-marking_first {kept = kept} = record { within = omega arith; is = sym (joined-none kept) }
+marking_first {kept = kept} = record { within = omega arith; is = sym (joined_none kept) }
 
 module _ {tree kept kept' : List ℕ} {i : ℕ} (m : Marking tree kept kept' i) where
   pub marking_length : length kept' ≡ length kept

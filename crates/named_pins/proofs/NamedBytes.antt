@@ -13,15 +13,15 @@ use borrow.Author.Tests.{eq-eqb, ne_eqb}
 use Rattle.basics.proofs.Bools.{equal?}
 use Rattle.alf.specs.Expressions.{Boolean, name, literal, negated, binary, choice, Vector, edge, join, while}
 use Rattle.alf.specs.Expressions.{Binary, and, or, xor, xnor, equals, differs, above, below, is_at_least, is_at_most}
-use Rattle.alf.specs.Expressions.{Join, followed-by, either_order, with-or-then, any_order, with, or_else}
-use Rattle.alf.specs.Expressions.{on-right, on-left, Expression, boolean, vector}
+use Rattle.alf.specs.Expressions.{Join, followed_by_join, either_order, with_or_then, any_order, with, or_else}
+use Rattle.alf.specs.Expressions.{on_right, on_left, Expression, boolean, vector}
 use Rattle.alf.specs.Bytes.{binary_byte, join_byte, edge_number, boolean_bytes, vector_bytes, bytes_of}
 use Rattle.alf.specs.States.{among}
 use Rattle.named_pins.specs.Pins.{names, names_in, named}
 
-pub or-none : (p : Bool) → (p || false) ≡ p
-or-none true = refl
-or-none false = refl
+pub or_none : (p : Bool) → (p || false) ≡ p
+or_none true = refl
+or_none false = refl
 
 or_swap : (p q : Bool) → (p || q) ≡ (q || p)
 or_swap true true = refl
@@ -62,9 +62,9 @@ binary_far is_at_most = omega arith
 
 join_far : (j : Join) → 32 ≤ join_byte j
 unfolding join_byte
-join_far followed-by = omega arith
+join_far followed_by_join = omega arith
 join_far either_order = omega arith
-join_far with-or-then = omega arith
+join_far with_or_then = omega arith
 join_far any_order = omega arith
 join_far with = omega arith
 join_far or_else = omega arith
@@ -75,7 +75,7 @@ module _ (n : ℕ) (pin : n < 32) where
   far b h = among_one n b ∙ ne_eqb b n (λ e. omega arith)
 
   ended : (xs : List ℕ) (b : ℕ) → 32 ≤ b → among n (xs ++ (b ∷ [])) ≡ among n xs
-  ended xs b h = rw (among_append n xs (b ∷ []), far b h) (or-none (among n xs))
+  ended xs b h = rw (among_append n xs (b ∷ []), far b h) (or_none (among n xs))
 
   boolean_named : (c : Boolean) → among n (boolean_bytes c) ≡ names c n
   unfolding boolean_bytes names
@@ -95,10 +95,10 @@ module _ (n : ℕ) (pin : n < 32) where
   vector_named (join j p q) =
       rw (among_append n (vector_bytes p), ended (vector_bytes q) (join_byte j) (join_far j))
       (rw (vector_named p, vector_named q) refl)
-  vector_named (while on-right p c) =
+  vector_named (while on_right p c) =
       rw (among_append n (vector_bytes p), ended (boolean_bytes c) 56 (omega arith))
       (rw (vector_named p, boolean_named c) refl)
-  vector_named (while on-left p c) =
+  vector_named (while on_left p c) =
       rw (among_append n (boolean_bytes c), ended (vector_bytes p) 57 (omega arith))
       (rw (vector_named p, boolean_named c) (or_swap (names c n) (names_in p n)))
 

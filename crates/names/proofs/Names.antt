@@ -46,9 +46,9 @@ module _ (p : ℕ → Bool) (s : List ℕ) (i : ℕ) where
   unfolding all
   all_more h e = rw (add-one, drop-cons s i 0 h, e)
 
-  pub all-stop : i < length s → p (get_or s i 0) ≡ false → all p (drop i s) ≡ false
+  pub all_stop : i < length s → p (get_or s i 0) ≡ false → all p (drop i s) ≡ false
   unfolding all
-  all-stop h e = rw (drop-cons s i 0 h, e)
+  all_stop h e = rw (drop-cons s i 0 h, e)
 
 module _ (s : List ℕ) (i : ℕ) where
   until_at_end : length s ≤ i → until_zero (drop i s) ≡ []

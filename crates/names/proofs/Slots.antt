@@ -57,8 +57,8 @@ pub part_told :
     Decides b (name_at names j ≡ name_at names k)
 part_told names j k b t = rw (slot_part names j, slot_part names k) at t
 
-drop-take : (n m : ℕ) (l : List ℕ) → n ≤ length l → drop n (take (n + m) l) ≡ take m (drop n l)
-drop-take n m l h = rw (take-add n m l) (drop_at (take n l) (take m (drop n l)) n (length-take-le n l h))
+drop_take : (n m : ℕ) (l : List ℕ) → n ≤ length l → drop n (take (n + m) l) ≡ take m (drop n l)
+drop_take n m l h = rw (take-add n m l) (drop_at (take n l) (take m (drop n l)) n (length-take-le n l h))
 
 module _ (names : List ℕ) (k n : ℕ) (h : k * 32 + 32 ≤ length names) (l : n ≤ 32) where
   pub rest_part :
@@ -68,10 +68,10 @@ module _ (names : List ℕ) (k n : ℕ) (h : k * 32 + 32 ≤ length names) (l : 
       let e : k * 32 + 32 - (k * 32 + n) ≡ 32 - n = omega arith in
       let f : n + (32 - n) ≡ 32 = omega arith in
       let d : n ≤ length (drop (k * 32) names) = rw length-drop (omega arith) in
-      rw (e, ← drop-drop n (k * 32) names) (rw f at (sym (drop-take n (32 - n) (drop (k * 32) names) d)))
+      rw (e, ← drop-drop n (k * 32) names) (rw f at (sym (drop_take n (32 - n) (drop (k * 32) names) d)))
 
-take-replicate : (n m : ℕ) → take {A = ℕ} n (replicate (n + m) 0) ≡ replicate n 0
-take-replicate n m =
+take_replicate : (n m : ℕ) → take {A = ℕ} n (replicate (n + m) 0) ≡ replicate n 0
+take_replicate n m =
     rw (← replicate-append-replicate {A = ℕ} n m 0)
     (take_at (replicate {A = ℕ} n 0) (replicate m 0) n (length-replicate {A = ℕ} n 0))
 
@@ -81,7 +81,7 @@ slot_of_lem name h =
     let e : length name + (32 - length name) ≡ 32 = omega arith in
     let f : 32 - length name + length name ≡ 32 = omega arith in
     rw e at (take-append-add name (replicate 32 0) (32 - length name))
-    ∙ ap (λ (l : List ℕ). name ++ l) (rw f at (take-replicate (32 - length name) (length name)))
+    ∙ ap (λ (l : List ℕ). name ++ l) (rw f at (take_replicate (32 - length name) (length name)))
 
 module _ {s : List ℕ} {n : ℕ} (size : length s ≡ 32) (p : NameLength s n) where
   named_length : length (until_zero s) ≡ n

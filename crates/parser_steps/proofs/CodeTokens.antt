@@ -1,6 +1,6 @@
 -- Codes and tokens: what is told of codes cs is so of the tokens that cs and as many places ps hold.
 --   tokens_length, first_ahead, token_head     how many there are, the next one's kind, the next one
---   first-at                                   the kind of a code at a number
+--   first_at                                   the kind of a code at a number
 --   counts_tokens, counts_next, counts_take    how many are counted
 --   place_at_of                                 the place of the token at a number
 --   picked_next                                one node more
@@ -44,8 +44,8 @@ token_head (c ∷ cs) [] i e h = absurd (omega arith)
 token_head (c ∷ cs) (p ∷ ps) zero e h = refl
 token_head (c ∷ cs) (p ∷ ps) (suc i) e h = token_head cs ps i (omega arith) (omega arith)
 
-pub first-at : (cs : List ℕ) (i : ℕ) → i < length cs → first (drop i cs) ≡ kind (get_or cs i 0)
-first-at cs i h = rw (drop-cons cs i 0 h)
+pub first_at : (cs : List ℕ) (i : ℕ) → i < length cs → first (drop i cs) ≡ kind (get_or cs i 0)
+first_at cs i h = rw (drop-cons cs i 0 h)
 
 pub counts_tokens : (cs ps : List ℕ) → length ps ≡ length cs → counted (tokens cs ps) ≡ counts cs
 unfolding tokens counted counts

@@ -23,7 +23,7 @@ use Rattle.grammar.specs.Views.{View, going, stopped, nothing, ahead_v, head_v, 
 use Rattle.parser_steps.specs.declared.State.{State}
 use Rattle.parser_steps.specs.Inner.{token_at, picked, view, first, next, used, Fine, Here, Moved, Ranked}
 use Rattle.parser_steps.specs.Inner.{Stepped, Emitted, Halted, Ate}
-use Rattle.parser_steps.proofs.CodeTokens.{tokens_length, first_ahead, token_head, first-at}
+use Rattle.parser_steps.proofs.CodeTokens.{tokens_length, first_ahead, token_head, first_at}
 use Rattle.parser_steps.proofs.CodeTokens.{counts_next, counts_take, picked_next}
 
 -- rank_at
@@ -32,7 +32,7 @@ module _ (cs : List ℕ) (s : State) where
       → Ranked cs s k
   unfolding next
   ranked_token e h q =
-      record { is = simp (e, first-at cs s.at h) q; here = λ l. record { goes = e; left = h } }
+      record { is = simp (e, first_at cs s.at h) q; here = λ l. record { goes = e; left = h } }
 
   pub ranked_end : s.ok ≡ true → length cs ≤ s.at → Ranked cs s 99
   unfolding next

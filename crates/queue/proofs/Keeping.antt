@@ -85,13 +85,13 @@ module _ {trace : List ℕ} {names kept k : ℕ} (asked : KeepAsked trace names 
       omega (arith, asked.full, suc-mul kept names)
 
   -- the part from the second row on
-  pub rest-is : take (length trace - names) (drop names trace) ≡ drop names trace
-  rest-is = take_all (length trace - names) (drop names trace) (omega (arith, length-drop names trace))
+  pub rest_is : take (length trace - names) (drop names trace) ≡ drop names trace
+  rest_is = take_all (length trace - names) (drop names trace) (omega (arith, length-drop names trace))
 
-  pub rest-fits : length (take (length trace - names) (drop names trace)) ≤ 512
-  rest-fits =
+  pub rest_fits : length (take (length trace - names) (drop names trace)) ≤ 512
+  rest_fits =
       let e = rows_fit kept (omega (arith, asked.few, asked.held)) asked.most in
-      rw rest-is (omega (arith, asked.full, length-drop names trace))
+      rw rest_is (omega (arith, asked.full, length-drop names trace))
 
   pub keeps_all : {q : Queue} → kept < k → q.kept.0 ≡ kept + 1 → q.states ≡ stored trace
       → Keeps trace names kept k q
@@ -106,7 +106,7 @@ module _ {trace : List ℕ} {names kept k : ℕ} (asked : KeepAsked trace names 
   unfolding last_rows
   keeps_last {q} l n s =
       let e : kept + 1 - k ≡ 1 = omega (arith, asked.held) in
-      record { number = omega (arith, asked.held); states = rw (e, one-mul, ← rest-is) s }
+      record { number = omega (arith, asked.held); states = rw (e, one-mul, ← rest_is) s }
 
 module _ {tree : List ℕ} {names : ℕ} {steps tests edges operands : List ℕ} {q : Queue} {row : List ℕ}
     (asked : PushAsked tree names steps tests edges operands q row) where

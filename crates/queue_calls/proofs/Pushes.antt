@@ -1,7 +1,7 @@
 -- What a push comes to, case by case.
 --   steps_over, steps_within, few_steps   K is counted, and at most 16
 --   queue_many, queue_tree, queue_kept    whether a queue may be handed in with a tree
---   push_asked; push_good, push-refused, push_told
+--   push_asked; push_good, push_refused, push_told
 use mathlib.Core.Path.{◌≡◌, refl, ap, sym, ◌∙◌}
 use mathlib.Core.Bool.{Bool, true, false}
 use mathlib.Core.List.{List}
@@ -115,9 +115,9 @@ module _ {ρ : Rules} {names : ℕ} {tree : List ℕ} {q : Queue} {row : List �
   pub push_good : v ≡ Good → TreePush ρ names tree q row
   push_good e = let (l, h, (s, t)) = (judged_good as_push e).1 in record { handed = h; fits = l; codes = s }
 
-  pub push-refused : {r : Refusal} → v ≡ Refused r → Push ρ names tree q time row (matching.Refused r) q
+  pub push_refused : {r : Refusal} → v ≡ Refused r → Push ρ names tree q time row (matching.Refused r) q
   unfolding Takes
-  push-refused e = record { comes = (judged_not as_push e, refl) }
+  push_refused e = record { comes = (judged_not as_push e, refl) }
 
   pub push_told : {m : Dated} {p q' : Queue} {told : Matching} → v ≡ Good
       → PushesTree ρ names tree q time row m.answer m.tries m.began p

@@ -11,7 +11,7 @@ use Rattle.alf.specs.Names.{names_in}
 use Rattle.alf.specs.declared.Rules.{Rules}
 use Rattle.alf.specs.declared.Sort.{Sort}
 use Rattle.alf.specs.Steady.{meant}
-use Rattle.alf.specs.declared.Sort.TheVariants as the-sort
+use Rattle.alf.specs.declared.Sort.TheVariants as the_sort
 use Rattle.alf.specs.Expressions.{Vector, Expression, boolean, vector, ExpressionOver}
 use Rattle.alf.specs.Alternatives.{alternatives, over_limit, number_of_alternatives, steps_of, tests_of}
 use Rattle.alf.specs.Bytes.{bytes_of}
@@ -64,10 +64,10 @@ module _ (v : Vector) {m : Measured} (e : m ≡ measured v) where
 asked_sort : (o : Sort) (bytes : ℕ) (x y : Expression) → asked o bytes x ≡ is y
     → has_sort o (is_vector y) ≡ true
 unfolding asked has_sort is_vector
-asked_sort the-sort.Boolean b (boolean c) y e = let z : boolean c ≡ y = cc in rw (sym z) refl
-asked_sort the-sort.Boolean b (vector p) y e = let z : ◌≡◌ {A = ℕ} 0 1 = cc in absurd (omega arith)
-asked_sort the-sort.Vector b (boolean c) y e = let z : ◌≡◌ {A = ℕ} 0 1 = cc in absurd (omega arith)
-asked_sort the-sort.Vector b (vector p) y e = let z : vector p ≡ y = cc in rw (sym z) refl
+asked_sort the_sort.Boolean b (boolean c) y e = let z : boolean c ≡ y = cc in rw (sym z) refl
+asked_sort the_sort.Boolean b (vector p) y e = let z : ◌≡◌ {A = ℕ} 0 1 = cc in absurd (omega arith)
+asked_sort the_sort.Vector b (boolean c) y e = let z : ◌≡◌ {A = ℕ} 0 1 = cc in absurd (omega arith)
+asked_sort the_sort.Vector b (vector p) y e = let z : vector p ≡ y = cc in rw (sym z) refl
 
 given_sort : (o : Sort) (bytes : ℕ) (q : Sorted) (y : Expression) → given q (asked o bytes) ≡ is y
     → has_sort o (is_vector y) ≡ true
@@ -78,9 +78,9 @@ given_sort o b (faulty p) y e = let z : ◌≡◌ {A = ℕ} 0 1 = cc in absurd (
 never_large : (ρ : Rules) (o : Sort) (x : Expression) → has_sort o false ≡ true → has_sort o (is_vector x) ≡ true → (p : ℕ)
     → too_large ρ (is x) p → ⊥
 unfolding has_sort is_vector too_large
-never_large ρ the-sort.Boolean (boolean c) e f p h = h
-never_large ρ the-sort.Boolean (vector v) e f p h = never f
-never_large ρ the-sort.Vector x e f p h = never e
+never_large ρ the_sort.Boolean (boolean c) e f p h = h
+never_large ρ the_sort.Boolean (vector v) e f p h = never f
+never_large ρ the_sort.Vector x e f p h = never e
 
 record VectorOf (x : Expression) : Type 0 where
   it : Vector
@@ -88,9 +88,9 @@ record VectorOf (x : Expression) : Type 0 where
 
 vector_of : (o : Sort) (x : Expression) → has_sort o false ≡ false → has_sort o (is_vector x) ≡ true → VectorOf x
 unfolding has_sort is_vector
-vector_of the-sort.Boolean x e f = never (sym e)
-vector_of the-sort.Vector (boolean c) e f = never f
-vector_of the-sort.Vector (vector v) e f = record { it = v; is_it = refl }
+vector_of the_sort.Boolean x e f = never (sym e)
+vector_of the_sort.Vector (boolean c) e f = never f
+vector_of the_sort.Vector (vector v) e f = record { it = v; is_it = refl }
 
 -- a text that is let through, limit 8 aside
 module _ {names text : List ℕ} {sort : Sort} {x : Expression} (k : Clear names text sort x) where

@@ -12,9 +12,9 @@ use lib.ListN.{length, replicate}
 use lib.Seq.{take-length}
 use borrow.Author.Tests.{eqb-true, eqb-false}
 use Rattle.alf.specs.declared.Sort.{Sort}
-use Rattle.alf.specs.declared.Sort.TheVariants as the-sort
+use Rattle.alf.specs.declared.Sort.TheVariants as the_sort
 use Rattle.alf.specs.Expressions.{name, literal, negated, Vector, edge, join, while}
-use Rattle.alf.specs.Expressions.{with, or_else, on-right, on-left, Expression, boolean, vector}
+use Rattle.alf.specs.Expressions.{with, or_else, on_right, on_left, Expression, boolean, vector}
 use Rattle.alf.specs.Expressions.{Over, VectorOver, ExpressionOver}
 use Rattle.alf.specs.Decoder as decoder
 use Rattle.alf.specs.Bytes.{bytes_of}
@@ -45,34 +45,34 @@ unfolding SortedOver given
 over_given n (is x) f h k = k x h
 over_given n (faulty p) f h k = tt
 
-if-over : (n : ℕ) (b : Bool) (q r : Sorted) → SortedOver n q → SortedOver n r
+if_over : (n : ℕ) (b : Bool) (q r : Sorted) → SortedOver n q → SortedOver n r
     → SortedOver n (if b then q else r)
-if-over n true q r h k = h
-if-over n false q r h k = k
+if_over n true q r h k = h
+if_over n false q r h k = k
 
-over-one : (n : ℕ) (t : Token) → 64 ≤ t.code → t.code < 148 → (x : Expression) → ExpressionOver n x
+over_one : (n : ℕ) (t : Token) → 64 ≤ t.code → t.code < 148 → (x : Expression) → ExpressionOver n x
     → SortedOver n (of_one t x)
 unfolding SortedOver of_one ExpressionOver Over VectorOver
-over-one n t l h (boolean c) o = go (eqb t.code 147) refl
+over_one n t l h (boolean c) o = go (eqb t.code 147) refl
   where
     go : (b : Bool) → eqb t.code 147 ≡ b
         → SortedOver n (if b then is (boolean (negated c)) else is (vector (edge (edge_at (t.code - 64)) c)))
     go true e = o
     go false e = (edge_known (t.code - 64) (omega (arith, eqb-false t.code 147 e)), o)
-over-one n t l h (vector p) o = tt
+over_one n t l h (vector p) o = tt
 
 over_two : (n : ℕ) (t : Token) (x y : Expression) → ExpressionOver n x → ExpressionOver n y
     → SortedOver n (of_two t x y)
 unfolding SortedOver of_two ExpressionOver Over VectorOver
-over_two n t (boolean a) (boolean b) o u = if-over n (ltb t.code 50) _ (faulty t.place) (o, u) tt
-over_two n t (boolean a) (vector q) o u = if-over n (eqb t.code 40) (is (vector (while on-left q a)))
+over_two n t (boolean a) (boolean b) o u = if_over n (ltb t.code 50) _ (faulty t.place) (o, u) tt
+over_two n t (boolean a) (vector q) o u = if_over n (eqb t.code 40) (is (vector (while on_left q a)))
     (faulty t.place) (u, o) tt
-over_two n t (vector p) (boolean b) o u = if-over n (eqb t.code 40) (is (vector (while on-right p b)))
+over_two n t (vector p) (boolean b) o u = if_over n (eqb t.code 40) (is (vector (while on_right p b)))
     (faulty t.place) (o, u) tt
 over_two n t (vector p) (vector q) o u =
-    if-over n (eqb t.code 40) (is (vector (join with p q))) _ (o, u)
-    (if-over n (eqb t.code 41) (is (vector (join or_else p q))) _ (o, u)
-    (if-over n (ltb t.code 50) (faulty t.place) (is (vector (join (join_at (t.code - 50)) p q))) tt (o, u)))
+    if_over n (eqb t.code 40) (is (vector (join with p q))) _ (o, u)
+    (if_over n (eqb t.code 41) (is (vector (join or_else p q))) _ (o, u)
+    (if_over n (ltb t.code 50) (faulty t.place) (is (vector (join (join_at (t.code - 50)) p q))) tt (o, u)))
 
 over_three : (n : ℕ) (t : Token) (z x y : Expression) → ExpressionOver n z → ExpressionOver n x
     → ExpressionOver n y
@@ -115,7 +115,7 @@ module _ (n : ℕ) (number : ℕ → ℕ) where
   sorted_over (one_is {t = t} {a = x} k p) a =
       let c = prefix_code _ k in
       over_given n (sorted number x) (of_one t) (sorted_over p (all_left (nodes x) (t ∷ []) a))
-      (over-one n t c.1 (node_one _ c.0))
+      (over_one n t c.1 (node_one _ c.0))
   sorted_over (two_is {t = t} {a = x} {b = y} k p q) a =
       let b = all_left (nodes x ++ nodes y) (t ∷ []) a in
       over_given n (sorted number x) _ (sorted_over p (all_left (nodes x) (nodes y) b))
@@ -133,10 +133,10 @@ module _ (n : ℕ) (number : ℕ → ℕ) where
   over_asked : (sort : Sort) (length : ℕ) (x : Expression) → ExpressionOver n x
       → SortedOver n (asked sort length x)
   unfolding SortedOver asked
-  over_asked the-sort.Boolean l (boolean c) o = o
-  over_asked the-sort.Boolean l (vector p) o = tt
-  over_asked the-sort.Vector l (boolean c) o = tt
-  over_asked the-sort.Vector l (vector p) o = o
+  over_asked the_sort.Boolean l (boolean c) o = o
+  over_asked the_sort.Boolean l (vector p) o = tt
+  over_asked the_sort.Vector l (boolean c) o = tt
+  over_asked the_sort.Vector l (vector p) o = o
 
   pub call_over :
       (sort : Sort) (length : ℕ) {e : Tree} {x : Expression} →

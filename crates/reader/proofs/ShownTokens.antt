@@ -17,7 +17,7 @@ use lib.Seq.{drop-drop, drop-append_seam}
 use Rattle.basics.proofs.Bools.{never}
 use Rattle.basics.proofs.AllEntries.{All, none, more}
 use Rattle.alf.specs.declared.Sort.{Sort}
-use Rattle.alf.specs.declared.Sort.TheVariants as the-sort
+use Rattle.alf.specs.declared.Sort.TheVariants as the_sort
 use Rattle.alf.specs.Expressions.{Expression, boolean, vector}
 use Rattle.alf.specs.States.{among}
 use Rattle.alf.specs.Names.{starts_name, is_letter}
@@ -73,7 +73,7 @@ none_there = refl
 pub end_held : (text : List ℕ) → Held text (length text)
 end_held text n h =
     let end = drop_of_length-le text {i = length text} (omega arith) in
-    extents.at-end h refl (ap (λ (ds : List ℕ). (step_of ds).size) end ∙ none_there)
+    extents.at_end h refl (ap (λ (ds : List ℕ). (step_of ds).size) end ∙ none_there)
 
 -- what holds at each token's place
 module _ (P : ℕ → Type 0) where
@@ -159,10 +159,10 @@ module _ (P : ℕ → Type 0) where
 
   asked_within : (sort : Sort) (bytes : ℕ) → P bytes → (x : Expression) → Within (asked sort bytes x)
   unfolding asked
-  asked_within the-sort.Boolean bytes h (boolean c) = fine
-  asked_within the-sort.Boolean bytes h (vector p) = at h
-  asked_within the-sort.Vector bytes h (boolean c) = at h
-  asked_within the-sort.Vector bytes h (vector p) = fine
+  asked_within the_sort.Boolean bytes h (boolean c) = fine
+  asked_within the_sort.Boolean bytes h (vector p) = at h
+  asked_within the_sort.Vector bytes h (boolean c) = at h
+  asked_within the_sort.Vector bytes h (vector p) = fine
 
   pub call_within : (sort : Sort) (bytes : ℕ) (number : ℕ → ℕ) (e : Tree) → At (nodes e) → P bytes
       → Within (sorted_for sort bytes number e)

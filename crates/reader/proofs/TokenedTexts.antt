@@ -39,7 +39,7 @@ use Rattle.sorting.specs.Passes.{Listed}
 use Rattle.reader.specs.Reads.{refused_at, answered, Grown, Answered}
 use Rattle.reader.specs.Reading.{sorted_in, Unknown, Unlimited, refused, unlimited}
 use Rattle.reader.specs.Tokened.{Tokened}
-use Rattle.sorting.proofs.SlotNumbers.{first-same}
+use Rattle.sorting.proofs.SlotNumbers.{first_same}
 use Rattle.reader.proofs.Filled.{place_inside, handed_filled}
 use Rattle.reader.proofs.Texts.{reads_inside, reads_rises, few_counted, nodes_inside}
 use Rattle.reader.proofs.Unknowns.{unknown_here, unknown_never}
@@ -72,12 +72,12 @@ module _ {names bytes : List ℕ} {t : Tokens} (k : Tokened names bytes t) where
   unfolding reading.made
   places_are = ap (λ (x : Tokens). x.places) k.are
 
-  count-is : t.count ≡ length ts
+  count_is : t.count ≡ length ts
   unfolding reading.made
-  count-is = ap (λ (x : Tokens). x.count) k.are
+  count_is = ap (λ (x : Tokens). x.count) k.are
 
   pub count_small : t.count ≤ 4096
-  count_small = omega (arith, count-is, reads_short k.read, text_short bytes k.clear)
+  count_small = omega (arith, count_is, reads_short k.read, text_short bytes k.clear)
 
   pub short : length bytes ≤ 4096
   short = text_short bytes k.clear
@@ -88,7 +88,7 @@ module _ {names bytes : List ℕ} {t : Tokens} (k : Tokened names bytes t) where
 
   -- a list of a column holds all tokens
   held : (f : text.Token → ℕ) {l : List ℕ} → l ≡ filled (map f ts) → t.count ≤ length l
-  held f e = omega (arith, ap length e, count-is, column_length f ts, filled_holds (map f ts))
+  held f e = omega (arith, ap length e, count_is, column_length f ts, filled_holds (map f ts))
 
   pub parse_asked : answers.Handed t.codes t.places t.count
   parse_asked =
@@ -101,17 +101,17 @@ module _ {names bytes : List ℕ} {t : Tokens} (k : Tokened names bytes t) where
   place_at : (i : ℕ) → i < t.count → get_or t.places i 0 ≡ get_or (reading.places_of ts) i 0
   place_at i l =
       ap (λ (xs : List ℕ). get_or xs i 0) places_are
-      ∙ filled_at (reading.places_of ts) i (omega (arith, column_length (λ t. t.place) ts, count-is))
+      ∙ filled_at (reading.places_of ts) i (omega (arith, column_length (λ t. t.place) ts, count_is))
 
   code_at : (i : ℕ) → i < t.count → get_or t.codes i 0 ≡ get_or (reading.codes_of ts) i 0
   code_at i l =
       ap (λ (xs : List ℕ). get_or xs i 0) codes_are
-      ∙ filled_at (reading.codes_of ts) i (omega (arith, column_length (λ t. t.code) ts, count-is))
+      ∙ filled_at (reading.codes_of ts) i (omega (arith, column_length (λ t. t.code) ts, count_is))
 
   inside : (i : ℕ) → i < t.count → get_or t.places i 0 ≤ length bytes
   inside i l =
       rw (place_at i l)
-      (place_inside ts (length bytes) i (reads_inside (length bytes) k.read (omega arith)) (omega (arith, count-is)))
+      (place_inside ts (length bytes) i (reads_inside (length bytes) k.read (omega arith)) (omega (arith, count_is)))
 
   pub names_asked : Listed bytes t.codes t.places t.count
   names_asked =
@@ -128,11 +128,11 @@ module _ {names bytes : List ℕ} {t : Tokens} (k : Tokened names bytes t) where
       u ≡ unknown_at names bytes (reading.codes_of ts) (reading.places_of ts) (length ts)
   found_at e =
       e
-      ∙ first-same t.count
+      ∙ first_same t.count
       (λ i. is_unknown names bytes (get_or t.codes i 0) (get_or t.places i 0))
       (λ i. is_unknown names bytes (get_or (reading.codes_of ts) i 0) (get_or (reading.places_of ts) i 0))
       (λ i l. rw (code_at i l, place_at i l) refl)
-      ∙ ap (λ (n : ℕ). unknown_at names bytes (reading.codes_of ts) (reading.places_of ts) n) count-is
+      ∙ ap (λ (n : ℕ). unknown_at names bytes (reading.codes_of ts) (reading.places_of ts) n) count_is
 
   module _ (sort : Sort) {p : Parsed} (a : Answer (handed t.codes t.places t.count) (length bytes) p) where
     answer : Answer (tokens_of ts) (length bytes) p
@@ -159,7 +159,7 @@ module _ {names bytes : List ℕ} {t : Tokens} (k : Tokened names bytes t) where
       whole_six ρ l e =
           let (tree, w, q) = parse_sound answer o in
           let g = found_at f in
-          let h : u < length ts = omega (arith, count-is) in
+          let h : u < length ts = omega (arith, count_is) in
           rw (e, place_at u l)
           (refused _
           (six ρ names bytes sort k.good k.clear k.read w _
@@ -182,7 +182,7 @@ module _ {names bytes : List ℕ} {t : Tokens} (k : Tokened names bytes t) where
       unfolding answered
       whole_sorted ρ l {r} h =
           let (e, w, q) = parse_sound answer o in
-          let known = unknown_never names bytes ts (reads_rising k.read) (omega (arith, found_at f, count-is)) in
+          let known = unknown_never names bytes ts (reads_rising k.read) (omega (arith, found_at f, count_is)) in
           by_sort e w known (sorted_in names bytes sort e) refl (h.given e (expression_formed w) q)
         where
           by_sort :

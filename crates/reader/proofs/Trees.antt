@@ -1,5 +1,5 @@
 -- The pass over the nodes of a tree, from the parser's lists to what is read.
---   all-at            what holds of each token holds of each entry of a list of the parser's
+--   all_at            what holds of each token holds of each entry of a list of the parser's
 --   handed_nodes      the parser's lists hold the nodes
 --   nodes_handed      what the pass asks of them
 --   pass_tree, answer_stopped, answer_wrong, answer_read     what the pass comes to: 7 at an operator, 7 at the text's
@@ -11,7 +11,7 @@ use Prim.Native.Nat.{ℕ, zero, suc, ◌-◌, ◌≤◌, ◌<◌}
 use native.Mathlib.Omega.{arith}
 use lib.ListN.{length, get_or, replicate, length-map}
 use Rattle.alf.specs.declared.Sort.{Sort}
-use Rattle.alf.specs.declared.Sort.TheVariants as the-sort
+use Rattle.alf.specs.declared.Sort.TheVariants as the_sort
 use Rattle.alf.specs.Expressions.{Expression, boolean, vector}
 use Rattle.basics.proofs.Bools.{never}
 use Rattle.basics.specs.Refusing.{refusal}
@@ -35,15 +35,15 @@ use Rattle.sorting.proofs.NodeCodes.{formed_nodes}
 use Rattle.sorting.proofs.NodeRuns.{run_tree}
 use Rattle.sorting.proofs.Stacks.{top_sort, shows_depth, shows_stopped}
 
-pub all-at :
+pub all_at :
     (Q : ℕ → Type 0) (f : Token → ℕ) {ns : List Token} →
     All (λ t. Q (f t)) ns →
     (zs : List ℕ) (i : ℕ) →
     i < length ns →
     Q (get_or (map f ns ++ zs) i 0)
-all-at Q f none zs i h = absurd (omega arith)
-all-at Q f (more q qs) zs zero h = q
-all-at Q f (more q qs) zs (suc i) h = all-at Q f qs zs i (omega arith)
+all_at Q f none zs i h = absurd (omega arith)
+all_at Q f (more q qs) zs zero h = q
+all_at Q f (more q qs) zs (suc i) h = all_at Q f qs zs i (omega arith)
 
 padded_length : (xs : List ℕ) → length xs ≤ 256 → length (padded xs) ≡ 256
 padded_length xs h = front_length (replicate 256 0) xs h
@@ -76,9 +76,9 @@ nodes_handed {names} {text} {p} g =
           record {
             codes_hold = omega (arith, g.short, padded_length (codes_of ns) (omega (arith, g.short, cl)), cl);
             places_hold = omega (arith, g.short, padded_length (places_of ns) (omega (arith, g.short, pl)), pl);
-            inside = λ i l. all-at (λ q. q ≤ length text) (λ t. t.place) g.inside _ i l;
+            inside = λ i l. all_at (λ q. q ≤ length text) (λ t. t.place) g.inside _ i l;
           };
-      known = λ i l. all-at (λ c. is_node c ≡ true) (λ t. t.code) (formed_nodes g.formed) _ i l;
+      known = λ i l. all_at (λ c. is_node c ≡ true) (λ t. t.code) (formed_nodes g.formed) _ i l;
     })
   where
     ns : List Token
@@ -116,17 +116,17 @@ stopped_inside {names} {text} g h e =
 sort_refused : (o : Sort) (x : Expression) (bytes : ℕ) → has_sort o (is_vector x) ≡ false
     → asked o bytes x ≡ faulty bytes
 unfolding has_sort asked is_vector
-sort_refused the-sort.Boolean (boolean c) bytes e = never (sym e)
-sort_refused the-sort.Boolean (vector p) bytes e = refl
-sort_refused the-sort.Vector (boolean c) bytes e = refl
-sort_refused the-sort.Vector (vector p) bytes e = never (sym e)
+sort_refused the_sort.Boolean (boolean c) bytes e = never (sym e)
+sort_refused the_sort.Boolean (vector p) bytes e = refl
+sort_refused the_sort.Vector (boolean c) bytes e = refl
+sort_refused the_sort.Vector (vector p) bytes e = never (sym e)
 
 sort_taken : (o : Sort) (x : Expression) (bytes : ℕ) → has_sort o (is_vector x) ≡ true → asked o bytes x ≡ is x
 unfolding has_sort asked is_vector
-sort_taken the-sort.Boolean (boolean c) bytes e = refl
-sort_taken the-sort.Boolean (vector p) bytes e = never e
-sort_taken the-sort.Vector (boolean c) bytes e = never e
-sort_taken the-sort.Vector (vector p) bytes e = refl
+sort_taken the_sort.Boolean (boolean c) bytes e = refl
+sort_taken the_sort.Boolean (vector p) bytes e = never e
+sort_taken the_sort.Vector (boolean c) bytes e = never e
+sort_taken the_sort.Vector (vector p) bytes e = refl
 
 -- what is shown at the end is what is read
 shown_made : {s : Sorting} (x : Expression) → Shows s (going (x ∷ []))

@@ -85,7 +85,7 @@ read_unique {ρ} {names} {text} {sort} (read a g) (refused r b) =
 read_unique (read a g) (read b h) = ap made (gives_unique g h)
 
 -- what is read is what the text gives
-pub record Read-as (ρ : Rules) (names text : List ℕ) (sort : Sort) (r : Read) : Type 0 where
+pub record ReadAs (ρ : Rules) (names text : List ℕ) (sort : Sort) (r : Read) : Type 0 where
   pub good : Passed (names_order names)
   pub short : length text ≤ 4096
   pub it : Expression
@@ -93,7 +93,7 @@ pub record Read-as (ρ : Rules) (names text : List ℕ) (sort : Sort) (r : Read)
   pub is_it : r ≡ made it
 
 pub read_sound : {ρ : Rules} {names text : List ℕ} {sort : Sort} {r : Read} → ReadsText ρ names text sort r
-    → r.refused ≡ false → Read-as ρ names text sort r
+    → r.refused ≡ false → ReadAs ρ names text sort r
 unfolding made refused_by
 read_sound (refused r a) e = never (sym e)
 read_sound {ρ} {names} {text} {sort} (read {x = x} a g) e =

@@ -9,7 +9,7 @@ use Rattle.alf.specs.Names.{names_in}
 use Rattle.basics.specs.declared.Refusal.{Refusal}
 use Rattle.basics.specs.Refusing.{refusal, refusal_over_lem}
 use Rattle.alf.specs.declared.Sort.{Sort}
-use Rattle.alf.specs.declared.Sort.TheVariants as the-sort
+use Rattle.alf.specs.declared.Sort.TheVariants as the_sort
 use Rattle.alf.specs.Expressions.{Expression}
 use Rattle.alf.specs.Bytes.{bytes_of}
 use Rattle.basics.specs.Words.{All}
@@ -53,8 +53,8 @@ answered text (faulty p) = refused_at text 7 p
 
 -- whether an expression, a vector or not, has the sort
 unfoldable pub has_sort : Sort → Bool → Bool
-has_sort the-sort.Boolean v = not v
-has_sort the-sort.Vector v = v
+has_sort the_sort.Boolean v = not v
+has_sort the_sort.Vector v = v
 
 -- a parser's answer with the nodes of a tree of the text
 pub record Grown (names text : List ℕ) (p : Parsed) : Type 0 where

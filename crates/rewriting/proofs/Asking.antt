@@ -4,7 +4,7 @@ use Prim.Native.Nat.{ℕ, zero, suc, ◌-◌}
 use mathlib.Core.List.{List, ◌++◌}
 use lib.ListN.{length}
 use Rattle.alf.specs.Expressions.{Boolean, Edge, Vector}
-use Rattle.alf.specs.Expressions.{Join, followed-by, either_order, with-or-then, any_order, with, or_else}
+use Rattle.alf.specs.Expressions.{Join, followed_by_join, either_order, with_or_then, any_order, with, or_else}
 use Rattle.alf.specs.Alternatives.{Test, test, Alternative, padded, zipped, overlaid, conditioned}
 use Rattle.alf.specs.Alternatives.{rewritten, alternatives}
 use Rattle.basics.proofs.AllEntries.{All, none, more, all_append, all_map}
@@ -48,9 +48,9 @@ module _ (P : Boolean → Type 0) where
 
   rewritten_ask : (j : Join) {xs ys : List Alternative} → All Good xs → All Good ys → All Good (rewritten j xs ys)
   unfolding rewritten
-  rewritten_ask followed-by h k = all_each ◌++◌ chained_ask h k
+  rewritten_ask followed_by_join h k = all_each ◌++◌ chained_ask h k
   rewritten_ask either_order h k = all_append (all_each ◌++◌ chained_ask h k) (all_each ◌++◌ chained_ask k h)
-  rewritten_ask with-or-then h k = all_append (all_each overlaid overlaid_ask h k) (all_each ◌++◌ chained_ask h k)
+  rewritten_ask with_or_then h k = all_append (all_each overlaid overlaid_ask h k) (all_each ◌++◌ chained_ask h k)
   rewritten_ask any_order h k =
       all_append (all_append (all_each ◌++◌ chained_ask h k) (all_each overlaid overlaid_ask h k))
       (all_each ◌++◌ chained_ask k h)

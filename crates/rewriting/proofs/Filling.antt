@@ -118,13 +118,13 @@ module _ {x : Alternative} {tests₀ : List ℕ} {s : ℕ} {edges₀ operands₀
         (writing_length g.counts, p.0, p.1)
 
     pub walking_room : j < length x → at + length (get_or x j []) ≤ from + length (joined x)
-    walking_room l = omega (arith, g.put.next-is, joined_part x j l)
+    walking_room l = omega (arith, g.put.next_is, joined_part x j l)
 
     pub walking_next : {edges' operands' : List ℕ} {next v : ℕ} → j < length x
         → Put (get_or x j []) at edges operands next edges' operands' → v ≡ next - at
         → Walking x tests₀ s edges₀ operands₀ from (set tests (s + j) v) edges' operands' next (j + 1)
     walking_next {v = v} l p e =
-        let n : v ≡ length (get_or x j []) = omega (arith, p.next-is) in
+        let n : v ≡ length (get_or x j []) = omega (arith, p.next_is) in
         record {
           within = omega arith;
           counts = writing_next g.counts (mapped_there length x l) (mapped_at length x [] l n);
@@ -169,7 +169,7 @@ module _ {xs : List Alternative} {steps₀ tests₀ edges₀ operands₀ : List 
         × (from + length (joined (get_or xs t [])) ≤ length (joined (joined xs)))
     filling_room l = (
       omega (arith, g.passed, joined_part xs t l),
-      omega (arith, g.put.next-is, tests_part xs t l),
+      omega (arith, g.put.next_is, tests_part xs t l),
     )
 
     pub filling_next : {tests' edges' operands' : List ℕ} {next n : ℕ} → t < length xs
@@ -202,6 +202,6 @@ module _ {xs : List Alternative} {steps₀ tests₀ edges₀ operands₀ : List 
         record {
           steps_are = writing_front g.steps_are (rw length-map l) (rw length-map a);
           tests_are = rw e at g.tests_are ∙ sets_front tests₀ (map length (joined xs)) (rw length-map b);
-          edges_are = p.edges-is ∙ sets_front edges₀ (numbers (joined (joined xs))) (rw length-map c);
+          edges_are = p.edges_is ∙ sets_front edges₀ (numbers (joined (joined xs))) (rw length-map c);
           operands_are = p.operands_is ∙ sets_front operands₀ (ends (joined (joined xs))) (rw length-map d);
         }

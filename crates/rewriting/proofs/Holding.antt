@@ -34,7 +34,7 @@ use Rattle.rewriting.specs.Lists.{Ready, Long, Filled, Fillable, InUse, Holds}
 use Rattle.rewriting.proofs.Bounds.{ready_pins, ready_bounded, few_steps, few_tests}
 use Rattle.rewriting.proofs.Meaning.{lists_stand, lists_shape}
 use Rattle.alternatives.specs.InMemory.{alternatives_of_lem}
-use Rattle.alternatives.proofs.Cuts.{cut-length}
+use Rattle.alternatives.proofs.Cuts.{cut_length}
 use Rattle.basics.specs.Memory.{front}
 
 -- how many entries each list has
@@ -92,8 +92,8 @@ module _ (ρ : Rules) (tree : List ℕ) (names : ℕ) (a : Accepted ρ names sor
   abbrev xs : List Alternative
   xs = alternatives_at ρ tree names
 
-  count-is : v.count ≡ length (step_list xs)
-  count-is = l.alternatives_are ∙ sym (step_entries xs)
+  count_is : v.count ≡ length (step_list xs)
+  count_is = l.alternatives_are ∙ sym (step_entries xs)
 
   step_count_is : v.step_count ≡ length (test_list xs)
   step_count_is = l.steps_are ∙ sym (test_entries xs)
@@ -105,7 +105,7 @@ module _ (ρ : Rules) (tree : List ℕ) (names : ℕ) (a : Accepted ρ names sor
   operand_count_is = l.tests_are ∙ sym (operand_entries xs)
 
   steps_front : take v.count v.steps ≡ step_list xs
-  steps_front = front_taken (step_list xs) (replicate 64 0) f.steps_are count-is
+  steps_front = front_taken (step_list xs) (replicate 64 0) f.steps_are count_is
 
   tests_front : take v.step_count v.tests ≡ test_list xs
   tests_front = front_taken (test_list xs) (replicate 1024 0) f.tests_are step_count_is
@@ -127,7 +127,7 @@ module _ (ρ : Rules) (tree : List ℕ) (names : ℕ) (a : Accepted ρ names sor
       record {
         long = l;
         filled = f;
-        steps_used = in_use (step_list xs) (replicate 64 0) f.steps_are count-is;
+        steps_used = in_use (step_list xs) (replicate 64 0) f.steps_are count_is;
         tests_used = in_use (test_list xs) (replicate 1024 0) f.tests_are step_count_is;
         edges_used = in_use (edge_list xs) (replicate 4096 0) f.edges_are edge_count_is;
         operands_used = in_use (operand_list xs) (replicate 4096 0) f.operands_are operand_count_is;
@@ -160,7 +160,7 @@ module _ {ρ : Rules} {tree : List ℕ} {names : ℕ} {v : Alternatives} (h : Ho
   pub holds_number : v.count ≡ length (alternatives (meant ρ (vector_at tree names (length tree))))
   unfolding alternatives_of_lem
   holds_number =
-      h.steps_used.many ∙ sym (cut-length (take v.count v.steps) _) ∙ ap length h.stands
+      h.steps_used.many ∙ sym (cut_length (take v.count v.steps) _) ∙ ap length h.stands
 
   pub steps_within : v.count ≤ length v.steps
   steps_within = h.steps_used.within
@@ -179,16 +179,16 @@ pub holds_unique : (ρ : Rules) (tree : List ℕ) (names : ℕ) (v w : Alternati
     → v ≡ w
 holds_unique ρ tree names v w h k =
     let count = h.long.alternatives_are ∙ sym k.long.alternatives_are in
-    let step-count = h.long.steps_are ∙ sym k.long.steps_are in
-    let test-count = h.long.tests_are ∙ sym k.long.tests_are in
+    let step_counts = h.long.steps_are ∙ sym k.long.steps_are in
+    let test_counts = h.long.tests_are ∙ sym k.long.tests_are in
     let steps = h.filled.steps_are ∙ sym k.filled.steps_are in
     let tests = h.filled.tests_are ∙ sym k.filled.tests_are in
     let edges = h.filled.edges_are ∙ sym k.filled.edges_are in
     let operands = h.filled.operands_are ∙ sym k.filled.operands_are in
     λ i. record {
       count = count i;
-      step_count = step-count i;
-      test_count = test-count i;
+      step_count = step_counts i;
+      test_count = test_counts i;
       steps = steps i;
       tests = tests i;
       edges = edges i;

@@ -1,5 +1,5 @@
 -- What each turn of the loops over steps and alternatives asks, and what it comes to.
--- Main names: step_stepping, step_rises, step_small, step-next, steps_added; alternative_adding, alternative_next,
+-- Main names: step_stepping, step_rises, step_small, step_next, steps_added; alternative_adding, alternative_next,
 -- alternatives_filled.
 use Prim.Native.Nat.{ℕ, ◌+◌, ◌-◌, ◌<◌, ◌≤◌}
 use native.Mathlib.Omega.{arith}
@@ -59,16 +59,16 @@ module _ {pins tree : List ℕ} {names t n : ℕ} {tests₀ : List ℕ} {s : ℕ
     module _ {next : ℕ} {edges' operands' : List ℕ}
         (p : Put (step_at pins tree names (length tree) t j) at edges operands next edges' operands') where
       pub step_rises : (from ≤ at) × (at ≤ next)
-      step_rises = (omega (arith, g.put.next-is), omega (arith, p.next-is))
+      step_rises = (omega (arith, g.put.next_is), omega (arith, p.next_is))
 
       pub step_small : next ≤ from + 64
       step_small =
           let r = walking_room g there in
-          omega (arith, p.next-is, (ready_bounded pins tree names h.ready).light t)
+          omega (arith, p.next_is, (ready_bounded pins tree names h.ready).light t)
 
-      pub step-next : Walking (alternative_of pins tree names t) tests₀ s edges₀ operands₀ from
+      pub step_next : Walking (alternative_of pins tree names t) tests₀ s edges₀ operands₀ from
           (set tests (s + j) (next - at)) edges' operands' next (j + 1)
-      step-next = walking_next g there p refl
+      step_next = walking_next g there p refl
 
     pub counts_room : s + j < length tests
     counts_room = omega (arith, h.tests_room, (walking_lengths g).0)

@@ -20,7 +20,7 @@ use Rattle.basics.proofs.Bools.{equal?}
 use Rattle.alf.specs.declared.Rules.{Rules}
 use Rattle.alf.specs.declared.Sort.TheVariants as sort
 use Rattle.alf.specs.Values.{old_rules_lem}
-use Rattle.alf.specs.Expressions.{Boolean, name, stays, Vector, edge, join, while, with, on-right, on-left}
+use Rattle.alf.specs.Expressions.{Boolean, name, stays, Vector, edge, join, while, with, on_right, on_left}
 use Rattle.alf.specs.Expressions.{Expression, boolean, vector, Over, VectorOver, ExpressionOver}
 use Rattle.alf.specs.Bytes.{boolean_bytes, vector_bytes, bytes_of, Encodes}
 use Rattle.alf.specs.Decoder.{Decodes, top_vector}
@@ -92,14 +92,14 @@ module _ (tree : List ℕ) (names : ℕ) (few : length tree ≤ 256) where
       (operands_there p _ (lies_first (vector_bytes p) (vector_bytes q) _ l) o (omega (arith, h, d)))
       (operands_there q _ (lies_second (vector_bytes p) (vector_bytes q) _ l) u (omega (arith, k, d)))
       (omega (arith, l.ends))
-  operands_there (while on-right p c) end l (o, u) d =
+  operands_there (while on_right p c) end l (o, u) d =
       let h = deeper 3 (vector p) (vector_depth p) in
       let k = deeper 2 (boolean c) (boolean_depth c) in
       behind {end = end} {p = p} {c = c}
       (operands_there p _ (lies_first (vector_bytes p) (boolean_bytes c) _ l) o (omega (arith, h, d)))
       (operand_there c u (omega (arith, k, d)) (lies_second (vector_bytes p) (boolean_bytes c) _ l))
       (omega (arith, l.ends))
-  operands_there (while on-left p c) end l (o, u) d =
+  operands_there (while on_left p c) end l (o, u) d =
       let h = deeper 2 (vector p) (vector_depth p) in
       let k = deeper 3 (boolean c) (boolean_depth c) in
       ahead {end = end} {p = p} {c = c}

@@ -76,9 +76,9 @@ joined_next : (w : List ℕ) (l : List (List ℕ)) → length (joined (w ∷ l))
 unfolding joined
 joined_next w l = length-append w (joined l)
 
-joined-none : length (joined []) ≡ 0
+joined_none : length (joined []) ≡ 0
 unfolding joined
-joined-none = refl
+joined_none = refl
 
 module _ {f : ℕ → List ℕ} {n most i size : ℕ} (g : Measured f n most i size) where
   pub measured_next : {r : ℕ} → i < n → Sized (f i) most r → Measured f n most (i + 1) (size + r)
@@ -105,7 +105,7 @@ module _ {f : ℕ → List ℕ} {n most i size : ℕ} (g : Measured f n most i s
               arith,
               g.is,
               ap (λ (l : List (List ℕ)). length (joined l)) (left_none f n i h),
-              joined-none,
+              joined_none,
             );
         few = rw e at g.few;
       }

@@ -8,7 +8,7 @@ use lib.ListN.{length, drop}
 use Rattle.tokens.proofs.ShownBytes.{refused_in_unique}
 use Rattle.alf.specs.declared.Rules.{Rules}
 use Rattle.alf.specs.declared.Sort.{Sort}
-use Rattle.alf.specs.declared.Sort.TheVariants as the-sort
+use Rattle.alf.specs.declared.Sort.TheVariants as the_sort
 use Rattle.basics.specs.declared.Refusal.{Refusal}
 use Rattle.basics.specs.declared.Outcome.{Outcome}
 use Rattle.basics.specs.declared.Outcome.TheVariants.{Done, Refused}
@@ -60,12 +60,12 @@ module _ {names times states text out x y : List ℕ} {r s : Outcome} where
   pub list_text_unique : (ρ : Rules) → ListsPattern ρ names times states text out x r
       → ListsPattern ρ names times states text out y s
       → (r ≡ s) × (x ≡ y)
-  list_text_unique ρ = lists_unique ρ vector vector_one the-sort.Vector _ names times states text
+  list_text_unique ρ = lists_unique ρ vector vector_one the_sort.Vector _ names times states text
 
   pub values_text_unique : (ρ : Rules) → ListsValues ρ names times states text out x r
       → ListsValues ρ names times states text out y s
       → (r ≡ s) × (x ≡ y)
-  values_text_unique ρ = lists_unique ρ boolean boolean_one the-sort.Boolean _ names times states text
+  values_text_unique ρ = lists_unique ρ boolean boolean_one the_sort.Boolean _ names times states text
 
 pub lists_stays : {A : Type 0} {ρ : Rules} {into : A → Expression} {sort : Sort} {shown : A → List ℕ}
     {names times states text out out' : List ℕ} {r : Refusal}

@@ -13,7 +13,7 @@ use mathlib.Core.List.{List, [], ◌∷◌}
 use lib.ListN.{length, take}
 use Rattle.alf.specs.declared.Rules.{Rules}
 use Rattle.alf.specs.declared.Sort.{Sort}
-use Rattle.alf.specs.declared.Sort.TheVariants as the-sort
+use Rattle.alf.specs.declared.Sort.TheVariants as the_sort
 use Rattle.basics.specs.declared.Outcome.{Outcome}
 use Rattle.basics.specs.declared.Outcome.TheVariants.{Done, Refused}
 use Rattle.alf.specs.Expressions.{Boolean, Vector, Expression, boolean, vector}
@@ -29,7 +29,7 @@ use Rattle.acceptance.proofs.Acceptance.{decoded}
 use Rattle.reader.specs.declared.Read.{Read}
 use Rattle.reader.specs.Reading.{read_order, Gives, ReadsText}
 use Rattle.reader.proofs.Unique.{gives_unique}
-use Rattle.text_laws.proofs.ReadTrees.{Found, read-refused, found_decodes, found_vector, vector_given, found_boolean}
+use Rattle.text_laws.proofs.ReadTrees.{Found, read_refused, found_decodes, found_vector, vector_given, found_boolean}
 use Rattle.basics.specs.Memory.{after, front}
 use Rattle.tree_listings.specs.TreeTexts.{pattern_listing}
 use Rattle.row_listings.specs.Listings.{OfGiven}
@@ -53,7 +53,7 @@ module _ {A : Type 0} (ρ : Rules) (into : A → Expression) (one : (a b : A) �
     (sort : Sort) (shown : A → List ℕ) (names times states text : List ℕ) where
   text_refused : {r : Read} {out : List ℕ} → ReadsText ρ names text sort r → r.refused ≡ true
       → Lists ρ into sort shown names times states text out out (Refused r.refusal)
-  text_refused h e = refuses (in_first text (read_order ρ names text sort) _ (read-refused h e)) refl
+  text_refused h e = refuses (in_first text (read_order ρ names text sort) _ (read_refused h e)) refl
 
   module _ (x : A) (g : Gives ρ names text sort (into x)) where
     room_refused : (room q p : ℕ)
@@ -111,35 +111,35 @@ pub boolean_one : (b c : Boolean) → boolean b ≡ boolean c → b ≡ c
 boolean_one b c e = cc
 
 module _ {names times states text out : List ℕ} {rd : Read} where
-  pub pattern_refused : (ρ : Rules) → ReadsText ρ names text the-sort.Vector rd → rd.refused ≡ true
+  pub pattern_refused : (ρ : Rules) → ReadsText ρ names text the_sort.Vector rd → rd.refused ≡ true
       → ListsPattern ρ names times states text out out (Refused rd.refusal)
-  pattern_refused ρ = text_refused ρ vector vector_one the-sort.Vector _ names times states text
+  pattern_refused ρ = text_refused ρ vector vector_one the_sort.Vector _ names times states text
 
-  pub values_refused : (ρ : Rules) → ReadsText ρ names text the-sort.Boolean rd → rd.refused ≡ true
+  pub values_refused : (ρ : Rules) → ReadsText ρ names text the_sort.Boolean rd → rd.refused ≡ true
       → ListsValues ρ names times states text out out (Refused rd.refusal)
-  values_refused ρ = text_refused ρ boolean boolean_one the-sort.Boolean _ names times states text
+  values_refused ρ = text_refused ρ boolean boolean_one the_sort.Boolean _ names times states text
 
 module _ {names times states text out out' : List ℕ} {rd : Read} {r : Outcome} where
-  pub pattern_lists : (ρ : Rules) → Found ρ names text the-sort.Vector rd
+  pub pattern_lists : (ρ : Rules) → Found ρ names text the_sort.Vector rd
       → RowsText (length names / 32) times states
       (tree_listing ρ (length names / 32) times states (take rd.len rd.tree)) out out' r
       → ListsPattern ρ names times states text out out' r
   unfolding listing_of
   pattern_lists ρ f h =
       let v = found_vector f in
-      text_lists ρ vector vector_one the-sort.Vector
+      text_lists ρ vector vector_one the_sort.Vector
       (λ p. pattern_listing ρ (length names / 32) times states (meant ρ p)) names times states text v.p
       (vector_given f) f.passed
       (text_as (found_listing ρ f times states ∙ ap (listing_of ρ (length names / 32) times states) v.is_vector_lem) h)
 
-  pub values_lists : (ρ : Rules) → Found ρ names text the-sort.Boolean rd
+  pub values_lists : (ρ : Rules) → Found ρ names text the_sort.Boolean rd
       → RowsText (length names / 32) times states
       (tree_listing ρ (length names / 32) times states (take rd.len rd.tree)) out out' r
       → ListsValues ρ names times states text out out' r
   unfolding listing_of
   values_lists ρ f h =
       let b = found_boolean f in
-      text_lists ρ boolean boolean_one the-sort.Boolean (value_listing ρ (length names / 32) times states) names times
+      text_lists ρ boolean boolean_one the_sort.Boolean (value_listing ρ (length names / 32) times states) names times
       states text b.c (rw b.is_boolean_lem at f.gives) f.passed
       (text_as (found_listing ρ f times states ∙ ap (listing_of ρ (length names / 32) times states) b.is_boolean_lem) h)
 
@@ -149,8 +149,8 @@ pub sort_refused : (ρ : Rules) (sort : Sort) {names text : List ℕ} (times sta
     → rd.refused ≡ true
     → ListsAs ρ sort names times states text out out (Refused rd.refusal)
 unfolding ListsAs
-sort_refused ρ the-sort.Vector times states out h e = pattern_refused _ h e
-sort_refused ρ the-sort.Boolean times states out h e = values_refused _ h e
+sort_refused ρ the_sort.Vector times states out h e = pattern_refused _ h e
+sort_refused ρ the_sort.Boolean times states out h e = values_refused _ h e
 
 pub sort_lists : (ρ : Rules) (sort : Sort) {names text : List ℕ} {out out' : List ℕ} (times states : List ℕ)
     {rd : Read}
@@ -160,5 +160,5 @@ pub sort_lists : (ρ : Rules) (sort : Sort) {names text : List ℕ} {out out' : 
     (tree_listing ρ (length names / 32) times states (take rd.len rd.tree)) out out' r
     → ListsAs ρ sort names times states text out out' r
 unfolding ListsAs
-sort_lists ρ the-sort.Vector times states f h = pattern_lists _ f h
-sort_lists ρ the-sort.Boolean times states f h = values_lists _ f h
+sort_lists ρ the_sort.Vector times states f h = pattern_lists _ f h
+sort_lists ρ the_sort.Boolean times states f h = values_lists _ f h

@@ -9,7 +9,7 @@
 use Rattle.std.specs.Prelude.{ℕ, ◌/◌, ◌≡◌, List, [], ◌∷◌, ◌++◌, length}
 use Rattle.alf.specs.declared.Rules.{Rules}
 use Rattle.alf.specs.declared.Sort.{Sort}
-use Rattle.alf.specs.declared.Sort.TheVariants as the-sort
+use Rattle.alf.specs.declared.Sort.TheVariants as the_sort
 use Rattle.basics.specs.declared.Refusal.{Refusal}
 use Rattle.basics.specs.declared.Outcome.{Outcome}
 use Rattle.basics.specs.declared.Outcome.TheVariants.{Done, Refused}
@@ -59,16 +59,16 @@ pub data Lists {A : Type 0} (ρ : Rules) (into : A → Expression) (sort : Sort)
 abbrev pub ListsPattern : Rules → List ℕ → List ℕ → List ℕ → List ℕ → List ℕ → List ℕ → Outcome
     → Type 0
 ListsPattern ρ names times states =
-    Lists ρ vector the-sort.Vector (λ p. pattern_listing ρ (length names / 32) times states (meant ρ p)) names times
+    Lists ρ vector the_sort.Vector (λ p. pattern_listing ρ (length names / 32) times states (meant ρ p)) names times
     states
 
 abbrev pub ListsValues : Rules → List ℕ → List ℕ → List ℕ → List ℕ → List ℕ → List ℕ → Outcome
     → Type 0
 ListsValues ρ names times states =
-    Lists ρ boolean the-sort.Boolean (value_listing ρ (length names / 32) times states) names times states
+    Lists ρ boolean the_sort.Boolean (value_listing ρ (length names / 32) times states) names times states
 
 -- either, by the sort
 unfoldable pub ListsAs : Rules → Sort → List ℕ → List ℕ → List ℕ → List ℕ → List ℕ → List ℕ → Outcome
     → Type 0
-ListsAs ρ the-sort.Vector = ListsPattern ρ
-ListsAs ρ the-sort.Boolean = ListsValues ρ
+ListsAs ρ the_sort.Vector = ListsPattern ρ
+ListsAs ρ the_sort.Boolean = ListsValues ρ

@@ -18,7 +18,7 @@ use Rattle.basics.specs.Words.{greatest, least}
 use Rattle.alf.specs.States.{X, H, Z, reduce}
 use Rattle.alf.specs.Expressions.{Boolean, name, literal, choice, Half, any, the, Edge, pair, changes, stays}
 use Rattle.alf.specs.Expressions.{Vector, edge, join, while}
-use Rattle.alf.specs.Expressions.{Join, followed-by, either_order, with-or-then, any_order, with, or_else}
+use Rattle.alf.specs.Expressions.{Join, followed_by_join, either_order, with_or_then, any_order, with, or_else}
 use Rattle.alf.specs.Values.{old_rules_lem, new_rules, unresolved, chosen, value, recorded_or, state, row_of, state_at}
 use Rattle.alf.specs.Windows.{Window, is_digit, asked, digit_asked, letter_asked, edge_on, followed_by, either, together}
 use Rattle.alf.specs.Windows.{certainty, held, joined, answer, best, numbered, row_answer}
@@ -147,10 +147,10 @@ module _ (P P' Q Q' : Window) (p : SharperWindow P P') (q : SharperWindow Q Q') 
 joined_sharper : (j : Join) (P P' Q Q' : Window) → SharperWindow P P' → SharperWindow Q Q'
     → SharperWindow (joined j P Q) (joined j P' Q')
 unfolding joined
-joined_sharper followed-by P P' Q Q' p q = followed_sharper P P' Q Q' p q
+joined_sharper followed_by_join P P' Q Q' p q = followed_sharper P P' Q Q' p q
 joined_sharper either_order P P' Q Q' p q =
     either_sharper _ _ _ _ (followed_sharper P P' Q Q' p q) (followed_sharper Q Q' P P' q p)
-joined_sharper with-or-then P P' Q Q' p q =
+joined_sharper with_or_then P P' Q Q' p q =
     either_sharper _ _ _ _ (together_sharper P P' Q Q' p q) (followed_sharper P P' Q Q' p q)
 joined_sharper any_order P P' Q Q' p q =
     either_sharper _ _ _ _

@@ -14,7 +14,7 @@ use lib.ListN.{length, replicate}
 use borrow.Author.Tests.{eq-eqb, ne_eqb}
 use Rattle.basics.specs.Words.{least_of}
 use Rattle.alf.specs.Expressions.{Boolean, the, Edge, pair, Vector, edge, join, while}
-use Rattle.alf.specs.Expressions.{Join, followed-by, either_order, with-or-then, any_order, with, or_else}
+use Rattle.alf.specs.Expressions.{Join, followed_by_join, either_order, with_or_then, any_order, with, or_else}
 use Rattle.alf.specs.Values.{old_rules_lem, new_rules, row_of, state_at}
 use Rattle.alf.specs.Alternatives.{Test, test, Step, Alternative, padded, zipped, overlaid, conditioned, chained}
 use Rattle.alf.specs.Alternatives.{overlapped, rewritten, alternatives, test_at, step_at, steps_from, at_row, tried, tries}
@@ -61,9 +61,9 @@ module _ (T : Test → Type 0) where
   rewritten_tests : (j : Join) {xs ys : List Alternative} → All Tests xs → All Tests ys
       → All Tests (rewritten j xs ys)
   unfolding rewritten
-  rewritten_tests followed-by s t = chained_tests s t
+  rewritten_tests followed_by_join s t = chained_tests s t
   rewritten_tests either_order s t = all_append (chained_tests s t) (chained_tests t s)
-  rewritten_tests with-or-then s t = all_append (overlapped_tests s t) (chained_tests s t)
+  rewritten_tests with_or_then s t = all_append (overlapped_tests s t) (chained_tests s t)
   rewritten_tests any_order s t =
       all_append (all_append (chained_tests s t) (overlapped_tests s t)) (chained_tests t s)
   rewritten_tests with s t = overlapped_tests s t

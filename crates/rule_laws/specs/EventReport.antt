@@ -7,7 +7,7 @@ use Rattle.std.specs.Prelude.{ℕ, List, [], ◌∷◌, eqb, length, if◌then�
 use Rattle.basics.specs.Words.{listed}
 use Rattle.alf.specs.declared.Rules.{Rules}
 use Rattle.alf.specs.States.{X}
-use Rattle.alf.specs.Expressions.{name, the, pair, Vector, edge, join, followed-by}
+use Rattle.alf.specs.Expressions.{name, the, pair, Vector, edge, join, followed_by_join}
 use Rattle.alf.specs.Values.{state_at}
 use Rattle.alf.specs.Windows.{row_answer}
 use Rattle.alf.specs.Steady.{meant}
@@ -35,10 +35,10 @@ abbrev on_name : ℕ → ℕ → ℕ → Vector
 on_name from to i = edge (pair (the from) (the to)) (name i)
 
 unfoldable pub sequence_10a : Vector
-sequence_10a = join followed-by (on_name 0 1 0) (on_name 1 0 1)
+sequence_10a = join followed_by_join (on_name 0 1 0) (on_name 1 0 1)
 
 unfoldable pub sequence_11b : Vector
-sequence_11b = join followed-by (join followed-by (on_name 0 1 0) (on_name 0 0 3)) (on_name 1 1 4)
+sequence_11b = join followed_by_join (join followed_by_join (on_name 0 1 0) (on_name 0 0 3)) (on_name 1 1 4)
 
 -- the times whose numbers beside them are 1, yes
 unfoldable pub yes_times : List ℕ → List ℕ → List ℕ

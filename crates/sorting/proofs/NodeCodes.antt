@@ -34,14 +34,14 @@ agrees other c = true
 agrees (binary l) c = is_node c && (leb 40 c && ltb c 60)
 
 -- no span reaches so far
-kind-far : (ss : List Span) (c : ℕ) → all (λ (s : Span). ltb s.upto 148) ss ≡ true → 148 ≤ c
+kind_far : (ss : List Span) (c : ℕ) → all (λ (s : Span). ltb s.upto 148) ss ≡ true → 148 ≤ c
     → kind_in ss c ≡ other
 unfolding kind_in all
-kind-far [] c h l = refl
-kind-far (s ∷ ss) c h l =
+kind_far [] c h l = refl
+kind_far (s ∷ ss) c h l =
     let u = ltb-true s.upto 148 (and_left _ _ h) in
     let z = lt-leb c s.upto (omega arith) in
-    go (leb s.from c) (leb c s.upto) z (kind-far ss c (and_right (ltb s.upto 148) _ h) l)
+    go (leb s.from c) (leb c s.upto) z (kind_far ss c (and_right (ltb s.upto 148) _ h) l)
   where
     go : (x y : Bool) → y ≡ false → kind_in ss c ≡ other → (if x && y then s.is else kind_in ss c) ≡ other
     go true y e k = rw e k
@@ -53,7 +53,7 @@ code_near = refl
 
 pub code_far : (c : ℕ) → 148 ≤ c → kind c ≡ other
 unfolding kind table all
-code_far c l = kind-far table c refl l
+code_far c l = kind_far table c refl l
 
 other_agrees : (c : ℕ) → kind c ≡ other → agrees (kind c) c ≡ true
 unfolding agrees

@@ -1,4 +1,4 @@
--- A run over the nodes of a tree comes to what the tree is sorted as. Main names: run-append, run_stopped, run_tree.
+-- A run over the nodes of a tree comes to what the tree is sorted as. Main names: run_append, run_stopped, run_tree.
 use mathlib.Core.Path.{◌≡◌, refl, sym, ap, ◌∙◌}
 use mathlib.Core.List.{List, [], ◌∷◌, ◌++◌}
 use Prim.Native.Nat.{ℕ, ◌≤◌, ◌<◌}
@@ -14,10 +14,10 @@ use Rattle.sorting.specs.Passes.{run}
 use Rattle.sorting.proofs.NodeCodes.{Coded, operand_code, prefix_code, question_code, binary_code}
 
 module _ (number : ℕ → ℕ) where
-  pub run-append : (ts us : List Token) (v : Run) → run number (ts ++ us) v ≡ run number us (run number ts v)
+  pub run_append : (ts us : List Token) (v : Run) → run number (ts ++ us) v ≡ run number us (run number ts v)
   unfolding run
-  run-append [] us v = refl
-  run-append (t ∷ ts) us v = run-append ts us (stepped number t v)
+  run_append [] us v = refl
+  run_append (t ∷ ts) us v = run_append ts us (stepped number t v)
 
   pub run_stopped : (ts : List Token) (p : ℕ) → run number ts (stopped p) ≡ stopped p
   unfolding run stepped
@@ -27,7 +27,7 @@ module _ (number : ℕ → ℕ) where
   pub run_last : (ts : List Token) (t : Token) (v : Run)
       → run number (ts ++ (t ∷ [])) v ≡ stepped number t (run number ts v)
   unfolding run
-  run_last ts t v = run-append ts (t ∷ []) v
+  run_last ts t v = run_append ts (t ∷ []) v
 
   -- a node by its code
   module _ (t : Token) (xs : List Expression) where
@@ -102,7 +102,7 @@ module _ (number : ℕ → ℕ) where
   run_tree (two_is {t = t} {a = a} {b = b} k p q) xs =
       run_last (nodes a ++ nodes b) t (going xs)
       ∙ ap (stepped number t)
-      (run-append (nodes a) (nodes b) (going xs) ∙ ap (run number (nodes b)) (run_tree p xs))
+      (run_append (nodes a) (nodes b) (going xs) ∙ ap (run number (nodes b)) (run_tree p xs))
       ∙ sym (run_last (nodes b) t (settled (sorted number a) xs))
       ∙ follow (nodes b ++ (t ∷ [])) (sorted number a) _ xs
       (λ x. run_last (nodes b) t (going (x ∷ xs))
@@ -111,13 +111,13 @@ module _ (number : ℕ → ℕ) where
   run_tree (three_is {t = t} {c = c} {a = a} {b = b} k o p q) xs =
       run_last ((nodes c ++ nodes a) ++ nodes b) t (going xs)
       ∙ ap (stepped number t)
-      (run-append (nodes c ++ nodes a) (nodes b) (going xs)
+      (run_append (nodes c ++ nodes a) (nodes b) (going xs)
       ∙ ap (run number (nodes b))
-      (run-append (nodes c) (nodes a) (going xs) ∙ ap (run number (nodes a)) (run_tree o xs)))
+      (run_append (nodes c) (nodes a) (going xs) ∙ ap (run number (nodes a)) (run_tree o xs)))
       ∙ sym (run_last (nodes b) t _)
-      ∙ sym (run-append (nodes a) (nodes b ++ (t ∷ [])) (settled (sorted number c) xs))
+      ∙ sym (run_append (nodes a) (nodes b ++ (t ∷ [])) (settled (sorted number c) xs))
       ∙ follow (nodes a ++ (nodes b ++ (t ∷ []))) (sorted number c) _ xs
-      (λ z. run-append (nodes a) (nodes b ++ (t ∷ [])) (going (z ∷ xs))
+      (λ z. run_append (nodes a) (nodes b ++ (t ∷ [])) (going (z ∷ xs))
       ∙ ap (run number (nodes b ++ (t ∷ []))) (run_tree p (z ∷ xs))
       ∙ follow_under (nodes b ++ (t ∷ [])) (sorted number a) _ z xs
       (λ x. run_last (nodes b) t (going (x ∷ z ∷ xs))

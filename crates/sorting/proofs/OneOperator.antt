@@ -1,5 +1,5 @@
 -- Laws of one operator: what it makes of its operands, as an expression and as a byte behind theirs.
---   MadeBy, made-shows                          what is made, its sort and its bytes, and how the pass shows it
+--   MadeBy, made_shows                          what is made, its sort and its bytes, and how the pass shows it
 --   made_leaf, made_one, made_two, made_three   by a name or literal, and by an operator of one, two, three
 --   fault_two                                   operands that are not taken
 use Rattle.std.specs.Prelude.{if◌then◌else◌}
@@ -12,7 +12,7 @@ use lib.Dec.{eqb, ltb, leb}
 use lib.ListN.{length}
 use borrow.Author.Tests.{eqb-true, eqb-false, ltb-true, ltb-false, leb-true, ne_eqb}
 use Rattle.alf.specs.Expressions.{Boolean, name, literal, negated, binary, choice, Vector, edge, join, while}
-use Rattle.alf.specs.Expressions.{with, or_else, on-right, on-left, Expression, boolean, vector}
+use Rattle.alf.specs.Expressions.{with, or_else, on_right, on_left, Expression, boolean, vector}
 use Rattle.alf.specs.Bytes.{bytes_of, boolean_bytes, vector_bytes, join_byte}
 use Rattle.alf.specs.Decoder.{binary_at, join_at, edge_at}
 use Rattle.alf.proofs.OperatorBytes.{binary_byte_lem, join_byte_lem, edge_byte}
@@ -30,7 +30,7 @@ pub record MadeBy (r : Sorted) (ys : List Expression) (v : Bool) (b : ℕ) : Typ
   pub sort : is_vector made ≡ v
   pub bytes : bytes_of made ≡ stack_bytes ys ++ (b ∷ [])
 
-pub made-shows :
+pub made_shows :
     {s r : Sorting} {q : Sorted} {v : Bool} {b down : ℕ} (ys xs : List Expression) →
     MadeBy q ys v b →
     length ys ≡ down →
@@ -38,7 +38,7 @@ pub made-shows :
     Shows s (going (ys ++ xs)) →
     Shows r (settled q xs)
 unfolding settled
-made-shows ys xs m n p w = rw m.is_made (p.puts ys xs m.made n w m.sort m.bytes)
+made_shows ys xs m n p w = rw m.is_made (p.puts ys xs m.made n w m.sort m.bytes)
 
 -- a name or literal
 literal_code : (c : ℕ) → is_node c ≡ true → c < 40 → (c ≡ 0 → ⊥) → 32 + (c - 32) ≡ c
@@ -146,24 +146,24 @@ module _ (t : Token) (k : is_node t.code ≡ true) (l : 40 ≤ t.code) (h : t.co
       (p : Vector) (c : Boolean) (x : Bool) →
       (◌≡◌ {A = ℕ} (if x then 56 else 255) 255 → ⊥) →
       MadeBy
-      (if x then is (vector (while on-right p c)) else faulty t.place)
+      (if x then is (vector (while on_right p c)) else faulty t.place)
       (boolean c ∷ vector p ∷ [])
       true
       (if x then 56 else 255)
   unfolding bytes_of vector_bytes is_vector
-  on_its_right p c true n = made_two_at (vector (while on-right p c)) refl refl refl refl
+  on_its_right p c true n = made_two_at (vector (while on_right p c)) refl refl refl refl
   on_its_right p c false n = absurd (n refl)
 
   on_its_left :
       (c : Boolean) (p : Vector) (x : Bool) →
       (◌≡◌ {A = ℕ} (if x then 57 else 255) 255 → ⊥) →
       MadeBy
-      (if x then is (vector (while on-left p c)) else faulty t.place)
+      (if x then is (vector (while on_left p c)) else faulty t.place)
       (vector p ∷ boolean c ∷ [])
       true
       (if x then 57 else 255)
   unfolding bytes_of vector_bytes is_vector
-  on_its_left c p true n = made_two_at (vector (while on-left p c)) refl refl refl refl
+  on_its_left c p true n = made_two_at (vector (while on_left p c)) refl refl refl refl
   on_its_left c p false n = absurd (n refl)
 
   pub made_two :
@@ -206,8 +206,8 @@ module _ (t : Token) (k : is_node t.code ≡ true) (l : 40 ≤ t.code) (h : t.co
       → of_two t x y ≡ faulty t.place
   unfolding of_two pair_byte is_vector
   fault_two (boolean a) (boolean b) e = fault_booleans a b (ltb t.code 50) e
-  fault_two (boolean a) (vector q) e = fault_mixed (vector (while on-left q a)) (eqb t.code 40) 57 (omega arith) e
-  fault_two (vector p) (boolean b) e = fault_mixed (vector (while on-right p b)) (eqb t.code 40) 56 (omega arith) e
+  fault_two (boolean a) (vector q) e = fault_mixed (vector (while on_left q a)) (eqb t.code 40) 57 (omega arith) e
+  fault_two (vector p) (boolean b) e = fault_mixed (vector (while on_right p b)) (eqb t.code 40) 56 (omega arith) e
   fault_two (vector p) (vector q) e =
       fault_vectors p q (eqb t.code 40) (eqb t.code 41) (ltb t.code 50) e
 

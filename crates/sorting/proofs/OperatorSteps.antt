@@ -18,7 +18,7 @@ use Rattle.sorting.specs.Passes.{takes_one, takes_two, takes_three, Shows, Ready
 use Rattle.sorting.specs.Passes.{Fine, Moved, Asked, Stepped, stepped, applied, leaf_byte}
 use Rattle.sorting.proofs.NodeRuns.{at_leaf, at_two, at_three, at_one}
 use Rattle.sorting.proofs.Stacks.{top_sort, shows_depth, shows_ok, shows_stopped, halted_shows}
-use Rattle.sorting.proofs.OneOperator.{made-shows, made_leaf, made_one, made_two, fault_two, made_three}
+use Rattle.sorting.proofs.OneOperator.{made_shows, made_leaf, made_one, made_two, fault_two, made_three}
 
 abbrev any : Expression
 any = boolean (literal 0)
@@ -63,7 +63,7 @@ module _ (t : Token) {s r : Sorting} where
       go : (xs : List Expression) → Shows s (going xs) → Shows r (takes_one t xs)
       go [] w = absurd (omega (arith, shows_depth w))
       go (boolean a ∷ xs) w =
-          made-shows (boolean a ∷ []) xs (rw u (made_one t a y.low y.high)) refl p w
+          made_shows (boolean a ∷ []) xs (rw u (made_one t a y.low y.high)) refl p w
       go (vector q ∷ xs) w = never (sym e ∙ top_sort 0 any w (omega arith))
 
   pub two_short : Halted t.place s r → s.depth < 2 → Took (takes_two t) s r
@@ -105,7 +105,7 @@ module _ (t : Token) {s r : Sorting} where
       go (y ∷ x ∷ xs) w =
           let f = rw (top_sort 1 any w (omega arith), top_sort 0 any w (omega arith)) at n in
           let g = rw (top_sort 1 any w (omega arith), top_sort 0 any w (omega arith)) at p in
-          made-shows (y ∷ x ∷ []) xs (made_two t a.known a.low a.high x y f) refl g w
+          made_shows (y ∷ x ∷ []) xs (made_two t a.known a.low a.high x y f) refl g w
 
   pub three_short : Halted t.place s r → s.depth < 3 → Took (takes_three t) s r
   unfolding takes_three
@@ -161,7 +161,7 @@ module _ (t : Token) {s r : Sorting} where
       go (y ∷ vector q ∷ boolean c ∷ xs) w = never (sym f ∙ top_sort 1 any w (omega arith))
       go (vector q ∷ boolean a ∷ boolean c ∷ xs) w = never (sym g ∙ top_sort 0 any w (omega arith))
       go (boolean b ∷ boolean a ∷ boolean c ∷ xs) w =
-          made-shows (boolean b ∷ boolean a ∷ boolean c ∷ []) xs (made_three t c a b) refl p w
+          made_shows (boolean b ∷ boolean a ∷ boolean c ∷ []) xs (made_three t c a b) refl p w
 
 -- one node: stopped before, or by the range of its code
 pub node_still : (t : Token) (b : ℕ) {s : Sorting} → Fine s → s.ok ≡ false → Stepped t b s s

@@ -1,7 +1,7 @@
 -- Laws of looking up: the first number that passes a test, the slot that holds a name.
---   first_here, first-none, first_bound, first-same     where a search ends
+--   first_here, first_none, first_bound, first_same     where a search ends
 --   first_passes, first_before                          what it ended at
---   Found, number_found_lem, number_here, number-none, number_small    the number of a name is its first slot's
+--   Found, number_found_lem, number_here, number_none, number_small    the number of a name is its first slot's
 --   word_part, word_fits                                the name that stands at a byte
 --   holds_told, slot_told, unknown_other, unknown_name  what the functions of lookup answer
 use Rattle.std.specs.Prelude.{if◌then◌else◌}
@@ -34,11 +34,11 @@ first_here (suc n) p zero h e b = rw e
 first_here (suc n) p (suc k) h e b =
     rw (b 0 (omega arith)) (ap suc (first_here n (λ j. p (suc j)) k (omega arith) e (λ j l. b (suc j) (omega arith))))
 
-pub first-none : (n : ℕ) (p : ℕ → Bool) → ((j : ℕ) → j < n → p j ≡ false) → n ≡ first n p
+pub first_none : (n : ℕ) (p : ℕ → Bool) → ((j : ℕ) → j < n → p j ≡ false) → n ≡ first n p
 unfolding first
-first-none zero p b = refl
-first-none (suc n) p b =
-    rw (b 0 (omega arith)) (ap suc (first-none n (λ j. p (suc j)) (λ j l. b (suc j) (omega arith))))
+first_none zero p b = refl
+first_none (suc n) p b =
+    rw (b 0 (omega arith)) (ap suc (first_none n (λ j. p (suc j)) (λ j l. b (suc j) (omega arith))))
 
 pub first_bound : (n : ℕ) (p : ℕ → Bool) → first n p ≤ n
 unfolding first
@@ -107,14 +107,14 @@ unfolding slot_number
 number_here names w k l e b =
     first_here (names_in names) (λ k. same (name_at names k) w) k l (same_true _ _ e) (λ j h. same_false _ _ (b j h))
 
-pub number-none :
+pub number_none :
     (names w : List ℕ) (k : ℕ) →
     k ≡ names_in names →
     ((j : ℕ) → j < k → name_at names j ≡ w → ⊥) →
     k ≡ slot_number names w
 unfolding slot_number
-number-none names w k e b =
-    rw e (first-none (names_in names) (λ k. same (name_at names k) w) (λ j h. same_false _ _ (b j (rw e h))))
+number_none names w k e b =
+    rw e (first_none (names_in names) (λ k. same (name_at names k) w) (λ j h. same_false _ _ (b j (rw e h))))
 
 -- the parts that the code compares
 pub word_part : (text : List ℕ) (at : ℕ) {end : ℕ} → end ≡ at + name_bytes (drop at text)
@@ -155,8 +155,8 @@ pub number_small : (names text : List ℕ) (p : ℕ) → number_at names text p 
 number_small names text p = (number_found_lem names (word text p)).within
 
 -- two tests that say the same find the same
-pub first-same : (n : ℕ) (p q : ℕ → Bool) → ((i : ℕ) → i < n → p i ≡ q i) → first n p ≡ first n q
+pub first_same : (n : ℕ) (p q : ℕ → Bool) → ((i : ℕ) → i < n → p i ≡ q i) → first n p ≡ first n q
 unfolding first
-first-same zero p q h = refl
-first-same (suc n) p q h =
-    rw (h 0 (omega arith), first-same n (λ k. p (suc k)) (λ k. q (suc k)) (λ i l. h (suc i) (omega arith))) refl
+first_same zero p q h = refl
+first_same (suc n) p q h =
+    rw (h 0 (omega arith), first_same n (λ k. p (suc k)) (λ k. q (suc k)) (λ i l. h (suc i) (omega arith))) refl

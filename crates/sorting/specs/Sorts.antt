@@ -6,9 +6,9 @@
 --   asked, sorted_for                the sort that the call asks for
 use Rattle.std.specs.Prelude.{ℕ, ◌-◌, eqb, ltb, if◌then◌else◌}
 use Rattle.alf.specs.declared.Sort.{Sort}
-use Rattle.alf.specs.declared.Sort.TheVariants as the-sort
+use Rattle.alf.specs.declared.Sort.TheVariants as the_sort
 use Rattle.alf.specs.Expressions.{Boolean, name, literal, negated, binary, choice, edge, join, while}
-use Rattle.alf.specs.Expressions.{with, or_else, on-right, on-left, Expression, boolean, vector}
+use Rattle.alf.specs.Expressions.{with, or_else, on_right, on_left, Expression, boolean, vector}
 use Rattle.alf.specs.Decoder.{binary_at, join_at, edge_at}
 use Rattle.grammar.specs.declared.Token.{Token}
 use Rattle.grammar.specs.Grammar.{Tree, leaf, one, two, three}
@@ -38,8 +38,8 @@ of_two t (vector p) (vector q) =
     else if eqb t.code 41 then is (vector (join or_else p q))
     else if ltb t.code 50 then faulty t.place
     else is (vector (join (join_at (t.code - 50)) p q))
-of_two t (vector p) (boolean c) = if eqb t.code 40 then is (vector (while on-right p c)) else faulty t.place
-of_two t (boolean c) (vector p) = if eqb t.code 40 then is (vector (while on-left p c)) else faulty t.place
+of_two t (vector p) (boolean c) = if eqb t.code 40 then is (vector (while on_right p c)) else faulty t.place
+of_two t (boolean c) (vector p) = if eqb t.code 40 then is (vector (while on_left p c)) else faulty t.place
 
 -- the ternary takes booleans; its place is its `?`
 unfoldable pub of_three : Token → Expression → Expression → Expression → Sorted
@@ -63,10 +63,10 @@ sorted number (three t c a b) =
 
 -- last, the sort asked for by the call: a wrong one has the text's length as place
 unfoldable pub asked : Sort → ℕ → Expression → Sorted
-asked the-sort.Boolean bytes (boolean c) = is (boolean c)
-asked the-sort.Boolean bytes (vector p) = faulty bytes
-asked the-sort.Vector bytes (boolean c) = faulty bytes
-asked the-sort.Vector bytes (vector p) = is (vector p)
+asked the_sort.Boolean bytes (boolean c) = is (boolean c)
+asked the_sort.Boolean bytes (vector p) = faulty bytes
+asked the_sort.Vector bytes (boolean c) = faulty bytes
+asked the_sort.Vector bytes (vector p) = is (vector p)
 
 unfoldable pub sorted_for : Sort → ℕ → (ℕ → ℕ) → Tree → Sorted
 sorted_for sort bytes number e = given (sorted number e) (asked sort bytes)

@@ -14,8 +14,8 @@ use Rattle.alf.specs.Expressions.{Vector, edge, join, while, Join}
 use Rattle.alf.specs.Steady.{is_then, is_step_lem, moves, has_edge_on, some_of, operands, row, run, kept, is_steady}
 use Rattle.alf.specs.Steady.{steadied, filled_in, filled}
 use Rattle.steady_laws.specs.Beside.{Beside, alone, stepped, front, back, held, filled_beside}
-use Rattle.steady_laws.proofs.Chains.{reverse-append}
-use Rattle.steady_laws.proofs.Rows.{row_step, row-stop, some_front, all_front}
+use Rattle.steady_laws.proofs.Chains.{reverse_append}
+use Rattle.steady_laws.proofs.Rows.{row_step, row_stop, some_front, all_front}
 
 kept_same : (m : ℕ) (f g : ℕ → Bool) (p : Vector) → ((n : ℕ) → f n ≡ g n)
     → kept m f p ≡ kept m g p
@@ -40,7 +40,7 @@ beside_step p l h = rw (row_step p l h) refl
 
 beside_stop : (p : Vector) (l : List Vector) → is_step_lem p ≡ false → beside (p ∷ l) ≡ alone
 unfolding beside some_of all
-beside_stop p l h = rw (row-stop p l h) refl
+beside_stop p l h = rw (row_stop p l h) refl
 
 -- an operand of its own: a join that is no `->`
 other_beside : (j : Join) (p q : Vector) (l : List Vector)
@@ -76,7 +76,7 @@ back_beside (join j p q) l = go (is_then j) (back_beside p l) (back_beside q (re
         → beside (reverse_aux (if u then operands p ++ operands q else join j p q ∷ []) l)
         ≡ (if u then back q (back p (beside l))
         else if is_step_lem (join j p q) then stepped (join j p q) (beside l) else alone)
-    go true s t = ap beside (reverse-append (operands p) (operands q) l) ∙ t ∙ ap (back q) s
+    go true s t = ap beside (reverse_append (operands p) (operands q) l) ∙ t ∙ ap (back q) s
     go false s t = other_beside j p q l
 back_beside (while s p c) l = beside_stop (while s p c) l (unfold is_step_lem in refl)
 

@@ -11,15 +11,15 @@ use mathlib.Core.List.{List, [], ◌∷◌, ◌++◌, map, reverse_aux, append-n
 use Prim.Native.Nat.{ℕ, zero, suc}
 use Rattle.basics.specs.Words.{all}
 use Rattle.alf.specs.Expressions.{Boolean, name, Edge, stays, Vector, edge, join, while}
-use Rattle.alf.specs.Expressions.{Join, followed-by, either_order, with-or-then, any_order, with, or_else}
+use Rattle.alf.specs.Expressions.{Join, followed_by_join, either_order, with_or_then, any_order, with, or_else}
 use Rattle.alf.specs.Alternatives.{Alternative, each, chained, rewritten, alternatives}
 use Rattle.alf.specs.Steady.{is_then, is_step_lem, moves, is_steady, kept, steadied, run, operands, filled_in, filled}
 use Rattle.basics.proofs.Bools.{never}
 
 -- `->` on alternatives may be regrouped
-map-append : {A : Type 0} (f : A → A) (xs ys : List A) → map f (xs ++ ys) ≡ map f xs ++ map f ys
-map-append f [] ys = refl
-map-append f (x ∷ xs) ys = ap (◌∷◌ (f x)) (map-append f xs ys)
+map_append : {A : Type 0} (f : A → A) (xs ys : List A) → map f (xs ++ ys) ≡ map f xs ++ map f ys
+map_append f [] ys = refl
+map_append f (x ∷ xs) ys = ap (◌∷◌ (f x)) (map_append f xs ys)
 
 after_map : (x y : Alternative) (zs : List Alternative) → map (◌++◌ (x ++ y)) zs ≡ map (◌++◌ x) (map (◌++◌ y) zs)
 after_map x y [] = refl
@@ -38,7 +38,7 @@ chained_one x [] zs = refl
 chained_one x (y ∷ ys) zs =
     let e = after_map x y zs in
     let d = chained_one x ys zs in
-    (λ i. e i ++ d i) ∙ sym (map-append (◌++◌ x) (map (◌++◌ y) zs) (chained ys zs))
+    (λ i. e i ++ d i) ∙ sym (map_append (◌++◌ x) (map (◌++◌ y) zs) (chained ys zs))
 
 pub chained_assoc : (xs ys zs : List Alternative) → chained (chained xs ys) zs ≡ chained xs (chained ys zs)
 unfolding each
@@ -77,11 +77,11 @@ chain_single : (o : Vector) → alternatives o ≡ chain_of (o ∷ [])
 unfolding chain_of
 chain_single o = sym (nothing_right (alternatives o))
 
-pub is_then_inv : (j : Join) → is_then j ≡ true → j ≡ followed-by
+pub is_then_inv : (j : Join) → is_then j ≡ true → j ≡ followed_by_join
 unfolding is_then
-is_then_inv followed-by h = refl
+is_then_inv followed_by_join h = refl
 is_then_inv either_order h = never h
-is_then_inv with-or-then h = never h
+is_then_inv with_or_then h = never h
 is_then_inv any_order h = never h
 is_then_inv with h = never h
 is_then_inv or_else h = never h
@@ -114,9 +114,9 @@ chain_alternatives (join j p q) = go (is_then j) refl (chain_alternatives p) (ch
     go false e s t = chain_single (join j p q) ∙ ap chain_of (sym (operands_other j p q e))
 chain_alternatives (while s p c) = chain_single (while s p c) ∙ ap chain_of (unfold operands in refl)
 
-pub reverse-append : {A : Type 0} (l m r : List A) → reverse_aux (l ++ m) r ≡ reverse_aux m (reverse_aux l r)
-reverse-append [] m r = refl
-reverse-append (x ∷ l) m r = reverse-append l m (x ∷ r)
+pub reverse_append : {A : Type 0} (l m r : List A) → reverse_aux (l ++ m) r ≡ reverse_aux m (reverse_aux l r)
+reverse_append [] m r = refl
+reverse_append (x ∷ l) m r = reverse_append l m (x ∷ r)
 
 -- the operands of a chain, each filled in its place: with those before it, nearest first, and those after it
 unfoldable pub filled_list : List Vector → List Vector → List Vector
@@ -201,7 +201,7 @@ operands_filled b a (join j p q) =
           filled_then b a j p q e,
           operands_then j p q e,
           operands_then j _ _ e,
-          reverse-append (operands p) (operands q) b,
+          reverse_append (operands p) (operands q) b,
           append_assoc (operands p) (operands q) a,
           ← s,
           ← t,

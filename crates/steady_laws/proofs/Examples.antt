@@ -8,7 +8,7 @@ use mathlib.Core.Bool.{Bool, true, false}
 use mathlib.Core.List.{map}
 use Rattle.basics.specs.Words.{greatest, least, listed, greatest_of, sum_of, all, same}
 use Rattle.alf.specs.States.{reduce}
-use Rattle.alf.specs.Expressions.{join, while, on-right, either_order}
+use Rattle.alf.specs.Expressions.{join, while, on_right, either_order}
 use Rattle.alf.specs.Values.{value, recorded_or, state}
 use Rattle.alf.specs.Windows.{asked, digit_asked, letter_asked, edge_on, followed_by, either, together, certainty}
 use Rattle.alf.specs.Windows.{held, joined, answer, best, numbered, row_answer}
@@ -48,7 +48,7 @@ unfolding
 ladder_nine = (refl, refl)
 
 -- 01 A -> 10 B & C; 01 A <-> 10 B; but not 01 A -> 10 B
-pub lone_condition : lone (rises A then while on-right (falls B) C) ≡ true
+pub lone_condition : lone (rises A then while on_right (falls B) C) ≡ true
 unfolding lone spaced is_step_lem operands is_then
 lone_condition = refl
 

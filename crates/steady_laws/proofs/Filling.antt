@@ -19,7 +19,7 @@ use Rattle.alf.specs.Alternatives.{is_name}
 use Rattle.alf.specs.Steady.{is_then, is_with, is_step_lem, is_changing, moves, has_edge_on, some_of, row, run, is_steady, kept}
 use Rattle.alf.specs.Steady.{steadied, filled_in}
 use Rattle.basics.proofs.Bools.{never, and_left, equal?}
-use Rattle.steady_laws.proofs.Rows.{or-true, or_cases, row_step, row-stop, with_inv, then_no_step, step_join}
+use Rattle.steady_laws.proofs.Rows.{or_true, or_cases, row_step, row_stop, with_inv, then_no_step, step_join}
 use Rattle.steady_laws.proofs.Chains.{filled_list, filled_then, filled_step, filled_other}
 
 is_name_lem : (k n : ℕ) → is_name k (name n) ≡ eqb n k
@@ -83,7 +83,7 @@ kept_new (suc n) f p k l h = go (f n) refl (λ m. kept_new n f p k m h) (equal? 
     go : (q : Bool) → f n ≡ q → (k < n → has_edge_on k (kept n f p) ≡ true) → (k ≡ n) ⊎ (k ≡ n → ⊥)
         → has_edge_on k (if q then join with (kept n f p) (edge stays (name n)) else kept n f p) ≡ true
     go true e r (inl d) =
-        unfold has_edge_on in or-true (has_edge_on k (kept n f p)) (is_name k (name n)) (is_name_lem k n ∙ eq-eqb n k (sym d))
+        unfold has_edge_on in or_true (has_edge_on k (kept n f p)) (is_name k (name n)) (is_name_lem k n ∙ eq-eqb n k (sym d))
     go true e r (inr m) = unfold has_edge_on in rw (r (omega arith)) refl
     go false e r (inl d) = never (sym e ∙ ap f (sym d) ∙ h)
     go false e r (inr m) = r (omega arith)
@@ -169,7 +169,7 @@ moves_before (s ∷ b) a = go (is_step_lem s) refl (moves_before b (s ∷ a))
     go true h r =
         rw (filled_of_step b a s h, row_step s b h, row_step _ (filled_back b (s ∷ a)) (steadied_step (run b s a) s h))
         (unfold all in λ i. steadied_moves (run b s a) s i && r i)
-    go false h r = rw (row-stop s b h, row-stop (filled_in b a s) (filled_back b (s ∷ a)) (step_kept b a s ∙ h)) refl
+    go false h r = rw (row_stop s b h, row_stop (filled_in b a s) (filled_back b (s ∷ a)) (step_kept b a s ∙ h)) refl
 
 pub moves_after : (b a : List Vector) → all moves (row (filled_list b a)) ≡ all moves (row a)
 unfolding filled_list
@@ -181,4 +181,4 @@ moves_after b (s ∷ a) = go (is_step_lem s) refl (moves_after (s ∷ b) a)
     go true h r =
         rw (filled_of_step b a s h, row_step s a h, row_step _ (filled_list (s ∷ b) a) (steadied_step (run b s a) s h))
         (unfold all in λ i. steadied_moves (run b s a) s i && r i)
-    go false h r = rw (row-stop s a h, row-stop (filled_in b a s) (filled_list (s ∷ b) a) (step_kept b a s ∙ h)) refl
+    go false h r = rw (row_stop s a h, row_stop (filled_in b a s) (filled_list (s ∷ b) a) (step_kept b a s ∙ h)) refl

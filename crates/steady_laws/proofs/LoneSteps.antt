@@ -13,7 +13,7 @@ use Rattle.alf.specs.Steady.{is_then, is_step_lem, moves, has_edge_on, some_of, 
 use Rattle.alf.specs.Steady.{steadied, filled_in, filled}
 use Rattle.basics.proofs.Bools.{never, and_left, and_right}
 use Rattle.steady_laws.specs.Lone.{spaced, lone}
-use Rattle.steady_laws.proofs.Rows.{row-stop}
+use Rattle.steady_laws.proofs.Rows.{row_stop}
 use Rattle.steady_laws.proofs.Chains.{operands_then, operands_other, filled_then, filled_other}
 use Rattle.steady_laws.proofs.Filling.{kept_none, filled_of_step}
 
@@ -58,14 +58,14 @@ row_after : (p : Vector) (a : List Vector) → is_step_lem p ≡ true → spaced
 unfolding spaced
 row_after p [] k h = unfold row in refl
 row_after p (q ∷ a) k h =
-    row-stop q a (apart_right (is_step_lem p) (is_step_lem q) (and_left (not (is_step_lem p && is_step_lem q)) (spaced (q ∷ a)) h) k)
+    row_stop q a (apart_right (is_step_lem p) (is_step_lem q) (and_left (not (is_step_lem p && is_step_lem q)) (spaced (q ∷ a)) h) k)
 
 row_before : (b : List Vector) (p : Vector) (a : List Vector) → is_step_lem p ≡ true
     → spaced (reverse_aux b (p ∷ a)) ≡ true → row b ≡ []
 unfolding spaced
 row_before [] p a k h = unfold row in refl
 row_before (q ∷ b) p a k h =
-    row-stop q b
+    row_stop q b
     (apart_left (is_step_lem q) (is_step_lem p)
     (and_left (not (is_step_lem q && is_step_lem p)) (spaced (p ∷ a)) (spaced_back b (q ∷ p ∷ a) h)) k)
 

@@ -91,11 +91,11 @@ module _ (n : ℕ) where
   unfolding filled_beside VectorOver
   part_over b a (edge e c) g h o = step_over b a (edge e c) g h o
   part_over b a (join j p q) g h o =
-      let then-left = part_over b (front q a) p g (front_among q a o.1 h) o.0 in
-      let then-right = part_over (back p b) a q (back_among p b o.0 g) h o.1 in
+      let then_left = part_over b (front q a) p g (front_among q a o.1 h) o.0 in
+      let then_right = part_over (back p b) a q (back_among p b o.0 g) h o.1 in
       let left = part_over alone alone p none_among none_among o.0 in
       let right = part_over alone alone q none_among none_among o.1 in
-      if_all (VectorOver n) (is_then j) (λ e. (then-left, then-right))
+      if_all (VectorOver n) (is_then j) (λ e. (then_left, then_right))
       (λ e. if_all (VectorOver n) (is_step_lem (join j p q)) (λ d. step_over b a (join j p q) g h o) (λ d. (left, right)))
   part_over b a (while s p c) g h o = (part_over alone alone p none_among none_among o.0, o.1)
 

@@ -4,7 +4,7 @@
 use mathlib.Core.Path.{◌≡◌, refl, ap, sym, ◌∙◌}
 use mathlib.Core.Bool.{Bool, true, false, ◌&&◌}
 use mathlib.Core.List.{map}
-use Rattle.alf.specs.Expressions.{Boolean, Vector, join, while, Join, followed-by, Side}
+use Rattle.alf.specs.Expressions.{Boolean, Vector, join, while, Join, followed_by_join, Side}
 use Rattle.alf.specs.Alternatives.{conditioned, rewritten, alternatives}
 use Rattle.alf.specs.Steady.{is_then, is_with, is_step_lem, filled}
 use Rattle.basics.proofs.Bools.{never, and_left, and_right}
@@ -66,7 +66,7 @@ alike_while s c x =
     }
 
 alike_turned : (p q r : Vector)
-    → Alike (join followed-by (join followed-by p q) r) (join followed-by p (join followed-by q r))
+    → Alike (join followed_by_join (join followed_by_join p q) r) (join followed_by_join p (join followed_by_join q r))
 unfolding is_then is_with is_step_lem front back filled_beside alternatives rewritten
 alike_turned p q r =
     record {

@@ -1,6 +1,6 @@
 -- Document 02, [2]: the rows of steps in a chain, and what is a step.
---   or-true, or_cases            a test that one of two passes
---   row_step, row-stop           a row, by its first operand
+--   or_true, or_cases            a test that one of two passes
+--   row_step, row_stop           a row, by its first operand
 --   some_middle, some_front, all_front     some and all of a list in parts
 --   run_shift                    two neighbouring steps are in one run
 --   with_inv, then_no_step, step_join      a step is no `->`, and is one by its operands
@@ -9,13 +9,13 @@ use mathlib.Core.Bool.{Bool, true, false, ◌&&◌, ◌||◌, or_assoc, or_comm,
 use mathlib.Core.List.{List, [], ◌∷◌, ◌++◌}
 use Rattle.basics.specs.Words.{all}
 use Rattle.alf.specs.Expressions.{Vector, join}
-use Rattle.alf.specs.Expressions.{Join, followed-by, either_order, with-or-then, any_order, with, or_else}
+use Rattle.alf.specs.Expressions.{Join, followed_by_join, either_order, with_or_then, any_order, with, or_else}
 use Rattle.alf.specs.Steady.{is_then, is_with, is_step_lem, some_of, row, run}
 use Rattle.basics.proofs.Bools.{never}
 
-pub or-true : (p q : Bool) → q ≡ true → (p || q) ≡ true
-or-true true q h = refl
-or-true false q h = h
+pub or_true : (p q : Bool) → q ≡ true → (p || q) ≡ true
+or_true true q h = refl
+or_true false q h = h
 
 pub or_cases : (p q : Bool) {R : Type 0} → (p || q) ≡ true → (p ≡ true → R) → (q ≡ true → R) → R
 or_cases true q h f g = f refl
@@ -26,9 +26,9 @@ pub row_step : (p : Vector) (ps : List Vector) → is_step_lem p ≡ true → ro
 unfolding row
 row_step p ps h = rw h refl
 
-pub row-stop : (p : Vector) (ps : List Vector) → is_step_lem p ≡ false → row (p ∷ ps) ≡ []
+pub row_stop : (p : Vector) (ps : List Vector) → is_step_lem p ≡ false → row (p ∷ ps) ≡ []
 unfolding row
-row-stop p ps h = rw h refl
+row_stop p ps h = rw h refl
 
 -- some and all of a list in parts
 pub some_middle : (f : Vector → Bool) (l : List Vector) (s : Vector) (m : List Vector)
@@ -62,18 +62,18 @@ run_shift f b s o a h k =
 -- a step is no `->`, and is one by its operands
 pub with_inv : (j : Join) → is_with j ≡ true → is_then j ≡ false
 unfolding is_with is_then
-with_inv followed-by h = never h
+with_inv followed_by_join h = never h
 with_inv either_order h = never h
-with_inv with-or-then h = never h
+with_inv with_or_then h = never h
 with_inv any_order h = never h
 with_inv with h = refl
 with_inv or_else h = never h
 
 then_inv : (j : Join) → is_then j ≡ true → is_with j ≡ false
 unfolding is_with is_then
-then_inv followed-by h = refl
+then_inv followed_by_join h = refl
 then_inv either_order h = never h
-then_inv with-or-then h = never h
+then_inv with_or_then h = never h
 then_inv any_order h = never h
 then_inv with h = never h
 then_inv or_else h = never h

@@ -22,7 +22,7 @@ use Rattle.alf.specs.Steady.{filled}
 use Rattle.basics.proofs.Bools.{below?}
 use Rattle.alf.proofs.WindowsAreAlternatives.{window_alternatives}
 use Rattle.alf.proofs.RowsAreAlternatives.{row_alternatives, row_small}
-use Rattle.steady_laws.proofs.SteadyPins.{Fills, done, keep, add, none, more, FillsEach, FillsAll, both-length}
+use Rattle.steady_laws.proofs.SteadyPins.{Fills, done, keep, add, none, more, FillsEach, FillsAll, both_length}
 use Rattle.steady_laws.proofs.SteadyPins.{filled_fills}
 use Rattle.steady_laws.proofs.SteadyLimits.{filled_number}
 
@@ -67,7 +67,7 @@ module _ (st : Boolean → ℕ → ℕ) where
 
   pub row_falls : (i : ℕ) {x y : Alternative} → FillsEach x y → at_row st i y ≤ at_row st i x
   unfolding at_row
-  row_falls i {x} {y} s = rw (← both-length s) (go (leb (length x) i))
+  row_falls i {x} {y} s = rw (← both_length s) (go (leb (length x) i))
     where
       go : (q : Bool)
           → (if q then steps_from st y (i - length x) else 0) ≤ (if q then steps_from st x (i - length x) else 0)
@@ -98,7 +98,7 @@ module _ (st : Boolean → ℕ → ℕ) where
   -- the expression, on a window
   window_falls : (a b : ℕ) {x y : Alternative} → FillsEach x y → on_window st a b y ≤ on_window st a b x
   unfolding on_window
-  window_falls a b {x} {y} s = rw (← both-length s) (go (eqb b (a + length x)))
+  window_falls a b {x} {y} s = rw (← both_length s) (go (eqb b (a + length x)))
     where
       go : (q : Bool) → (if q then steps_from st y a else 0) ≤ (if q then steps_from st x a else 0)
       go true = steps_fall a s

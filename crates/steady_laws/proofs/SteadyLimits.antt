@@ -16,17 +16,17 @@ use Rattle.alf.specs.Alternatives.{test, Step, Alternative, alternatives, is_nam
 use Rattle.alf.specs.Alternatives.{contradictory, number_of_alternatives, steps_of, tests, over_limit}
 use Rattle.alf.specs.Steady.{filled}
 use Rattle.alf.proofs.Growth.{limit_part}
-use Rattle.steady_laws.proofs.SteadyPins.{Fills, done, keep, add, none, more, FillsEach, FillsAll, both-length}
+use Rattle.steady_laws.proofs.SteadyPins.{Fills, done, keep, add, none, more, FillsEach, FillsAll, both_length}
 use Rattle.steady_laws.proofs.SteadyPins.{filled_fills}
 
 pub filled_number : (p : Vector) → number_of_alternatives (filled p) ≡ number_of_alternatives p
 unfolding number_of_alternatives
-filled_number p = sym (both-length (filled_fills p))
+filled_number p = sym (both_length (filled_fills p))
 
 all_steps : {xs ys : List Alternative} → FillsAll xs ys → greatest_of length xs ≡ greatest_of length ys
 unfolding greatest_of
 all_steps none = refl
-all_steps (more r s) = let e = both-length r in let d = all_steps s in omega arith
+all_steps (more r s) = let e = both_length r in let d = all_steps s in omega arith
 
 pub filled_steps : (p : Vector) → steps_of (filled p) ≡ steps_of p
 unfolding steps_of
@@ -53,7 +53,7 @@ pub filled_limit : (p : Vector) → over_limit (alternatives p) ≡ true → ove
 filled_limit p =
     limit_part (alternatives p) (alternatives (filled p))
     (record {
-      number = omega (arith, both-length (filled_fills p));
+      number = omega (arith, both_length (filled_fills p));
       steps = omega (arith, all_steps (filled_fills p));
       most = all_tests_lem (filled_fills p);
     })
@@ -82,7 +82,7 @@ pub contradictory_same : (names : ℕ) {x y : Alternative} → FillsEach x y
     → contradictory names x ≡ contradictory names y
 unfolding contradictory
 contradictory_same names s =
-    let l = both-length s in
+    let l = both_length s in
     λ i. some names (λ n. some (l i + 1) (λ j. not (possible (literals_same n s j i))))
 
 flags_same : (names : ℕ) {xs ys : List Alternative} → FillsAll xs ys

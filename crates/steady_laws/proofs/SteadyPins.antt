@@ -11,7 +11,7 @@ use Prim.Native.Nat.{ℕ, zero, suc, ◌-◌}
 use lib.ListN.{length, replicate}
 use Rattle.basics.specs.Words.{all}
 use Rattle.alf.specs.Expressions.{Boolean, name, Edge, stays, Vector, edge, join, while}
-use Rattle.alf.specs.Expressions.{Side, Join, followed-by, either_order, with-or-then, any_order, with, or_else}
+use Rattle.alf.specs.Expressions.{Side, Join, followed_by_join, either_order, with_or_then, any_order, with, or_else}
 use Rattle.alf.specs.Alternatives.{Test, test, Step, Alternative, each, padded, zipped, overlaid, conditioned}
 use Rattle.alf.specs.Alternatives.{chained, overlapped, rewritten, alternatives}
 use Rattle.alf.specs.Steady.{is_then, is_with, is_step_lem, moves, is_steady, kept, steadied, run, operands}
@@ -62,9 +62,9 @@ module _ {A : Type 0} {R : A → A → Type 0} where
   both_map f g h none = none
   both_map f g h (more {x = x} {y = y} r s) = more (h x y r) (both_map f g h s)
 
-  pub both-length : {xs ys : List A} → Both R xs ys → length xs ≡ length ys
-  both-length none = refl
-  both-length (more r s) = ap suc (both-length s)
+  pub both_length : {xs ys : List A} → Both R xs ys → length xs ≡ length ys
+  both_length none = refl
+  both_length (more r s) = ap suc (both_length s)
 
 pub fills_all_same : (xs : List Alternative) → FillsAll xs xs
 fills_all_same = both_same (both_same fills_same)
@@ -91,7 +91,7 @@ overlaid_fills : (x x' y y' : Alternative) → FillsEach x x' → FillsEach y y'
     → FillsEach (overlaid x y) (overlaid x' y')
 unfolding overlaid padded
 overlaid_fills x x' y y' s t =
-    rw (← both-length s, ← both-length t)
+    rw (← both_length s, ← both_length t)
     (zipped_fills (both_append (empty_fills (length y - length x)) s)
     (both_append (empty_fills (length x - length y)) t))
 
@@ -111,9 +111,9 @@ overlapped_fills = each_fills overlaid overlaid_fills
 rewritten_fills : (j : Join) {xs xs' ys ys' : List Alternative} → FillsAll xs xs' → FillsAll ys ys'
     → FillsAll (rewritten j xs ys) (rewritten j xs' ys')
 unfolding rewritten
-rewritten_fills followed-by s t = chained_fills s t
+rewritten_fills followed_by_join s t = chained_fills s t
 rewritten_fills either_order s t = both_append (chained_fills s t) (chained_fills t s)
-rewritten_fills with-or-then s t = both_append (overlapped_fills s t) (chained_fills s t)
+rewritten_fills with_or_then s t = both_append (overlapped_fills s t) (chained_fills s t)
 rewritten_fills any_order s t =
     both_append (both_append (chained_fills s t) (overlapped_fills s t)) (chained_fills t s)
 rewritten_fills with s t = overlapped_fills s t
@@ -129,9 +129,9 @@ one_with p q s t e d = rw (e, d) refl
 
 is_with_inv : (j : Join) → is_with j ≡ true → j ≡ with
 unfolding is_with
-is_with_inv followed-by h = never h
+is_with_inv followed_by_join h = never h
 is_with_inv either_order h = never h
-is_with_inv with-or-then h = never h
+is_with_inv with_or_then h = never h
 is_with_inv any_order h = never h
 is_with_inv with h = refl
 is_with_inv or_else h = never h

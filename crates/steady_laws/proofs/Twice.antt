@@ -15,9 +15,9 @@ use Rattle.alf.specs.Expressions.{Vector, edge, join, while}
 use Rattle.alf.specs.Steady.{is_then, is_step_lem, moves, has_edge_on, some_of, operands, row, run, is_steady, kept}
 use Rattle.alf.specs.Steady.{steadied, filled_in, filled}
 use Rattle.basics.proofs.Bools.{never}
-use Rattle.steady_laws.proofs.Chains.{operands_then, operands_other, reverse-append, filled_list, filled_then}
+use Rattle.steady_laws.proofs.Chains.{operands_then, operands_other, reverse_append, filled_list, filled_then}
 use Rattle.steady_laws.proofs.Chains.{filled_other, operands_filled, filled_alone, edge_alone}
-use Rattle.steady_laws.proofs.Rows.{or_cases, row_step, row-stop, some_middle, some_front, all_front}
+use Rattle.steady_laws.proofs.Rows.{or_cases, row_step, row_stop, some_middle, some_front, all_front}
 use Rattle.steady_laws.proofs.Rows.{run_shift, step_join}
 use Rattle.steady_laws.proofs.Filling.{kept_old, kept_new, kept_none, steadied_moves, steadied_step}
 use Rattle.steady_laws.proofs.Filling.{steadied_edge, filled_of_step, step_kept, filled_back}
@@ -68,7 +68,7 @@ module _ (n : ℕ) where
               unfold some_of in e
       go false h r d =
           nothing_named
-          (rw (row-stop (filled_in b (o ∷ a) s) (filled_back b (s ∷ o ∷ a)) (step_kept b (o ∷ a) s ∙ h)) at d)
+          (rw (row_stop (filled_in b (o ∷ a) s) (filled_back b (s ∷ o ∷ a)) (step_kept b (o ∷ a) s ∙ h)) at d)
 
   names_after : (b : List Vector) (o : Vector) (a : List Vector) → is_step_lem o ≡ true
       → Named (row (filled_list (o ∷ b) a)) → Named (run b o a)
@@ -91,7 +91,7 @@ module _ (n : ℕ) where
               unfold some_of in e
       go false h r d =
           nothing_named
-          (rw (row-stop (filled_in (o ∷ b) a s) (filled_list (s ∷ o ∷ b) a) (step_kept (o ∷ b) a s ∙ h)) at d)
+          (rw (row_stop (filled_in (o ∷ b) a s) (filled_list (s ∷ o ∷ b) a) (step_kept (o ∷ b) a s ∙ h)) at d)
 
 -- A step in its run, with the operands beside it filled: filled again it stays.
 module _ (b : List Vector) (o : Vector) (a : List Vector) (k : is_step_lem o ≡ true) where
@@ -168,9 +168,9 @@ back_filled b a (join j p q) =
           filled_then b a j p q e,
           operands_then j p q e,
           operands_then j _ _ e,
-          reverse-append (operands p) (operands q) b,
+          reverse_append (operands p) (operands q) b,
           append_assoc (operands p) (operands q) a,
-          reverse-append (operands (filled_in b (operands q ++ a) p)) _ _,
+          reverse_append (operands (filled_in b (operands q ++ a) p)) _ _,
           s,
         ) t
     go false e s t = rw (filled_alone b a j p q e, operands_other j p q e) refl
@@ -200,7 +200,7 @@ part_stays b a (join j p q) =
         rw (
           filled_then b a j p q e,
           operands_then j p q e,
-          reverse-append (operands p) (operands q) b,
+          reverse_append (operands p) (operands q) b,
           append_assoc (operands p) (operands q) a,
         )
         (filled_then _ _ j _ _ e

@@ -10,7 +10,7 @@ use Rattle.basics.specs.Words.{listed, same}
 use Rattle.alf.specs.declared.Rules.{Rules}
 use Rattle.alf.specs.States.{X, H, L}
 use Rattle.alf.specs.Expressions.{Boolean, name, negated, binary, and, any, the, Edge, pair, changes, stays}
-use Rattle.alf.specs.Expressions.{Vector, edge, join, while, on-right, followed-by, either_order, with, or_else}
+use Rattle.alf.specs.Expressions.{Vector, edge, join, while, on_right, followed_by_join, either_order, with, or_else}
 use Rattle.alf.specs.Values.{state_at}
 use Rattle.alf.specs.Windows.{row_answer}
 use Rattle.alf.specs.TableT.{names, A, B, C, rise, fall, pulse}
@@ -19,7 +19,7 @@ use Rattle.steady_laws.specs.SteadyT.{rules_of}
 
 infixr 30 ◌then◌
 abbrev pub ◌then◌ : Vector → Vector → Vector
-◌then◌ p q = join followed-by p q
+◌then◌ p q = join followed_by_join p q
 
 infixl 40 ◌also◌
 abbrev pub ◌also◌ : Vector → Vector → Vector
@@ -75,8 +75,8 @@ fillings =
     ((turns B then rises C also steady B) then falls B also steady C))
     ∷ ((rises A then (falls B then turns C)) becomes (rises A also steady B then (falls B also steady A then turns C)))
     -- a condition in a step makes it none, `01 A -> 10 B & C`; around a run it does not, `( 01 A -> 10 B ) & C`
-    ∷ ((rises A then while on-right (falls B) C) becomes (rises A then while on-right (falls B) C))
-    ∷ (while on-right pulse C becomes while on-right steady_pulse C)
+    ∷ ((rises A then while on_right (falls B) C) becomes (rises A then while on_right (falls B) C))
+    ∷ (while on_right pulse C becomes while on_right steady_pulse C)
     -- "Compact operators are not runs"; there may be one below: `( 01 A -> 10 B ) <-> 01 C`
     ∷ (join either_order (rises A) (falls B) becomes join either_order (rises A) (falls B))
     ∷ (join either_order pulse (rises C) becomes join either_order steady_pulse (rises C))
@@ -135,9 +135,9 @@ readings =
     ∷ reading (turns B then (rises C then falls B))
     (1 ∷ 1 ∷ 0 ∷ 1 ∷ 0 ∷ 0 ∷ 0 ∷ 1 ∷ 1 ∷ 0 ∷ 0 ∷ 1 ∷ []) (3 ∷ 0 ∷ 0 ∷ 1 ∷ []) (3 ∷ 0 ∷ 0 ∷ 0 ∷ [])
     -- 01 A -> 10 B & C, and ( 01 A -> 10 B ) & C, on 001 111 101
-    ∷ reading (rises A then while on-right (falls B) C)
+    ∷ reading (rises A then while on_right (falls B) C)
     (0 ∷ 0 ∷ 1 ∷ 1 ∷ 1 ∷ 1 ∷ 1 ∷ 0 ∷ 1 ∷ []) (3 ∷ 0 ∷ 1 ∷ []) (3 ∷ 0 ∷ 1 ∷ [])
-    ∷ reading (while on-right pulse C)
+    ∷ reading (while on_right pulse C)
     (0 ∷ 0 ∷ 1 ∷ 1 ∷ 1 ∷ 1 ∷ 1 ∷ 0 ∷ 1 ∷ []) (3 ∷ 0 ∷ 1 ∷ []) (3 ∷ 0 ∷ 0 ∷ [])
     -- ( 01 A -> 10 B ) & ( 01 C -> 10 A ), and 01 A & 01 C -> 10 B & 10 A, on 010 111 001
     ∷ reading (pulse also (rises C then falls A))

@@ -6,7 +6,7 @@
 use Rattle.std.specs.Prelude.{Bool, List, [], ◌∷◌, ◌++◌, take, drop, if◌then◌else◌}
 use Rattle.basics.specs.Text.{bytes}
 use Rattle.alf.specs.declared.Rules.{Rules}
-use Rattle.alf.specs.Expressions.{while, on-right}
+use Rattle.alf.specs.Expressions.{while, on_right}
 use Rattle.alf.specs.TableT.{C, pulse, Case, answers, values, correction, cases}
 use Rattle.alf.specs.Steady.{meant}
 
@@ -23,7 +23,7 @@ unfoldable pub steady_cases : List Case
 steady_cases =
     take 1 cases
     ++ (answers (bytes "01 A -> 10 B") pulse (3 ∷ 0 ∷ 1 ∷ 0 ∷ 0 ∷ 0 ∷ [])
-    ∷ answers (bytes "( 01 A -> 10 B ) & C") (while on-right pulse C) (3 ∷ 0 ∷ 2 ∷ 0 ∷ 0 ∷ 0 ∷ [])
+    ∷ answers (bytes "( 01 A -> 10 B ) & C") (while on_right pulse C) (3 ∷ 0 ∷ 2 ∷ 0 ∷ 0 ∷ 0 ∷ [])
     ∷ drop 3 cases)
 
 unfoldable pub cases_under : Rules → List Case

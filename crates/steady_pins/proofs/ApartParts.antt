@@ -29,7 +29,7 @@ use Rattle.steady_pins.proofs.StepParts.{edge_step}
 use Rattle.steady_pins.proofs.SettledRows.{by_cells, settled_none, settled_alone}
 use Rattle.steady_pins.proofs.WalkedRows.{rowed_long, rowed_own, rowed_other}
 use Rattle.steady_pins.proofs.NextSteps.{Next}
-use Rattle.steady_pins.proofs.WalkedSteps.{step-next}
+use Rattle.steady_pins.proofs.WalkedSteps.{step_next}
 use Rattle.steady_pins.proofs.WalkedParts.{ready_later, ready_begun, left_walk, right_walk, then_walked}
 
 -- no entry is a pin
@@ -69,7 +69,7 @@ lone_row {end} {p} {run} {rows} {l} h =
 pub lone_marked : {t : List ℕ} {names end : ℕ} {run : Run} {rows l : List ℕ} → Walk t names end run rows l
     → is_step_lem (vector_at t names end) ≡ true → marked end (vector_at t names end) alone alone l ≡ l
 lone_marked {t} {names} {end} {l = l} h u =
-    step_marked_lem end alone alone l (vector_at t names end) u ∙ lone_row (step-next (record { walk = h; step = u }))
+    step_marked_lem end alone alone l (vector_at t names end) u ∙ lone_row (step_next (record { walk = h; step = u }))
 
 module _ {t : List ℕ} {names end : ℕ} {rows l : List ℕ} (h : Walk t names end begun rows l) where
   pub lone_apart : 64 ≤ get_or t (end - 1) 0 → Apart end (vector_at t names end) l rows l

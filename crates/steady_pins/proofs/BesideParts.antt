@@ -8,7 +8,7 @@ use mathlib.Core.Bool.{Bool, true, false, ◌&&◌}
 use mathlib.Core.List.{List}
 use lib.ListN.{get_or, length}
 use Rattle.alf.specs.Expressions.{Vector, edge, join, while}
-use Rattle.alf.specs.Expressions.{Join, followed-by, either_order, with-or-then, any_order, with, or_else}
+use Rattle.alf.specs.Expressions.{Join, followed_by_join, either_order, with_or_then, any_order, with, or_else}
 use Rattle.alf.specs.Bytes.{vector_bytes}
 use Rattle.alf.specs.Decoder.{Stack, join_at, is_vector, top_vector, stack_at}
 use Rattle.alf.specs.Steady.{is_then, is_with, is_step_lem}
@@ -59,9 +59,9 @@ step_unchained (edge e c) h = refl
 step_unchained (join j p q) h = go j (and_left (is_with j) (is_step_lem p && is_step_lem q) h)
   where
     go : (j : Join) → is_with j ≡ true → is_then j ≡ false
-    go followed-by h = never h
+    go followed_by_join h = never h
     go either_order h = never h
-    go with-or-then h = never h
+    go with_or_then h = never h
     go any_order h = never h
     go with h = refl
     go or_else h = never h
@@ -144,7 +144,7 @@ module _ (t : List ℕ) (names end : ℕ) (h : EndsVector t names end) where
     starts = vector_start t names (end - 1) j.right s
 
     then_is : get_or t (end - 1) 0 ≡ 50
-        → vector_at t names end ≡ join followed-by (vector_at t names m) (vector_at t names (end - 1))
+        → vector_at t names end ≡ join followed_by_join (vector_at t names m) (vector_at t names (end - 1))
     unfolding join_at
     then_is e = rw e at j.is
 

@@ -9,7 +9,7 @@ use mathlib.Core.Bool.{Bool, true, false}
 use mathlib.Core.List.{List}
 use mathlib.Core.Logic.{inl, inr}
 use lib.ListN.{length, get_or}
-use Rattle.alf.specs.Expressions.{Boolean, Edge, Vector, edge, join, while, Join, on-right, on-left}
+use Rattle.alf.specs.Expressions.{Boolean, Edge, Vector, edge, join, while, Join, on_right, on_left}
 use Rattle.alf.specs.Steady.{is_then, is_step_lem, kept}
 use Rattle.steady_laws.specs.Beside as filling
 use Rattle.steady_pins.specs.declared.finding.Beside.{Beside}
@@ -126,12 +126,12 @@ module _ (operand : ℕ → Boolean) where
   -- conditions
   behind_places : (end : ℕ) (t : List ℕ) (p : Vector) {q : Vector} {c : Boolean} → operand (end - 1) ≡ c
       → by_places operand t (end - 1 - width c) p ≡ q
-      → by_places operand t end (while on-right p c) ≡ while on-right q c
+      → by_places operand t end (while on_right p c) ≡ while on_right q c
   unfolding by_places
   behind_places end t p h e = rw (h, e) refl
 
   ahead_places : (end : ℕ) (t : List ℕ) (p : Vector) {q : Vector} {c : Boolean} → operand (end - 1 - size p) ≡ c
-      → by_places operand t (end - 1) p ≡ q → by_places operand t end (while on-left p c) ≡ while on-left q c
+      → by_places operand t (end - 1) p ≡ q → by_places operand t end (while on_left p c) ≡ while on_left q c
   unfolding by_places
   ahead_places end t p h e = rw (h, e) refl
 

@@ -9,7 +9,7 @@ use mathlib.Core.List.{List}
 use lib.ListN.{length, replicate}
 use lib.Seq.{sets}
 use Rattle.alf.specs.declared.Rules.{Rules}
-use Rattle.alf.specs.Expressions.{Vector, edge, join, while, on-right, on-left}
+use Rattle.alf.specs.Expressions.{Vector, edge, join, while, on_right, on_left}
 use Rattle.alf.specs.Bytes.{vector_bytes}
 use Rattle.alf.specs.Steady.{is_then, is_step_lem, moves}
 use Rattle.basics.proofs.Stores.{sets_length}
@@ -41,8 +41,8 @@ marked_long end (join j p q) before after l =
     go x y true v a b = a
     go x y false true a b = step_long before end (join j p q) after l
     go x y false false a b = b
-marked_long end (while on-right p c) before after l = marked_long _ p _ _ l
-marked_long end (while on-left p c) before after l = marked_long _ p _ _ l
+marked_long end (while on_right p c) before after l = marked_long _ p _ _ l
+marked_long end (while on_left p c) before after l = marked_long _ p _ _ l
 
 -- the pins of a tree, by its rules
 module _ (ρ : Rules) (t : List ℕ) (names end : ℕ) where

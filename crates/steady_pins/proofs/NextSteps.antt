@@ -28,9 +28,9 @@ use Rattle.steady_pins.proofs.StepEntries.{own_entry, earlier_entry}
 use Rattle.steady_pins.proofs.WalkedRows.{among_none, among_more, rowed_long, rowed_own, rowed_behind}
 use Rattle.steady_pins.proofs.WalkedRows.{rowed_other, settled_kept, settled_blank}
 
-or-false : (q : Bool) → (q || false) ≡ q
-or-false true = refl
-or-false false = refl
+or_false : (q : Bool) → (q || false) ≡ q
+or_false true = refl
+or_false false = refl
 
 -- a step that ends at `end` is next, behind a run: its places are there, and its row is blank
 pub record Next (end : ℕ) (p : Vector) (run : Run) (rows l : List ℕ) : Type 0 where
@@ -128,7 +128,7 @@ module _ {end : ℕ} {p : Vector} {run : Run} {rows l l₁ : List ℕ} (h : Next
         ∙ (λ i. settled_entry ((moves p && B.changing) && here i) after.changing (before_here i) a (kept i))
       where
         here : among rows run.many r ≡ later_among r
-        here = sym (more r ∙ rw (ne_eqb row r (λ e. d (sym e))) (or-false (among rows run.many r)))
+        here = sym (more r ∙ rw (ne_eqb row r (λ e. d (sym e))) (or_false (among rows run.many r)))
 
         kept : settled_entry (B.changing && among rows run.many r) (moves p && true) b (mine n) (cell l r n)
             ≡ cell written r n

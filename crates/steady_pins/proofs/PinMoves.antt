@@ -11,14 +11,14 @@ use Rattle.alf.specs.Expressions.{Boolean, Vector, edge, join, with, stays}
 use Rattle.steady_pins.specs.Pinned.{pin_at, pinned}
 use Rattle.steady_pins.specs.Moving.{pin_moves, pins_move}
 
-or-none : (s : Bool) → (s || false) ≡ s
-or-none true = refl
-or-none false = refl
+or_none : (s : Bool) → (s || false) ≡ s
+or_none true = refl
+or_none false = refl
 
 module _ (c : ℕ → ℕ → ℕ) (pins : List ℕ) (end b n : ℕ) where
   pub moves_none : eqb (pin_at pins end n) 0 ≡ true → pins_move c pins end (suc n) b ≡ pins_move c pins end n b
   unfolding some pin_moves
-  moves_none e = rw e (or-none (pins_move c pins end n b))
+  moves_none e = rw e (or_none (pins_move c pins end n b))
 
   pub moves_one : eqb (pin_at pins end n) 0 ≡ false
       → pins_move c pins end (suc n) b

@@ -16,7 +16,7 @@ use lib.ListN.{length, get_or, length-append, length-map}
 use Rattle.basics.specs.Words.{count}
 use Rattle.basics.proofs.AllEntries.{none, more}
 use Rattle.basics.proofs.Counts.{count_small}
-use Rattle.alf.specs.Expressions.{Boolean, stays, Vector, edge, join, while, with, Side, on-right, on-left}
+use Rattle.alf.specs.Expressions.{Boolean, stays, Vector, edge, join, while, with, Side, on_right, on_left}
 use Rattle.alf.specs.Bytes.{boolean_bytes, vector_bytes}
 use Rattle.alf.specs.Alternatives.{test, Step, Alternative, conditioned, rewritten, alternatives, tests}
 use Rattle.alf.proofs.Lifting.{Steps}
@@ -158,12 +158,12 @@ module _ (operand : ℕ → Boolean) (pins : List ℕ) where
       ∙ sym (rewritten_on (λ s. []) refl (λ s t. refl) j _ _)
       ∙ ap₂ (rewritten j) (blanks_placed (end - 1 - length (vector_bytes q)) p) (blanks_placed (end - 1) q)
       ∙ rewritten_on (λ s. []) refl (λ s t. refl) j (alternatives p) (alternatives q)
-  blanks_placed end (while on-right p c) =
+  blanks_placed end (while on_right p c) =
       let m = end - 1 - length (boolean_bytes c) in
-      blanks_while on-right (by_places operand pins m p) p (operand (end - 1)) c (blanks_placed m p)
-  blanks_placed end (while on-left p c) =
+      blanks_while on_right (by_places operand pins m p) p (operand (end - 1)) c (blanks_placed m p)
+  blanks_placed end (while on_left p c) =
       let d = operand (end - 1 - length (vector_bytes p)) in
-      blanks_while on-left (by_places operand pins (end - 1) p) p d c (blanks_placed (end - 1) p)
+      blanks_while on_left (by_places operand pins (end - 1) p) p d c (blanks_placed (end - 1) p)
 
   pub placed_number : (end : ℕ) (p : Vector)
       → length (alternatives (by_places operand pins end p)) ≡ length (alternatives p)

@@ -15,7 +15,7 @@ use Rattle.basics.specs.Words.{some}
 use Rattle.alf.specs.Expressions.{Boolean, Vector, edge, join, with, stays}
 use Rattle.alf.specs.Windows.{Window, NO, edge_on, together, joined, answer}
 use Rattle.basics.proofs.Bools.{equal?, below?}
-use Rattle.basics.proofs.Extremes.{greatest-one}
+use Rattle.basics.proofs.Extremes.{greatest_one}
 use Rattle.alf.proofs.WindowBounds.{no_event, answer_small}
 use Rattle.steady_pins.specs.Pinned.{pin_at, pinned}
 use Rattle.steady_pins.specs.Moving.{pins_move}
@@ -52,7 +52,7 @@ module _ (P Q : Window) (a b : ℕ) (h : a < b) (off : P b b ≡ 0) (one : (x : 
   pub last_event : together P Q a b ≡ min (P a b) (Q (b - 1) b)
   unfolding together shared
   last_event =
-      greatest-one (b + 1 - a) (b - 1 - a) shared (omega arith) (λ i l n. others i l n (equal? b (a + 1)))
+      greatest_one (b + 1 - a) (b - 1 - a) shared (omega arith) (λ i l n. others i l n (equal? b (a + 1)))
       ∙ the_last (equal? b (a + 1))
 
 pick_same : (q : Bool) (x : ℕ) → x ≡ 0 → (if q then x else 0) ≡ 0

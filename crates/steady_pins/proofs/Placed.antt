@@ -8,14 +8,14 @@ use native.Mathlib.Omega.{arith}
 use mathlib.Core.Path.{◌≡◌, refl, ap}
 use mathlib.Core.List.{List, [], ◌∷◌, ◌++◌}
 use lib.ListN.{length, get_or, length-append}
-use Rattle.alf.specs.Expressions.{Boolean, Edge, Vector, edge, join, while, Join, on-right, on-left}
+use Rattle.alf.specs.Expressions.{Boolean, Edge, Vector, edge, join, while, Join, on_right, on_left}
 use Rattle.alf.specs.Bytes.{edge_number, join_byte, boolean_bytes, vector_bytes}
 use Rattle.trees.specs.Parts.{EndsBoolean, EndsVector, vector_at, boolean_at, Start}
 use Rattle.alf.specs.Decoder.{top_boolean, under, stack_at}
 use Rattle.alf.proofs.Parts.{made_last}
 use Rattle.alf.proofs.StackTops.{condition_before_top}
 use Rattle.trees.proofs.Starts.{of_vector}
-use Rattle.trees.proofs.Vectors.{Conditioned, Joined, vector_pos, edge-is, before_is, before_ends, boolean_under}
+use Rattle.trees.proofs.Vectors.{Conditioned, Joined, vector_pos, edge_is, before_is, before_ends, boolean_under}
 use Rattle.steady_pins.proofs.Starting.{vector_start, vector_fits, boolean_start}
 use Rattle.steady_pins.proofs.StepParts.{operand_ends}
 use Rattle.steady_pins.proofs.TreeInduction.{began, by_parts}
@@ -32,13 +32,13 @@ join_size j p q =
     let a = length-append (vector_bytes p) (vector_bytes q ++ (join_byte j ∷ [])) in
     let b = length-append (vector_bytes q) (join_byte j ∷ []) in omega arith
 
-pub right_size : (p : Vector) (c : Boolean) → size (while on-right p c) ≡ size p + width c + 1
+pub right_size : (p : Vector) (c : Boolean) → size (while on_right p c) ≡ size p + width c + 1
 unfolding vector_bytes
 right_size p c =
     let a = length-append (vector_bytes p) (boolean_bytes c ++ (56 ∷ [])) in
     let b = length-append (boolean_bytes c) (56 ∷ []) in omega arith
 
-pub left_size : (p : Vector) (c : Boolean) → size (while on-left p c) ≡ size p + width c + 1
+pub left_size : (p : Vector) (c : Boolean) → size (while on_left p c) ≡ size p + width c + 1
 unfolding vector_bytes
 left_size p c =
     let a = length-append (boolean_bytes c) (vector_bytes p ++ (57 ∷ [])) in
@@ -54,9 +54,9 @@ pub data Placed (R : ℕ → Boolean → Type 0) : ℕ → Vector → Type 0 whe
   on_join : {end : ℕ} {j : Join} {p q : Vector} → Placed R (end - 1 - size q) p → Placed R (end - 1) q
       → size (join j p q) ≤ end → Placed R end (join j p q)
   behind : {end : ℕ} {p : Vector} {c : Boolean} → Placed R (end - 1 - width c) p → R (end - 1) c
-      → size (while on-right p c) ≤ end → Placed R end (while on-right p c)
+      → size (while on_right p c) ≤ end → Placed R end (while on_right p c)
   ahead : {end : ℕ} {p : Vector} {c : Boolean} → Placed R (end - 1) p → R (end - 1 - size p) c
-      → size (while on-left p c) ≤ end → Placed R end (while on-left p c)
+      → size (while on_left p c) ≤ end → Placed R end (while on_left p c)
 
 pub placed_fits : {R : ℕ → Boolean → Type 0} {end : ℕ} {p : Vector} → Placed R end p → size p ≤ end
 placed_fits (on_edge r l) = l
@@ -88,7 +88,7 @@ module _ (t : List ℕ) (names : ℕ) where
 
   edge_stands : (end : ℕ) → EndsVector t names end → 64 ≤ get_or t (end - 1) 0 → Stands end
   edge_stands end h k =
-      let e = edge-is t names end h k in
+      let e = edge_is t names end h k in
       rw e (on_edge (record { is = refl; ends = operand_ends t names end h k }) (rw e at (fits end h)))
 
   before_stands : (end m : ℕ) → EndsVector t names end → get_or t (end - 1) 0 ≡ 57 → Start t names (end - 1) m

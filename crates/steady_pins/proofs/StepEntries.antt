@@ -31,13 +31,13 @@ pin_before before mine e = rw (eq-eqb mine 0 e) (go (equal? before 0))
     go (inl d) = rw (eq-eqb before 0 d) d
     go (inr d) = rw (ne_eqb before 0 d) refl
 
-and-true : (q : Bool) → q ≡ (q && true)
-and-true true = refl
-and-true false = refl
+and_true : (q : Bool) → q ≡ (q && true)
+and_true true = refl
+and_true false = refl
 
 pub looked : (end : ℕ) (p : Vector) {places : List ℕ} {changing : Bool} → places ≡ own end p (replicate 32 0)
     → changing ≡ moves p → record { places = places; changing = changing } ≡ stepped end p alone
-looked end p e h = λ i. record { places = e i; changing = (h ∙ and-true (moves p)) i }
+looked end p e h = λ i. record { places = e i; changing = (h ∙ and_true (moves p)) i }
 
 -- the step, and then what was before it, by what was tested
 module _ (mine before : Beside) {l : List ℕ}
@@ -51,7 +51,7 @@ module _ (mine before : Beside) {l : List ℕ}
 pub alone_passed : {end : ℕ} {p : Vector} (b : Beside) → Placed (λ i c. 0 < i) end p → length b.places ≡ 32
     → passed (stepped end p alone) b ≡ stepped end p b
 alone_passed {p = p} b h w =
-    λ i. record { places = own_listed h b.places w i; changing = sym (and-true (moves p)) i && b.changing }
+    λ i. record { places = own_listed h b.places w i; changing = sym (and_true (moves p)) i && b.changing }
 
 -- a step's row, by what was tested
 module _ (before mine : Beside) (row : ℕ) (l : List ℕ) where

@@ -5,20 +5,20 @@ use Prim.Native.Nat.{ℕ, zero, suc, ◌-◌}
 use mathlib.Core.Path.{◌≡◌, refl, sym}
 use mathlib.Core.List.{List, [], ◌∷◌, ◌++◌, map, map-append}
 use lib.ListN.{length, get_or, length-map}
-use Rattle.alf.specs.Expressions.{Join, followed-by, either_order, with-or-then, any_order, with, or_else}
+use Rattle.alf.specs.Expressions.{Join, followed_by_join, either_order, with_or_then, any_order, with, or_else}
 use Rattle.alf.specs.Alternatives.{Step, Alternative, each, padded, zipped, overlaid, rewritten}
 
 -- for each left one, each right one
 module _ (g : Alternative → Alternative → Alternative) (h : Alternative → Alternative)
     (same : (x y : Alternative) → g (h x) (h y) ≡ h (g x y)) where
-  each-one : (x : Alternative) (ys : List Alternative) → map (g (h x)) (map h ys) ≡ map h (map (g x) ys)
-  each-one x [] = refl
-  each-one x (y ∷ ys) = rw (same x y, each-one x ys) refl
+  each_one : (x : Alternative) (ys : List Alternative) → map (g (h x)) (map h ys) ≡ map h (map (g x) ys)
+  each_one x [] = refl
+  each_one x (y ∷ ys) = rw (same x y, each_one x ys) refl
 
   pub each_on : (xs ys : List Alternative) → each g (map h xs) (map h ys) ≡ map h (each g xs ys)
   unfolding each
   each_on [] ys = refl
-  each_on (x ∷ xs) ys = rw (each-one x ys, each_on xs ys) (sym (map-append h (map (g x) ys) (each g xs ys)))
+  each_on (x ∷ xs) ys = rw (each_one x ys, each_on xs ys) (sym (map-append h (map (g x) ys) (each g xs ys)))
 
 module _ (f : Step → Step) where
   abbrev pub steps_on : Alternative → Alternative
@@ -68,9 +68,9 @@ module _ (f : Step → Step) where
     pub rewritten_on : (j : Join) (xs ys : List Alternative)
         → rewritten j (map steps_on xs) (map steps_on ys) ≡ map steps_on (rewritten j xs ys)
     unfolding rewritten
-    rewritten_on followed-by xs ys = chain_on xs ys
+    rewritten_on followed_by_join xs ys = chain_on xs ys
     rewritten_on either_order xs ys = both_on (each ◌++◌ xs ys) (each ◌++◌ ys xs) (chain_on xs ys) (chain_on ys xs)
-    rewritten_on with-or-then xs ys =
+    rewritten_on with_or_then xs ys =
         both_on (each overlaid xs ys) (each ◌++◌ xs ys) (overlap_on xs ys) (chain_on xs ys)
     rewritten_on any_order xs ys =
         both_on (each ◌++◌ xs ys ++ each overlaid xs ys) (each ◌++◌ ys xs)

@@ -26,7 +26,7 @@ use Rattle.alf.proofs.Parts.{made_last}
 use Rattle.alf.proofs.StackTops.{edge_top, name_top}
 use Rattle.trees.specs.Parts.{Ends, EndsBoolean, EndsVector, vector_at, Start}
 use Rattle.trees.proofs.Starts.{of_boolean, ends_pos}
-use Rattle.trees.proofs.Vectors.{Joined, vector_pos, right_ends, edge-is, join_is}
+use Rattle.trees.proofs.Vectors.{Joined, vector_pos, right_ends, edge_is, join_is}
 use Rattle.steady_pins.specs.Finding.{StepAt, named, own}
 use Rattle.steady_pins.proofs.Starting.{vector_start}
 
@@ -129,7 +129,7 @@ module _ (t : List ℕ) (names end : ℕ) where
 
   pub edge_step : EndsVector t names end → 64 ≤ get_or t (end - 1) 0 → is_step_lem (vector_at t names end) ≡ true
   unfolding is_step_lem
-  edge_step h k = rw (edge-is t names end h k) refl
+  edge_step h k = rw (edge_is t names end h k) refl
 
   pub no_step : EndsVector t names end → get_or t (end - 1) 0 < 64 → (get_or t (end - 1) 0 ≡ 54 → ⊥)
       → is_step_lem (vector_at t names end) ≡ false
@@ -194,7 +194,7 @@ module _ (t : List ℕ) (names end : ℕ) where
   pub edge_moves : EndsVector t names end → 64 ≤ get_or t (end - 1) 0
       → moves (vector_at t names end) ≡ is_changing (edge_at (get_or t (end - 1) 0 - 64))
   unfolding moves
-  edge_moves h k = ap moves (edge-is t names end h k)
+  edge_moves h k = ap moves (edge_is t names end h k)
 
   pub with_moves : {m : ℕ} → WithStep t names end m
       → moves (vector_at t names end) ≡ (moves (vector_at t names m) || moves (vector_at t names (end - 1)))
@@ -223,14 +223,14 @@ module _ (t : List ℕ) (names end : ℕ) where
   unfolding own named
   name_own l h k u =
       let c = operand_ends h k in
-      rw (edge-is t names end h k, (name_top names _ (operand_byte c) c.whole u).is) refl
+      rw (edge_is t names end h k, (name_top names _ (operand_byte c) c.whole u).is) refl
 
   pub other_own : (l : List ℕ) → EndsVector t names end → 64 ≤ get_or t (end - 1) 0
       → 32 ≤ get_or t (end - 1 - 1) 0 → own end (vector_at t names end) l ≡ l
   unfolding own
   other_own l h k u =
       let c = operand_ends h k in
-      rw (edge-is t names end h k) (plain names _ (end - 1) l (operand_byte c) c.whole u)
+      rw (edge_is t names end h k) (plain names _ (end - 1) l (operand_byte c) c.whole u)
 
   pub with_own : {m : ℕ} (l : List ℕ) → WithStep t names end m
       → own end (vector_at t names end) l

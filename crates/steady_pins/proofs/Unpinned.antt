@@ -7,7 +7,7 @@ use lib.ListN.{get_or}
 use borrow.Author.Tests.{eq-eqb}
 use Rattle.alf.specs.Expressions.{Boolean, Vector}
 use Rattle.trees.specs.Parts.{EndsVector, vector_at, boolean_at, Start}
-use Rattle.trees.proofs.Vectors.{Conditioned, Joined, edge-is, before_is, before_ends}
+use Rattle.trees.proofs.Vectors.{Conditioned, Joined, edge_is, before_is, before_ends}
 use Rattle.steady_pins.specs.Pinned.{pinned, by_places}
 use Rattle.steady_pins.proofs.Starting.{vector_start, boolean_start}
 use Rattle.steady_pins.proofs.TreeInduction.{Cases, by_parts}
@@ -25,7 +25,7 @@ module _ (pins : List ℕ) (none : (i : ℕ) → get_or pins i 0 ≡ 0) where
 
     edge_written : (end : ℕ) → EndsVector t names end → 64 ≤ get_or t (end - 1) 0 → Written end
     unfolding by_places
-    edge_written end h k = rw (edge-is t names end h k) (pinned_none (boolean_at t names) 32 end _)
+    edge_written end h k = rw (edge_is t names end h k) (pinned_none (boolean_at t names) 32 end _)
 
     before_written : (end m : ℕ) → EndsVector t names end → get_or t (end - 1) 0 ≡ 57 → Start t names (end - 1) m
         → Written (end - 1)

@@ -12,7 +12,7 @@ use mathlib.Core.List.{List}
 use mathlib.Core.Logic.{◌⊎◌, inl, inr}
 use lib.ListN.{length, get_or}
 use Rattle.basics.proofs.Bools.{never, equal?}
-use Rattle.alf.specs.Expressions.{Vector, edge, join, while, on-right, on-left}
+use Rattle.alf.specs.Expressions.{Vector, edge, join, while, on_right, on_left}
 use Rattle.alf.specs.Steady.{is_then, is_step_lem}
 use Rattle.alf.specs.Decoder.{join_at, top_boolean, under, stack_at}
 use Rattle.trees.specs.Parts.{EndsVector, vector_at, boolean_at, Start}
@@ -149,8 +149,8 @@ stop_marked : (end : ℕ) (p : Vector) (before after : Beside) (l : List ℕ) �
 unfolding marked is_chain
 stop_marked end (edge e c) before after l n h = never (sym (unfold is_step_lem in h))
 stop_marked end (join j p q) before after l n h = rw (n, h) refl
-stop_marked end (while on-right p c) before after l n h = refl
-stop_marked end (while on-left p c) before after l n h = refl
+stop_marked end (while on_right p c) before after l n h = refl
+stop_marked end (while on_left p c) before after l n h = refl
 
 pub stop_walked : {end : ℕ} {p : Vector} {run none : Run} {rows rows' l l' : List ℕ} → length l ≡ 8192
     → is_chain p ≡ false → is_step_lem p ≡ false → none ≡ begun → Apart end p l rows' l'

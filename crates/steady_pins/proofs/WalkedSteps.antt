@@ -1,5 +1,5 @@
 -- The walk comes to a step of a tree.
---   step-next                               the step is next
+--   step_next                               the step is next
 --   step_many, step_row, step_rows          there is room for its row, and the run's rows are rows of the table
 --   step_walked                             the walk over the step
 use Prim.Native.Nat.{ℕ, ◌+◌, ◌-◌, ◌<◌}
@@ -30,8 +30,8 @@ module _ {tree : List ℕ} {names end : ℕ} {run : Run} {rows l : List ℕ} (h 
       let b = began tree names end (of_vector h.walk.is.ends) in
       omega (arith, b.start.before, vector_start tree names end h.walk.is.ends b.start)
 
-  pub step-next : Next end p run rows l
-  step-next =
+  pub step_next : Next end p run rows l
+  step_next =
       let r = h.walk.ready in
       record {
         placed = placed_map (λ i c o. ends_pos (of_boolean o.ends)) (tree_placed tree names end h.walk.is.ends);
@@ -45,14 +45,14 @@ module _ {tree : List ℕ} {names end : ℕ} {run : Run} {rows l : List ℕ} (h 
       }
 
   pub step_many : run.many < 256
-  step_many = omega (arith, step-next.many, step-next.few)
+  step_many = omega (arith, step_next.many, step_next.few)
 
   pub step_row : end - 1 < 256
-  step_row = omega (arith, step-next.many, step-next.few)
+  step_row = omega (arith, step_next.many, step_next.few)
 
   pub step_rows : Rows rows run.many l
   step_rows =
-      let n = step-next in
+      let n = step_next in
       record {
         few = omega (arith, n.many, n.few);
         low = λ k u. let c = n.earlier k u in omega (arith, n.few);
@@ -69,7 +69,7 @@ module _ {tree : List ℕ} {names end : ℕ} {run : Run} {rows l : List ℕ} (h 
       (sym
       (g
       ∙ ap (λ (x : Beside). passed x run.beside) e
-      ∙ alone_passed run.beside step-next.placed step-next.wide))
+      ∙ alone_passed run.beside step_next.placed step_next.wide))
       (subst (Walked end p run rows l (record { beside = stepped end p run.beside; many = run.many + 1 })
       (set rows run.many (end - 1))) (sym (f ∙ ap (λ (x : Beside). own_row run.beside x (end - 1) l₁) e))
-      (step_onward step-next (subst (λ (x : Beside). Followed run.beside x rows run.many l l₁) e s) h.step))
+      (step_onward step_next (subst (λ (x : Beside). Followed run.beside x rows run.many l l₁) e s) h.step))

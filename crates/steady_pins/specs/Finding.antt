@@ -12,7 +12,7 @@ use Rattle.std.proofs.lemmas.List.Edits.{sets}
 use Rattle.basics.specs.Words.{listed}
 use Rattle.alf.specs.declared.Rules.{Rules}
 use Rattle.alf.specs.Expressions.{Boolean, name, literal, negated, binary, choice}
-use Rattle.alf.specs.Expressions.{Vector, edge, join, while, on-right, on-left}
+use Rattle.alf.specs.Expressions.{Vector, edge, join, while, on_right, on_left}
 use Rattle.alf.specs.Bytes.{boolean_bytes, vector_bytes}
 use Rattle.alf.specs.Steady.{is_then, is_step_lem, moves}
 use Rattle.trees.specs.Parts.{EndsVector, vector_at}
@@ -75,8 +75,8 @@ marked end (join j p q) before after l =
     (marked (end - 1 - length (vector_bytes q)) p before (front (end - 1) q after) l)
     else if is_step_lem (join j p q) then step_marked before end (join j p q) after l
     else marked (end - 1) q alone alone (marked (end - 1 - length (vector_bytes q)) p alone alone l)
-marked end (while on-right p c) before after l = marked (end - 1 - length (boolean_bytes c)) p alone alone l
-marked end (while on-left p c) before after l = marked (end - 1) p alone alone l
+marked end (while on_right p c) before after l = marked (end - 1 - length (boolean_bytes c)) p alone alone l
+marked end (while on_left p c) before after l = marked (end - 1) p alone alone l
 
 -- none where the rules have no steady pins
 unfoldable pub pins_of : Rules → List ℕ → ℕ → ℕ → List ℕ

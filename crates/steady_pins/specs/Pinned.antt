@@ -8,7 +8,7 @@
 --   Pins                     each entry is a place where a boolean expression ends
 use Rattle.std.specs.Prelude.{ℕ, zero, suc, ◌+◌, ◌-◌, ◌*◌, ◌<◌, ◌≡◌, not, List, [], ◌∷◌, ◌++◌, eqb, length, get_or, if◌then◌else◌}
 use Rattle.basics.specs.Words.{count}
-use Rattle.alf.specs.Expressions.{Boolean, stays, Vector, edge, join, while, with, on-right, on-left}
+use Rattle.alf.specs.Expressions.{Boolean, stays, Vector, edge, join, while, with, on_right, on_left}
 use Rattle.alf.specs.Bytes.{boolean_bytes, vector_bytes}
 use Rattle.alf.specs.Alternatives.{test, Step}
 use Rattle.trees.specs.Parts.{EndsBoolean}
@@ -38,10 +38,10 @@ module _ (operand : ℕ → Boolean) (pins : List ℕ) where
   by_places end (edge e c) = pinned 32 end (edge e (operand (end - 1)))
   by_places end (join j p q) =
       pinned 32 end (join j (by_places (end - 1 - length (vector_bytes q)) p) (by_places (end - 1) q))
-  by_places end (while on-right p c) =
-      while on-right (by_places (end - 1 - length (boolean_bytes c)) p) (operand (end - 1))
-  by_places end (while on-left p c) =
-      while on-left (by_places (end - 1) p) (operand (end - 1 - length (vector_bytes p)))
+  by_places end (while on_right p c) =
+      while on_right (by_places (end - 1 - length (boolean_bytes c)) p) (operand (end - 1))
+  by_places end (while on_left p c) =
+      while on_left (by_places (end - 1) p) (operand (end - 1 - length (vector_bytes p)))
 
 -- how many of the first n entries there are pins in
 abbrev pub pin_count_lem : List ℕ → ℕ → ℕ → ℕ

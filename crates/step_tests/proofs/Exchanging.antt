@@ -10,7 +10,7 @@ use mathlib.Core.List.{List, [], ◌∷◌, map, map-append}
 use lib.Dec.{eqb}
 use lib.ListN.{length}
 use Rattle.alf.specs.Expressions.{Boolean, literal, the, Edge, pair, stays, Vector, edge, join, while, with}
-use Rattle.alf.specs.Expressions.{on-right, on-left}
+use Rattle.alf.specs.Expressions.{on_right, on_left}
 use Rattle.alf.specs.Bytes.{boolean_bytes, vector_bytes}
 use Rattle.alf.specs.Alternatives.{Test, test, Step, Alternative, conditioned, alternatives}
 use Rattle.steady_pins.specs.Pinned.{pin_at, pinned, by_places}
@@ -82,8 +82,8 @@ module _ (f : Boolean → Boolean) (operand : ℕ → Boolean) (pins : List ℕ)
       pinned_on_lem (λ e. e) f refl operand pins 32 end
       (join j (by_places operand pins (end - 1 - length (vector_bytes q)) p) (by_places operand pins (end - 1) q))
       ∙ rw (placed_on (end - 1 - length (vector_bytes q)) p, placed_on (end - 1) q) refl
-  placed_on end (while on-right p c) = rw (placed_on (end - 1 - length (boolean_bytes c)) p) refl
-  placed_on end (while on-left p c) = rw (placed_on (end - 1) p) refl
+  placed_on end (while on_right p c) = rw (placed_on (end - 1 - length (boolean_bytes c)) p) refl
+  placed_on end (while on_left p c) = rw (placed_on (end - 1) p) refl
 
 -- so alternatives that differ in what the places stand for differ in the operands alone
 pub placed_same : (a b : ℕ → Boolean) (pins : List ℕ) (end : ℕ) (p : Vector)

@@ -30,7 +30,7 @@ use Rattle.step_tests.proofs.Placing.{join_step, join_length, only_step, only_le
 use Rattle.step_tests.proofs.Puts.{put_then, put_lengths}
 use Rattle.step_tests.proofs.PinPuts.{entries_few}
 use Rattle.step_tests.proofs.StepCases.{placing_shaping}
-use Rattle.step_tests.proofs.StepTests.{exact, pins_last, part as part-of}
+use Rattle.step_tests.proofs.StepTests.{exact, pins_last, part as part_of}
 
 turn_length : (how : How) (x y : Alternative) → in_turn how ≡ true → length (put how x y) ≡ length x + length y
 unfolding put in_turn
@@ -111,7 +111,7 @@ module _ {pins t : List ℕ} {names end a j : ℕ} {edges operands : List ℕ} {
         ∙ ap (λ (n : ℕ). n + length third) (length-append first second)
 
     left_placing : Placing pins t names m i l edges operands from
-    left_placing = part-of h (second ++ third) left left_short (join_whole ∙ append_assoc first second third)
+    left_placing = part_of h (second ++ third) left left_short (join_whole ∙ append_assoc first second third)
 
     pub left_stepping : {notes : List ℕ} → Noted pins notes t names end
         → Stepping pins notes t names m i u l edges operands from
@@ -133,8 +133,8 @@ module _ {pins t : List ℕ} {names end a j : ℕ} {edges operands : List ℕ} {
             short = right_short;
             few = h.few;
             long = h.long;
-            edges_room = omega (arith, h.edges_room, b.next-is);
-            operands_room = omega (arith, h.operands_room, b.next-is);
+            edges_room = omega (arith, h.edges_room, b.next_is);
+            operands_room = omega (arith, h.operands_room, b.next_is);
           }
 
       pub right_stepping : {notes : List ℕ} → Noted pins notes t names end
@@ -148,7 +148,7 @@ module _ {pins t : List ℕ} {names end a j : ℕ} {edges operands : List ℕ} {
         last_pins =
             let both = put_then b c in
             let (x, y) = put_lengths both in
-            pins_last h (first ++ second) (entries_few steps j) join_whole both.next-is x y
+            pins_last h (first ++ second) (entries_few steps j) join_whole both.next_is x y
 
         pub join_put : {behind : ℕ} {edges''' operands''' : List ℕ}
             → Put third last edges'' operands'' behind edges''' operands'''
@@ -170,12 +170,12 @@ module _ {pins t : List ℕ} {names end a j : ℕ} {edges operands : List ℕ} {
       go (inl e) = rw e (short_left _ _ _ (rw g.is at h.short))
       go (inr e) = rw e (short_right _ _ _ (rw g.is at h.short))
 
-  only-whole : step_at pins t names end a j
+  only_whole : step_at pins t names end a j
       ≡ step_at pins t names part i j ++ pin_tests name pins (entries_at steps j) end
-  only-whole = only_step pins t names end a j h.chosen.ends g s o z
+  only_whole = only_step pins t names end a j h.chosen.ends g s o z
 
   only_placing : Placing pins t names part i j edges operands from
-  only_placing = part-of h (pin_tests name pins (entries_at steps j) end) o.chosen only_short only-whole
+  only_placing = part_of h (pin_tests name pins (entries_at steps j) end) o.chosen only_short only_whole
 
   pub only_stepping : {notes : List ℕ} → Noted pins notes t names end
       → Stepping pins notes t names part i steps j edges operands from
@@ -191,9 +191,9 @@ module _ {pins t : List ℕ} {names end a j : ℕ} {edges operands : List ℕ} {
     pub only_pins : PinsFit pins end (entries_at steps j) edges' operands' next
     only_pins =
         let (x, y) = put_lengths b in
-        pins_last h (step_at pins t names part i j) (entries_few steps j) only-whole b.next-is x y
+        pins_last h (step_at pins t names part i j) (entries_few steps j) only_whole b.next_is x y
 
     pub only_put : {behind : ℕ} {edges'' operands'' : List ℕ}
         → Put (pin_tests name pins (entries_at steps j) end) next edges' operands' behind edges'' operands''
         → Put (step_at pins t names end a j) from edges operands behind edges'' operands''
-    only_put r = rw only-whole (put_then b r)
+    only_put r = rw only_whole (put_then b r)

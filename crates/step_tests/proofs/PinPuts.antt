@@ -121,8 +121,8 @@ module _ {pins : List ℕ} {end n : ℕ} {edges₀ operands₀ : List ℕ} {from
       ap length (next_tests pins end k) ∙ length-append (pin_tests name pins k end) (one_pin (pin_at pins end k)) in
       let d = fewer pins end (k + 1) n (omega arith) in
       record {
-        edges_room = omega (arith, h.edges_room, g.put.next-is);
-        operands_room = omega (arith, h.operands_room, g.put.next-is);
+        edges_room = omega (arith, h.edges_room, g.put.next_is);
+        operands_room = omega (arith, h.operands_room, g.put.next_is);
       }
 
   pub next_pin : {next : ℕ} {edges' operands' : List ℕ} → k < n

@@ -17,7 +17,7 @@ use Rattle.alf.proofs.OperatorBytes.{edge_byte}
 use Rattle.alf.proofs.StackTops.{edge_top, condition_before_top}
 use Rattle.alf.proofs.Parts.{made_last}
 use Rattle.trees.specs.Parts.{EndsBoolean, EndsVector, vector_at, boolean_at, Start}
-use Rattle.trees.proofs.Vectors.{Conditioned, Joined, vector_pos, edge-is, before_is, before_ends, boolean_under}
+use Rattle.trees.proofs.Vectors.{Conditioned, Joined, vector_pos, edge_is, before_is, before_ends, boolean_under}
 use Rattle.steady_pins.specs.Pinned.{pin_at, pinned, by_places, Pins}
 use Rattle.steady_pins.proofs.Starting.{vector_start, boolean_start}
 use Rattle.steady_pins.proofs.TreeInduction.{by_parts}
@@ -83,8 +83,8 @@ module _ (t : List ℕ) (names : ℕ) where
         let d : edge_number (edge_at (get_or t (end - 1) 0 - 64)) ≡ get_or t (end - 1) 0 - 64 = omega arith in
         let w : EndsBoolean t names (end - 1) = record { within = omega (arith, h.within); whole = u.right } in
         record {
-          back = rw (edge-is t names end h k) (pins_back end _ ∙ rw d refl);
-          each = rw (edge-is t names end h k) (pinned_known 32 end _ (of_edge w));
+          back = rw (edge_is t names end h k) (pins_back end _ ∙ rw d refl);
+          each = rw (edge_is t names end h k) (pinned_known 32 end _ (of_edge w));
         }
 
     before_stands : (end m : ℕ) → EndsVector t names end → get_or t (end - 1) 0 ≡ 57 → Start t names (end - 1) m

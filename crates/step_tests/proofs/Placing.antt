@@ -9,12 +9,12 @@ use mathlib.Core.Bool.{Bool, true, false}
 use mathlib.Core.List.{List, [], ◌∷◌, ◌++◌}
 use lib.Dec.{eqb}
 use lib.ListN.{length, get_or}
-use Rattle.alf.specs.Expressions.{Boolean, name, the, Edge, pair, Vector, edge, join, while, Side, on-right, on-left}
+use Rattle.alf.specs.Expressions.{Boolean, name, the, Edge, pair, Vector, edge, join, while, Side, on_right, on_left}
 use Rattle.alf.specs.Expressions.{Join}
 use Rattle.alf.specs.Decoder.{edge_at, join_at}
 use Rattle.alf.specs.Alternatives.{test, Step, Alternative, conditioned, alternatives}
 use Rattle.trees.specs.Parts.{EndsVector, vector_at, Start}
-use Rattle.trees.proofs.Vectors.{Conditioned, Joined, edge-is, before_is, before_ends}
+use Rattle.trees.proofs.Vectors.{Conditioned, Joined, edge_is, before_is, before_ends}
 use Rattle.alternatives.specs.declared.picking.How.{How}
 use Rattle.alternatives.specs.Picks.{put, Picked}
 use Rattle.basics.proofs.Entries.{get_d_map}
@@ -92,7 +92,7 @@ module _ (pins t : List ℕ) (names end a j : ℕ) (h : EndsVector t names end) 
       ≡ test (edge_at (get_or t (end - 1) 0 - 64)) (name (end - 1)) ∷ pin_tests name pins 32 end
   unfolding by_places
   edge_step k l u =
-      rw (edge-is t names end h k)
+      rw (edge_is t names end h k)
       (pinned_step name pins 32 end (edge _ (name (end - 1))) a j ∙ edge_last _ _ (pin_tests name pins 32 end) a j l u)
 
   pub before_step : {m : ℕ} → get_or t (end - 1) 0 ≡ 57 → Start t names (end - 1) m
@@ -103,7 +103,7 @@ module _ (pins t : List ℕ) (names end a j : ℕ) (h : EndsVector t names end) 
   unfolding by_places
   before_step k s l u =
       rw (before_is t names end h k, vector_start t names (end - 1) (before_ends t names end h k) s)
-      (placed_while pins on-left (end - 1) (vector_at t names (end - 1)) _ a j l u)
+      (placed_while pins on_left (end - 1) (vector_at t names (end - 1)) _ a j l u)
 
   pub condition_step : {m : ℕ} → Conditioned t names end m → Start t names (end - 1) m
       → a < length (alternatives (vector_at t names m)) → j < length (get_or (alternatives (vector_at t names m)) a [])
@@ -112,7 +112,7 @@ module _ (pins t : List ℕ) (names end a j : ℕ) (h : EndsVector t names end) 
   unfolding by_places
   condition_step {m} c s l u =
       rw (c.is, boolean_start t names (end - 1) c.right s)
-      (placed_while pins on-right m (vector_at t names m) _ a j l u)
+      (placed_while pins on_right m (vector_at t names m) _ a j l u)
 
   module _ {m : ℕ} (g : Joined t names end m) (s : Start t names (end - 1) m) where
     abbrev left : Vector

@@ -20,14 +20,14 @@ use Rattle.step_tests.specs.OperandPlaces.{place_of, edge_of, end_of, numbers, e
 use Rattle.step_tests.specs.Steps.{step_at, Placing, Put, OnePut}
 
 pub put_none : {from : ℕ} {edges operands : List ℕ} → Put [] from edges operands from edges operands
-put_none = record { next-is = sym (add-zero _); edges-is = refl; operands_is = refl }
+put_none = record { next_is = sym (add-zero _); edges_is = refl; operands_is = refl }
 
 pub put_one : {e : Edge} {k place from next : ℕ} {edges operands edges' operands' : List ℕ}
     → edge_number e ≡ k
     → OnePut k place from edges operands next edges' operands'
     → Put (test e (name place) ∷ []) from edges operands next edges' operands'
 unfolding edge_of end_of place_of
-put_one d h = record { next-is = h.next-is; edges-is = rw d h.edges-is; operands_is = h.operands_is }
+put_one d h = record { next_is = h.next_is; edges_is = rw d h.edges_is; operands_is = h.operands_is }
 
 sets_then : (f : Test → ℕ) (s u : Step) (from : ℕ) (l : List ℕ) {next : ℕ} {l' l'' : List ℕ}
     → next ≡ from + length s
@@ -41,16 +41,16 @@ pub put_then : {s u : Step} {from next last : ℕ} {edges operands edges' operan
     → Put (s ++ u) from edges operands last edges'' operands''
 put_then {s} {u} {from} {edges = edges} {operands = operands} h k =
     record {
-      next-is = let l = length-append s u in omega (arith, h.next-is, k.next-is);
-      edges-is = sets_then edge_of s u from edges h.next-is h.edges-is k.edges-is;
-      operands_is = sets_then end_of s u from operands h.next-is h.operands_is k.operands_is;
+      next_is = let l = length-append s u in omega (arith, h.next_is, k.next_is);
+      edges_is = sets_then edge_of s u from edges h.next_is h.edges_is k.edges_is;
+      operands_is = sets_then end_of s u from operands h.next_is h.operands_is k.operands_is;
     }
 
 pub put_lengths : {s : Step} {from next : ℕ} {edges operands edges' operands' : List ℕ}
     → Put s from edges operands next edges' operands'
     → (length edges' ≡ length edges) × (length operands' ≡ length operands)
 put_lengths {s} {from} {edges = edges} {operands = operands} h = (
-  ap length h.edges-is ∙ length-sets edges from (numbers s),
+  ap length h.edges_is ∙ length-sets edges from (numbers s),
   ap length h.operands_is ∙ length-sets operands from (ends s),
 )
 
@@ -58,7 +58,7 @@ pub one_lengths : {k place from next : ℕ} {edges operands edges' operands' : L
     → OnePut k place from edges operands next edges' operands'
     → (length edges' ≡ length edges) × (length operands' ≡ length operands)
 one_lengths {k} {place} {from} {edges = edges} {operands = operands} h = (
-  ap length h.edges-is ∙ length-set edges from k,
+  ap length h.edges_is ∙ length-set edges from k,
   ap length h.operands_is ∙ length-set operands from place,
 )
 

@@ -7,7 +7,7 @@ use native.Mathlib.Omega.{arith}
 use mathlib.Core.Path.{◌≡◌, refl, ap, sym, ◌∙◌}
 use mathlib.Core.List.{List, [], ◌∷◌, ◌++◌}
 use lib.ListN.{length, get_or, length-append}
-use Rattle.alf.specs.Expressions.{Boolean, name, the, Edge, pair, Vector, edge, while, Side, on-right, on-left}
+use Rattle.alf.specs.Expressions.{Boolean, name, the, Edge, pair, Vector, edge, while, Side, on_right, on_left}
 use Rattle.alf.specs.Bytes.{edge_number, half_number}
 use Rattle.alf.specs.Decoder.{edge_at}
 use Rattle.alf.specs.Alternatives.{test, Step, conditioned, alternatives, steps_of}
@@ -19,7 +19,7 @@ use Rattle.basics.proofs.Entries.{get_d_map}
 use Rattle.acceptance.proofs.CappedCounts.{number_edge}
 use Rattle.alf.proofs.Growth.{while_part}
 use Rattle.trees.specs.Parts.{EndsVector, vector_at, Start}
-use Rattle.trees.proofs.Vectors.{Conditioned, edge-is, before_is, vector_pos}
+use Rattle.trees.proofs.Vectors.{Conditioned, edge_is, before_is, vector_pos}
 use Rattle.steady_pins.specs.Pinned.{pin_tests}
 use Rattle.steady_pins.proofs.PinnedAlternatives.{placed_length}
 use Rattle.acceptance.specs.Sizes.{alternative_at, Chosen, ShapedAt}
@@ -63,7 +63,7 @@ one_step e c (suc a) = omega arith
 
 edge_short : (t : List ℕ) (names end a : ℕ) → EndsVector t names end → 64 ≤ get_or t (end - 1) 0
     → length (get_or (alternatives (vector_at t names end)) a []) ≤ 1
-edge_short t names end a h k = rw (edge-is t names end h k) (one_step _ _ a)
+edge_short t names end a h k = rw (edge_is t names end h k) (one_step _ _ a)
 
 -- the test that a condition adds
 abbrev pub held : ℕ → Step
@@ -79,8 +79,8 @@ module _ {s whole : Step} {m from next : ℕ} {edges operands edges' operands' :
       let d = ap length e ∙ length-append s (held m) in
       record {
         small = k;
-        edges_room = omega (arith, p.next-is);
-        operands_room = omega (arith, p.next-is);
+        edges_room = omega (arith, p.next_is);
+        operands_room = omega (arith, p.next_is);
       }
 
   pub held_put : {last : ℕ} {edges'' operands'' : List ℕ}
@@ -131,7 +131,7 @@ module _ {pins t : List ℕ} {names end a j : ℕ} {edges operands : List ℕ} {
 
     edge_whole : step_at pins t names end a j ≡ one ++ pin_tests name pins 32 end
     edge_whole =
-        let n = rw (edge-is t names end h.chosen.ends k, number_edge) at h.chosen.there in
+        let n = rw (edge_is t names end h.chosen.ends k, number_edge) at h.chosen.there in
         let d = placed_length name pins end (vector_at t names end) a in
         let s = edge_short t names end a h.chosen.ends k in
         edge_step pins t names end a j h.chosen.ends k n (omega arith)
@@ -150,7 +150,7 @@ module _ {pins t : List ℕ} {names end a j : ℕ} {edges operands : List ℕ} {
       pub edge_pins : PinsFit pins end 32 edges' operands' next
       edge_pins =
           let (x, y) = one_lengths q in
-          pins_last one (omega arith) edge_whole q.next-is x y
+          pins_last one (omega arith) edge_whole q.next_is x y
 
       pub edge_put : {last : ℕ} {edges'' operands'' : List ℕ}
           → Put (pin_tests name pins 32 end) next edges' operands' last edges'' operands''
@@ -164,13 +164,13 @@ module _ {pins t : List ℕ} {names end a j : ℕ} {edges operands : List ℕ} {
       (o : j < length (alternative_at name pins t names end a)) where
     before_there : j < length (get_or (alternatives (vector_at t names (end - 1))) a [])
     before_there =
-        while_there on-left _ _ a j (chosen_there (before_chosen t names end a h.chosen k))
+        while_there on_left _ _ a j (chosen_there (before_chosen t names end a h.chosen k))
         (rw (before_is t names end h.chosen.ends k) at (rw (placed_length name pins end _ a) at o))
 
     pub before_same : length (alternative_at name pins t names (end - 1) a)
         ≡ length (alternative_at name pins t names end a)
     before_same =
-        let e = while_length on-left _ _ a (chosen_there (before_chosen t names end a h.chosen k)) in
+        let e = while_length on_left _ _ a (chosen_there (before_chosen t names end a h.chosen k)) in
         placed_length name pins (end - 1) (vector_at t names (end - 1)) a
         ∙ sym (placed_length name pins end (vector_at t names end) a
         ∙ rw (before_is t names end h.chosen.ends k) e)
@@ -183,18 +183,18 @@ module _ {pins t : List ℕ} {names end a j : ℕ} {edges operands : List ℕ} {
     pub before_placing : Placing pins t names (end - 1) a j edges operands from
     before_placing =
         part (held m) (before_chosen t names end a h.chosen k)
-        (while_short on-left _ _ (rw (before_is t names end h.chosen.ends k) at h.short)) before_whole
+        (while_short on_left _ _ (rw (before_is t names end h.chosen.ends k) at h.short)) before_whole
 
   module _ {m : ℕ} (s : Start t names (end - 1) m) (c : Conditioned t names end m)
       (o : j < length (alternative_at name pins t names end a)) where
     condition_there : j < length (get_or (alternatives (vector_at t names m)) a [])
     condition_there =
-        while_there on-right _ _ a j (chosen_there (condition_chosen t names end a h.chosen c))
+        while_there on_right _ _ a j (chosen_there (condition_chosen t names end a h.chosen c))
         (rw c.is at (rw (placed_length name pins end _ a) at o))
 
     pub condition_same : length (alternative_at name pins t names m a) ≡ length (alternative_at name pins t names end a)
     condition_same =
-        let e = while_length on-right _ _ a (chosen_there (condition_chosen t names end a h.chosen c)) in
+        let e = while_length on_right _ _ a (chosen_there (condition_chosen t names end a h.chosen c)) in
         placed_length name pins m (vector_at t names m) a
         ∙ sym (placed_length name pins end (vector_at t names end) a ∙ rw c.is e)
 
@@ -206,4 +206,4 @@ module _ {pins t : List ℕ} {names end a j : ℕ} {edges operands : List ℕ} {
     pub condition_placing : Placing pins t names m a j edges operands from
     condition_placing =
         part (held (end - 1)) (condition_chosen t names end a h.chosen c)
-        (while_short on-right _ _ (rw c.is at h.short)) condition_whole
+        (while_short on_right _ _ (rw c.is at h.short)) condition_whole

@@ -58,8 +58,8 @@ pub record LeftAsked (pins notes tree : List ℕ) (names left i : ℕ) (how : Ho
 -- the tests of a step from a place on, the place behind them, and the lists as they were before and behind
 pub record Put (s : Step) (from : ℕ) (edges operands : List ℕ) (next : ℕ) (edges' operands' : List ℕ)
     : Type 0 where
-  pub next-is : next ≡ from + length s
-  pub edges-is : edges' ≡ sets edges from (numbers s)
+  pub next_is : next ≡ from + length s
+  pub edges_is : edges' ≡ sets edges from (numbers s)
   pub operands_is : operands' ≡ sets operands from (ends s)
 
 -- step j of an alternative of n steps behind some empty ones is its own step r
@@ -80,8 +80,8 @@ pub record Fits (place : ℕ) (edges operands : List ℕ) (from : ℕ) : Type 0 
 
 pub record OnePut (k place from : ℕ) (edges operands : List ℕ) (next : ℕ) (edges' operands' : List ℕ)
     : Type 0 where
-  pub next-is : next ≡ from + 1
-  pub edges-is : edges' ≡ set edges from k
+  pub next_is : next ≡ from + 1
+  pub edges_is : edges' ≡ set edges from k
   pub operands_is : operands' ≡ set operands from place
 
 -- the test of a pin, none for 0: there is room for it; and for those of the first n entries of a part

@@ -4,17 +4,17 @@
 --   told, told_expression, told_trace, told_changes, told_answer     what is told of each kind of result
 use Rattle.std.specs.Prelude.{Bool, true, false, ◌≡◌}
 use Rattle.alf.specs.declared.Sort.{Sort}
-use Rattle.alf.specs.declared.Sort.TheVariants as the-sort
+use Rattle.alf.specs.declared.Sort.TheVariants as the_sort
 use Rattle.basics.specs.declared.Outcome.{Outcome}
 use Rattle.basics.specs.declared.Outcome.TheVariants.{Done, Refused}
 use Rattle.reader.specs.declared.Read.{Read}
 use Rattle.trace_reader.specs.declared.Reading.{Reading}
-use Rattle.trace_reader.specs.declared.Reading.TheVariants as the-reading
+use Rattle.trace_reader.specs.declared.Reading.TheVariants as the_reading
 use Rattle.changes.specs.declared.RowChanges.{RowChanges}
-use Rattle.changes.specs.declared.RowChanges.TheVariants as the-changes
+use Rattle.changes.specs.declared.RowChanges.TheVariants as the_changes
 use Rattle.alf.specs.Answers.{number_of}
 use Rattle.row_calls.specs.declared.written.Told as written
-use Rattle.row_calls.specs.declared.written.Told.TheVariants as the-answer
+use Rattle.row_calls.specs.declared.written.Told.TheVariants as the_answer
 use Rattle.telling.specs.declared.Told.{Told}
 use Rattle.telling.specs.declared.Expression.{Expression}
 use Rattle.telling.specs.declared.Trace.{Trace}
@@ -28,8 +28,8 @@ pub record Hands {A B : Type 0} (allowed : A → Type 0) (tell : A → B) (r : B
   pub is_told : r ≡ tell result
 
 unfoldable pub sort_of_lem : Bool → Sort
-sort_of_lem true = the-sort.Vector
-sort_of_lem false = the-sort.Boolean
+sort_of_lem true = the_sort.Vector
+sort_of_lem false = the_sort.Boolean
 
 unfoldable pub told : Outcome → Told
 told (Done n) = record { number = 0; place = 0; count = n }
@@ -47,13 +47,13 @@ told_expression r =
     }
 
 unfoldable pub told_trace : Reading → Trace
-told_trace (the-reading.Read k n) = record { number = 0; place = 0; names = k; rows = n }
-told_trace (the-reading.Refused r) = record { number = r.number; place = r.place; names = 0; rows = 0 }
+told_trace (the_reading.Read k n) = record { number = 0; place = 0; names = k; rows = n }
+told_trace (the_reading.Refused r) = record { number = r.number; place = r.place; names = 0; rows = 0 }
 
 unfoldable pub told_changes : RowChanges → Changed
-told_changes (the-changes.Changed c) = record { number = 0; place = 0; mask = c.mask; many = c.many }
-told_changes (the-changes.Refused r) = record { number = r.number; place = r.place; mask = 0; many = 0 }
+told_changes (the_changes.Changed c) = record { number = 0; place = 0; mask = c.mask; many = c.many }
+told_changes (the_changes.Refused r) = record { number = r.number; place = r.place; mask = 0; many = 0 }
 
 unfoldable pub told_answer : written.Told → Answered
-told_answer (the-answer.Answered a) = record { number = 0; place = 0; answer = number_of a }
-told_answer (the-answer.Refused r) = record { number = r.number; place = r.place; answer = 0 }
+told_answer (the_answer.Answered a) = record { number = 0; place = 0; answer = number_of a }
+told_answer (the_answer.Refused r) = record { number = r.number; place = r.place; answer = 0 }

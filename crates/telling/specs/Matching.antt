@@ -10,7 +10,7 @@ use Rattle.timed_queue.specs.declared.queues.Queue as updates
 use Rattle.matching_calls.specs.declared.matching.Matching.{Matching}
 use Rattle.matching_calls.specs.declared.matching.Matching.TheVariants as the_match
 use Rattle.matching_calls.specs.declared.matching.Counting.{Counting}
-use Rattle.matching_calls.specs.declared.matching.Counting.TheVariants as the-counts
+use Rattle.matching_calls.specs.declared.matching.Counting.TheVariants as the_counts
 use Rattle.queue_calls.specs.declared.pushing.Pushing.{Pushing}
 use Rattle.queue_calls.specs.Pushing.{Push}
 use Rattle.telling.specs.declared.Matched.{Matched}
@@ -32,9 +32,9 @@ told_match (the_match.Refused r) =
     record { number = r.number; place = r.place; answer = 0; tries = 0; given = 0; began = 0 }
 
 unfoldable pub told_counts : Counting → Counted
-told_counts (the-counts.Counted t) =
+told_counts (the_counts.Counted t) =
     record { number = 0; place = 0; yes = t.yes; no = t.no; unknown = t.unknown }
-told_counts (the-counts.Refused r) =
+told_counts (the_counts.Refused r) =
     record { number = r.number; place = r.place; yes = 0; no = 0; unknown = 0 }
 
 -- a queue as C holds it

@@ -59,11 +59,11 @@ module _ (i last : ℕ) (w : Word) (ws : List Word) where
   tells_step = go (is_changed w.bytes) refl (ltb 0 last)
     where
       go : (x : Bool) → is_changed w.bytes ≡ x → (y : Bool) → tells_left last (w ∷ ws) ≡ tells_left next ws
-      go true e y = rw (e, lt-ltb 0 (i + 1) (omega arith)) (or-true (ltb 0 last))
+      go true e y = rw (e, lt-ltb 0 (i + 1) (omega arith)) (or_true (ltb 0 last))
         where
-          or-true : (b : Bool) → (b || true) ≡ true
-          or-true true = refl
-          or-true false = refl
+          or_true : (b : Bool) → (b || true) ≡ true
+          or_true true = refl
+          or_true false = refl
       go false e y = rw e refl
 
 pub record Counting (text : List ℕ) (p i last start end : ℕ) : Type 0 where

@@ -1,6 +1,6 @@
 -- The names of a head, looked at one after the other.
 --   name_word                                  name i is word i + 1 of the line
---   not_named, Newing, newing_first, repeated, newing_next, new-all     whether it is a name, and no earlier one
+--   not_named, Newing, newing_first, repeated, newing_next, new_all     whether it is a name, and no earlier one
 use Prim.Native.Nat.{ℕ, zero, suc, ◌+◌, ◌-◌, ◌<◌, ◌≤◌}
 use native.Mathlib.Omega.{arith}
 use mathlib.Core.Path.{◌≡◌, refl, sym, ap, ◌∙◌}
@@ -92,8 +92,8 @@ module _ {text : List ℕ} {p i s e : ℕ} (w : WordIs text p i s e) where
             let q : m ≡ j = omega arith in
             λ r. never (sym x ∙ y (sym (there h) ∙ ap (λ (v : ℕ). (get_or names v none).bytes) (sym q) ∙ r ∙ here))
 
-    pub new-all : {b : Bool} → i ≤ j → b ≡ is_name (take (e - s) (drop s text)) → b ≡ true
+    pub new_all : {b : Bool} → i ≤ j → b ≡ is_name (take (e - s) (drop s text)) → b ≡ true
         → Decides true (NewName names i)
-    new-all h y x =
+    new_all h y x =
         let q : j ≡ i = omega (arith, g.within) in
         holds (record { name = ap is_name here ∙ sym y ∙ x; new = λ m k. g.other m (omega arith) })

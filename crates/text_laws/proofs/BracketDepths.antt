@@ -11,8 +11,8 @@ use lib.Dec.{leb, ltb, lit≤}
 use borrow.Author.Tests.{lt-ltb, le-ltb, le-leb, lt-leb}
 use Rattle.alf.specs.Expressions.{Boolean, name, literal, negated, binary, choice, Vector, edge, join, while}
 use Rattle.alf.specs.Expressions.{Binary, and, or, xor, xnor, equals, differs, above, below, is_at_least, is_at_most}
-use Rattle.alf.specs.Expressions.{Join, followed-by, either_order, with-or-then, any_order, with, or_else}
-use Rattle.alf.specs.Expressions.{on-right, on-left, Expression, boolean, vector}
+use Rattle.alf.specs.Expressions.{Join, followed_by_join, either_order, with_or_then, any_order, with, or_else}
+use Rattle.alf.specs.Expressions.{on_right, on_left, Expression, boolean, vector}
 use Rattle.alf.specs.Bytes.{binary_byte}
 use Rattle.basics.proofs.Bools.{below?}
 use Rattle.grammar.specs.Tokens.{table, kind_in, kind}
@@ -55,9 +55,9 @@ binary_level_lem is_at_most = refl
 
 join_level_lem : (j : Join) → text.level_of (kind (join_code j)) ≡ join_level j
 unfolding kind kind_in table join_code join_level
-join_level_lem followed-by = refl
+join_level_lem followed_by_join = refl
 join_level_lem either_order = refl
-join_level_lem with-or-then = refl
+join_level_lem with_or_then = refl
 join_level_lem any_order = refl
 join_level_lem with = refl
 join_level_lem or_else = refl
@@ -77,9 +77,9 @@ binary_between is_at_most = (lit≤ tt, lit≤ tt)
 
 join_between : (j : Join) → (2 ≤ join_level j) × (join_level j ≤ 6)
 unfolding join_level
-join_between followed-by = (lit≤ tt, lit≤ tt)
+join_between followed_by_join = (lit≤ tt, lit≤ tt)
 join_between either_order = (lit≤ tt, lit≤ tt)
-join_between with-or-then = (lit≤ tt, lit≤ tt)
+join_between with_or_then = (lit≤ tt, lit≤ tt)
 join_between any_order = (lit≤ tt, lit≤ tt)
 join_between with = (lit≤ tt, lit≤ tt)
 join_between or_else = (lit≤ tt, lit≤ tt)
@@ -131,11 +131,11 @@ vector_depth_lem (join j p q) l h =
     let k = (join_between j).0 in
     two_depth l (join_level j) (join_code j) (vector_tree p) (vector_tree q) (vector (join j p q)) (join_level_lem j)
     refl (vector_depth_lem p _ (omega arith)) (vector_depth_lem q _ (omega arith))
-vector_depth_lem (while on-right p c) l h =
-    two_depth l 3 40 (vector_tree p) (boolean_tree c) (vector (while on-right p c)) (join_level_lem with)
+vector_depth_lem (while on_right p c) l h =
+    two_depth l 3 40 (vector_tree p) (boolean_tree c) (vector (while on_right p c)) (join_level_lem with)
     refl (vector_depth_lem p 3 (lit≤ tt)) (boolean_depth_lem c 2 (lit≤ tt))
-vector_depth_lem (while on-left p c) l h =
-    two_depth l 3 40 (boolean_tree c) (vector_tree p) (vector (while on-left p c)) (join_level_lem with)
+vector_depth_lem (while on_left p c) l h =
+    two_depth l 3 40 (boolean_tree c) (vector_tree p) (vector (while on_left p c)) (join_level_lem with)
     refl (boolean_depth_lem c 3 (lit≤ tt)) (vector_depth_lem p 2 (lit≤ tt))
 
 pub tree_depth : (e : Expression) → text.depth_of 6 (tree_of e) ≡ depth_of e

@@ -14,7 +14,7 @@ use lib.ListN.{length}
 use Rattle.alf.specs.Names.{names_in}
 use Rattle.alf.specs.declared.Rules.{Rules}
 use Rattle.alf.specs.declared.Sort.{Sort}
-use Rattle.alf.specs.declared.Sort.TheVariants as the-sort
+use Rattle.alf.specs.declared.Sort.TheVariants as the_sort
 use Rattle.alf.specs.Expressions.{Expression, boolean, vector, ExpressionOver}
 use Rattle.alf.specs.Alternatives.{alternatives, over_limit}
 use Rattle.alf.specs.Steady.{meant}
@@ -54,11 +54,11 @@ record Fits (q : Sorted) (sort : Sort) (x : Expression) : Type 0 where
 
 asked_fits : (sort : Sort) (bytes : ℕ) (x y : Expression) → asked sort bytes x ≡ is y → Fits (is x) sort y
 unfolding asked sort_of_lem
-asked_fits the-sort.Boolean b (boolean c) y e =
+asked_fits the_sort.Boolean b (boolean c) y e =
     let z : boolean c ≡ y = cc in rw (sym z) (record { was = refl; sort_is = refl })
-asked_fits the-sort.Boolean b (vector p) y e = let z : ◌≡◌ {A = ℕ} 0 1 = cc in absurd (omega arith)
-asked_fits the-sort.Vector b (boolean c) y e = let z : ◌≡◌ {A = ℕ} 0 1 = cc in absurd (omega arith)
-asked_fits the-sort.Vector b (vector p) y e =
+asked_fits the_sort.Boolean b (vector p) y e = let z : ◌≡◌ {A = ℕ} 0 1 = cc in absurd (omega arith)
+asked_fits the_sort.Vector b (boolean c) y e = let z : ◌≡◌ {A = ℕ} 0 1 = cc in absurd (omega arith)
+asked_fits the_sort.Vector b (vector p) y e =
     let z : vector p ≡ y = cc in rw (sym z) (record { was = refl; sort_is = refl })
 
 given_fits : (sort : Sort) (bytes : ℕ) (q : Sorted) (y : Expression) → given q (asked sort bytes) ≡ is y
@@ -86,8 +86,8 @@ module _ {ρ : Rules} {names text : List ℕ} {sort : Sort} {x : Expression} (go
   unfolding sorted_for
   fits = given_fits sort (length text) (sorted (number_at names text) g.tree) x g.sorts
 
-  same-tokens : bare g.tree ≡ bare (tree_of x)
-  same-tokens = sorted_bare (number_at names text) formed fits.was
+  same_tokens : bare g.tree ≡ bare (tree_of x)
+  same_tokens = sorted_bare (number_at names text) formed fits.was
 
   over : ExpressionOver (names_in names) x
   over =
@@ -98,14 +98,14 @@ module _ {ρ : Rules} {names text : List ℕ} {sort : Sort} {x : Expression} (go
   few = few_counted text g.read (λ p o. g.few p (rw (reads_unique o.read g.read) at o.holds))
 
   few_bytes : length (bytes_of x) ≤ 256
-  few_bytes = omega (arith, nodes_bytes x, same_size g.tree (tree_of x) same-tokens, counted_nodes g.whole, few)
+  few_bytes = omega (arith, nodes_bytes x, same_size g.tree (tree_of x) same_tokens, counted_nodes g.whole, few)
 
   few_brackets : depth_of x ≤ 32
   few_brackets =
       omega (
         arith,
         tree_depth x,
-        same_depth g.tree (tree_of x) same-tokens 6,
+        same_depth g.tree (tree_of x) same_tokens 6,
         written_depth formed,
         written_shallowest g.whole,
         shallow_depth g.read g.shallow,

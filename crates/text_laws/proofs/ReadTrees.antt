@@ -1,5 +1,5 @@
 -- What is read of a text, whatever sort is asked for: a refusal of the text's order, or the bytes of what it gives.
---   read-refused, read_sole                      refused, and with one number at one place
+--   read_refused, read_sole                      refused, and with one number at one place
 --   Found, read_found                            not refused: what was read is the bytes of an expression given
 --   found_front                                  they are the front of the array
 --   found_count, found_within, found_few         as many as is said: no more than the array has, and at most 256
@@ -16,7 +16,7 @@ use lib.ListN.{length, take, replicate, length-take}
 use Rattle.alf.specs.Names.{names_in}
 use Rattle.alf.specs.declared.Rules.{Rules}
 use Rattle.alf.specs.declared.Sort.{Sort}
-use Rattle.alf.specs.declared.Sort.TheVariants as the-sort
+use Rattle.alf.specs.declared.Sort.TheVariants as the_sort
 use Rattle.alf.specs.Expressions.{Boolean, Vector, Expression, boolean, vector}
 use Rattle.alf.specs.Bytes.{bytes_of}
 use Rattle.alf.specs.Decoder.{Decodes}
@@ -36,12 +36,12 @@ use Rattle.reader.proofs.Unique.{read_fixed}
 use Rattle.text_laws.proofs.GivenAccepted.{gives_accepted, gives_decodes}
 
 -- the text is refused
-pub read-refused : {ρ : Rules} {names text : List ℕ} {sort : Sort} {r : Read}
+pub read_refused : {ρ : Rules} {names text : List ℕ} {sort : Sort} {r : Read}
     → ReadsText ρ names text sort r → r.refused ≡ true
     → RefusedIn text (read_order ρ names text sort) r.refusal
 unfolding made refused_by
-read-refused (refused f a) e = a
-read-refused (read a g) e = never e
+read_refused (refused f a) e = a
+read_refused (read a g) e = never e
 
 pub read_sole : (ρ : Rules) (names text : List ℕ) (sort : Sort) → Sole (read_order ρ names text sort)
 read_sole ρ names text sort = sole_fixed (read_order ρ names text sort) (read_fixed ρ names text sort)
@@ -90,8 +90,8 @@ module _ {ρ : Rules} {names text : List ℕ} {sort : Sort} {r : Read} (f : Foun
 
 -- what it is, by the sort
 is_vector : Sort → Bool
-is_vector the-sort.Boolean = false
-is_vector the-sort.Vector = true
+is_vector the_sort.Boolean = false
+is_vector the_sort.Vector = true
 
 pub record IsVector (x : Expression) : Type 0 where
   pub p : Vector
@@ -101,26 +101,26 @@ pub record IsBoolean (x : Expression) : Type 0 where
   pub c : Boolean
   pub is_boolean_lem : x ≡ boolean c
 
-pub sorted_vector : (x : Expression) → sort_of_lem x ≡ the-sort.Vector → IsVector x
+pub sorted_vector : (x : Expression) → sort_of_lem x ≡ the_sort.Vector → IsVector x
 unfolding sort_of_lem is_vector
 sorted_vector (boolean c) s = never (ap is_vector s)
 sorted_vector (vector p) s = record { p = p; is_vector_lem = refl }
 
-pub sorted_boolean : (x : Expression) → sort_of_lem x ≡ the-sort.Boolean → IsBoolean x
+pub sorted_boolean : (x : Expression) → sort_of_lem x ≡ the_sort.Boolean → IsBoolean x
 unfolding sort_of_lem is_vector
 sorted_boolean (boolean c) s = record { c = c; is_boolean_lem = refl }
 sorted_boolean (vector p) s = never (sym (ap is_vector s))
 
-pub found_boolean : {ρ : Rules} {names text : List ℕ} {r : Read} (f : Found ρ names text the-sort.Boolean r)
+pub found_boolean : {ρ : Rules} {names text : List ℕ} {r : Read} (f : Found ρ names text the_sort.Boolean r)
     → IsBoolean f.it
 found_boolean f = sorted_boolean f.it (found_sort f)
 
-pub found_vector : {ρ : Rules} {names text : List ℕ} {r : Read} (f : Found ρ names text the-sort.Vector r)
+pub found_vector : {ρ : Rules} {names text : List ℕ} {r : Read} (f : Found ρ names text the_sort.Vector r)
     → IsVector f.it
 found_vector f = sorted_vector f.it (found_sort f)
 
-module _ {ρ : Rules} {names text : List ℕ} {r : Read} (f : Found ρ names text the-sort.Vector r) where
-  pub vector_given : Gives ρ names text the-sort.Vector (vector (found_vector f).p)
+module _ {ρ : Rules} {names text : List ℕ} {r : Read} (f : Found ρ names text the_sort.Vector r) where
+  pub vector_given : Gives ρ names text the_sort.Vector (vector (found_vector f).p)
   vector_given = rw (found_vector f).is_vector_lem at f.gives
 
   pub vector_decodes : Decodes (names_in names) (take r.len r.tree) (vector (found_vector f).p)

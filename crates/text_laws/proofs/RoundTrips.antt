@@ -3,7 +3,7 @@
 -- 01's accept each that is written.
 --   was_written          what is known of a tree that was written
 --   written_read         a written text is read as the expression that the tree is
---   read-write           so reading a written text gives the tree, byte for byte
+--   read_write           so reading a written text gives the tree, byte for byte
 --   read_write_plain     under document 01's rules that holds of all that is written
 --   read-back            what is read of a written text under some rules, if it is not refused, is the tree
 --   read_again           writing what was read and reading it again gives the same result
@@ -115,15 +115,15 @@ written_read a w =
     let g = was_written w in
     rw g.is (gives_read g.named.passed (rw g.is at g.short) (written_gives g.named a))
 
-pub read-write : {ρ : Rules} {names tree : List ℕ} {sort : Sort} {out out' : List ℕ} {k : ℕ} {r : Read}
+pub read_write : {ρ : Rules} {names tree : List ℕ} {sort : Sort} {out out' : List ℕ} {k : ℕ} {r : Read}
     → Accepted ρ (names_in names) sort tree → Writes names tree sort out out' (Done k)
     → ReadsText ρ names (take k out') sort r → ReadAs tree r
-read-write {names = names} {tree = tree} a w v =
+read_write {names = names} {tree = tree} a w v =
     made_as (expression_at tree (names_in names) (length tree)) (read_unique v (written_read a w)) (accepted_bytes a)
 
 pub read_write_plain : {names tree : List ℕ} {sort : Sort} {out out' : List ℕ} {k : ℕ} {r : Read}
     → Writes names tree sort out out' (Done k) → ReadsText old_rules_lem names (take k out') sort r → ReadAs tree r
-read_write_plain w v = read-write (was_written w).accepted w v
+read_write_plain w v = read_write (was_written w).accepted w v
 
 pub read_back : {ρ : Rules} {names tree : List ℕ} {sort : Sort} {out out' : List ℕ} {k : ℕ} {r : Read}
     → Writes names tree sort out out' (Done k) → ReadsText ρ names (take k out') sort r → r.refused ≡ false
@@ -155,7 +155,7 @@ pub read_again : {ρ : Rules} {names bytes : List ℕ} {sort : Sort} {q r : Read
 read_again {q = q} u n w v =
     let s = read_sound u n in
     let front = ap (λ (z : Read). take z.len z.tree) s.is_it ∙ tree_of_lem s.it in
-    let a = read-write (rw front (gives_accepted s.good s.gives)) w v in
+    let a = read_write (rw front (gives_accepted s.good s.gives)) w v in
     let b = a.bytes ∙ front in
     a.is_it ∙ made_same a.it s.it b ∙ sym s.is_it
 

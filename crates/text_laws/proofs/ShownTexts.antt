@@ -29,9 +29,9 @@ use Rattle.token_steps.specs.Taking.NoToken.{barred, tokenless}
 use Rattle.token_steps.proofs.Bytes.{contrary}
 use Rattle.tokens.specs.Texts.{Stuck, order}
 use Rattle.tokens.specs.Texts.Stuck.{blank, token, here}
-use Rattle.tokens.specs.Extents.{to_blank_lem, OfToken, Extent, to_blank_rule, at-end, other, RefusedIn}
+use Rattle.tokens.specs.Extents.{to_blank_lem, OfToken, Extent, to_blank_rule, at_end, other, RefusedIn}
 use Rattle.tokens.specs.Extents as extents
-use Rattle.tokens.proofs.ShownBytes.{blank-more, extent_unique}
+use Rattle.tokens.proofs.ShownBytes.{blank_more, extent_unique}
 use Rattle.reader.specs.declared.Read.{Read}
 use Rattle.reader.specs.Reads.{made, refused_by}
 use Rattle.reader.specs.Reading.{tree_order, read_order, ReadsText, refused, read}
@@ -115,7 +115,7 @@ module _ (text : List ℕ) where
   runs_to_blank : (p : ℕ) → Byte text p → RunsToBlank text p (to_blank_lem (drop p text))
   runs_to_blank p c =
       record {
-        some = omega (arith, blank-more text p c.inside c.unblank);
+        some = omega (arith, blank_more text p c.inside c.unblank);
         no_blank = λ i h. ap is_blank_lem (sym (get_or-drop p text i 0)) ∙ unblank (drop p text) i h;
         behind = go (then (drop p text));
       }
@@ -168,7 +168,7 @@ by_token {text} {p = p} (extents.token {w = w} {after = after} {c = c} g t f) h 
   where
     seam : take (length w) (drop p text) ≡ w
     seam = ap (take (length w)) t.there ∙ take-append_seam w after
-by_token (at-end g q f) h = inr (q, f)
+by_token (at_end g q f) h = inr (q, f)
 by_token {n = n} (other g f) h = absurd (contrary h (or_right (eqb n 2) _ g))
 
 -- the theorem

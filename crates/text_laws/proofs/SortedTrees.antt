@@ -10,7 +10,7 @@ use lib.Dec.{eqb, ltb, leb}
 use lib.ListN.{length, length-map}
 use borrow.Author.Tests.{eqb-true, eqb-false, ltb-true, ltb-false, leb-true, le-leb}
 use Rattle.alf.specs.Expressions.{name, literal, negated, binary, edge, join, while}
-use Rattle.alf.specs.Expressions.{with, or_else, on-right, on-left, Expression, boolean, vector}
+use Rattle.alf.specs.Expressions.{with, or_else, on_right, on_left, Expression, boolean, vector}
 use Rattle.alf.specs.Decoder.{binary_at, join_at, edge_at}
 use Rattle.basics.proofs.Choices.{every, every_at}
 use Rattle.alf.proofs.OperatorBytes.{binary_byte_lem, edge_byte}
@@ -108,10 +108,10 @@ module _ (t : Token) (a b : Tree) (l : 40 ≤ t.code) (h : t.code < 54) where
       if_as (ltb t.code 50) (is (boolean (binary (binary_at (t.code - 40)) c d))) (faulty t.place) (two t a b)
       (λ k. pair (sym (binary_byte_lem l (ltb-true _ _ k))) e f) (λ k. tt)
   two_as (boolean c) (vector q) e f =
-      if_as (eqb t.code 40) (is (vector (while on-left q c))) (faulty t.place) (two t a b)
+      if_as (eqb t.code 40) (is (vector (while on_left q c))) (faulty t.place) (two t a b)
       (λ k. pair (eqb-true _ _ k) e f) (λ k. tt)
   two_as (vector p) (boolean d) e f =
-      if_as (eqb t.code 40) (is (vector (while on-right p d))) (faulty t.place) (two t a b)
+      if_as (eqb t.code 40) (is (vector (while on_right p d))) (faulty t.place) (two t a b)
       (λ k. pair (eqb-true _ _ k) e f) (λ k. tt)
   two_as (vector p) (vector q) e f =
       if_as (eqb t.code 40) (is (vector (join with p q))) _ (two t a b) (λ k. pair (eqb-true _ _ k) e f)

@@ -12,9 +12,9 @@ use lib.Dec.{eqb, ltb}
 use borrow.Author.Tests.{ne_eqb, lt-ltb}
 use Rattle.alf.specs.Expressions.{Boolean, name, literal, negated, binary, choice, Vector, edge, join, while}
 use Rattle.alf.specs.Expressions.{Binary, and, or, xor, xnor, equals, differs, above, below, is_at_least, is_at_most}
-use Rattle.alf.specs.Expressions.{Join, followed-by, either_order, with-or-then, any_order, with, or_else}
+use Rattle.alf.specs.Expressions.{Join, followed_by_join, either_order, with_or_then, any_order, with, or_else}
 use Rattle.alf.specs.Expressions.{Edge, EdgeKnown, Over, VectorOver, ExpressionOver}
-use Rattle.alf.specs.Expressions.{on-right, on-left, Expression, boolean, vector}
+use Rattle.alf.specs.Expressions.{on_right, on_left, Expression, boolean, vector}
 use Rattle.alf.specs.Bytes.{binary_byte, edge_number}
 use Rattle.alf.specs.Decoder.{binary_at, join_at, edge_at, Operation, one_at}
 use Rattle.alf.specs.Decoder.{empty, push, run, if_so, is_boolean, top_boolean, top_vector, under}
@@ -117,9 +117,9 @@ of_binary is_at_most a b = refl
 
 of_join : (j : Join) (p q : Vector) → of_two (made (join_code j)) (vector p) (vector q) ≡ is (vector (join j p q))
 unfolding of_two join_code join_at
-of_join followed-by p q = refl
+of_join followed_by_join p q = refl
 of_join either_order p q = refl
-of_join with-or-then p q = refl
+of_join with_or_then p q = refl
 of_join any_order p q = refl
 of_join with p q = refl
 of_join or_else p q = refl
@@ -158,8 +158,8 @@ module _ (n : ℕ) where
   unfolding sorted vector_tree VectorOver given of_two
   vector_sorted (edge e c) h = rw (boolean_sorted c h.1) (of_edge e c h.0)
   vector_sorted (join j p q) h = rw (vector_sorted p h.0, vector_sorted q h.1) (of_join j p q)
-  vector_sorted (while on-right p c) h = rw (vector_sorted p h.0, boolean_sorted c h.1) refl
-  vector_sorted (while on-left p c) h = rw (boolean_sorted c h.1, vector_sorted p h.0) refl
+  vector_sorted (while on_right p c) h = rw (vector_sorted p h.0, boolean_sorted c h.1) refl
+  vector_sorted (while on_left p c) h = rw (boolean_sorted c h.1, vector_sorted p h.0) refl
 
   pub tree_sorted : (x : Expression) → ExpressionOver n x → sorted (λ k. k) (tree_of x) ≡ is x
   unfolding tree_of ExpressionOver

@@ -70,23 +70,23 @@ module _ {names : List ℕ} (h : Named names) (x : Expression) (o : ExpressionOv
   known : AllKnown names written_tokens
   known = written_known 6 (tree_known (names_named h) x o)
 
-  same-tokens : map (renumbered number) (tokens_of there) ≡ map (renumbered (λ k. k)) written_tokens
+  same_tokens : map (renumbered number) (tokens_of there) ≡ map (renumbered (λ k. k)) written_tokens
   unfolding text
-  same-tokens = placed_numbered h (text names x) 0 known refl
+  same_tokens = placed_numbered h (text names x) 0 known refl
 
   pub codes_there : codes_of (tokens_of there) ≡ codes_of written_tokens
   codes_there =
       sym (codes_by (numbers number) (tokens_of there))
-      ∙ ap codes_of same-tokens
+      ∙ ap codes_of same_tokens
       ∙ codes_by (numbers (λ k. k)) written_tokens
 
   tree_there : Matched number (λ k. k) (tokens_of there) (tree_of x)
-  tree_there = matched number (λ k. k) same-tokens (text_parses h x o)
+  tree_there = matched number (λ k. k) same_tokens (text_parses h x o)
 
   depth_there : depth 0 (tokens_of there) ≡ depth_of x
   depth_there =
       sym (depth_renumbered number (tokens_of there) 0)
-      ∙ ap (depth 0) same-tokens
+      ∙ ap (depth 0) same_tokens
       ∙ depth_renumbered (λ k. k) written_tokens 0
       ∙ written_depth (expression_formed (text_parses h x o))
       ∙ tree_depth x
@@ -95,7 +95,7 @@ module _ {names : List ℕ} (h : Named names) (x : Expression) (o : ExpressionOv
   unfolding counted
   counted_there =
       sym (counted_renumbered number (tokens_of there))
-      ∙ ap counted same-tokens
+      ∙ ap counted same_tokens
       ∙ counted_renumbered (λ k. k) written_tokens
       ∙ omega (arith, counted_nodes (text_parses h x o), nodes_bytes x)
 

@@ -31,10 +31,10 @@ said_all : (text : List ℕ) → lines_of text ≡ said_from text 0
 unfolding lines_of said_from from
 said_all text = refl
 
-order-of : (size : ℕ) (head : Line) (rows : List Line) → said_order size (head ∷ rows)
+order_of : (size : ℕ) (head : Line) (rows : List Line) → said_order size (head ∷ rows)
     ≡ head_order head ++ lines_order (length (name_words head)) (wide head) size rows
 unfolding said_order
-order-of size head rows = refl
+order_of size head rows = refl
 
 pub parted : {text : List ℕ} {h b : ℕ} → Next text 0 h → h < length text → Passes text h b → Parted text h b
 unfolding text_order
@@ -44,7 +44,7 @@ parted {text} {h} {b} n l p =
     record {
       head_is = ap (λ (x : List Line). get_or x 0 (line [] 0)) all;
       rows_are = ap (drop 1) all;
-      order = ap (said_order (length text)) all ∙ order-of (length text) (from text h).first (said_from text b);
+      order = ap (said_order (length text)) all ∙ order_of (length text) (from text h).first (said_from text b);
     }
 
 -- no line says anything

@@ -7,12 +7,13 @@ mod lines;
 mod name_lists;
 mod shown;
 
+use loading::files::read_all;
 use std::io;
-use std::io::Read;
+use text_parts::parts::front;
 
 fn main(rt: HostRuntime) -> io::Result<()> {
-    let mut input = Vec::new(rt.alloc());
-    rt.reader().read_to_end(&mut input)?;
-    crate::lines::show_lines(rt.stdout(), &input);
+    let mut input = [0u8; 65536];
+    let n = read_all(&mut rt.reader(), &mut input)?;
+    crate::lines::show_lines(rt.stdout(), front(&input, n));
     Ok(())
 }

@@ -64,15 +64,15 @@ module _ {all : List ℕ} {kept k : ℕ} (asked : KeepAsked all kept k) where
       rw e s
 
   -- the part from the second time on
-  rest-is : take (length all - 1) (drop 1 all) ≡ drop 1 all
-  rest-is = take_all (length all - 1) (drop 1 all) (omega (arith, length-drop 1 all))
+  rest_is : take (length all - 1) (drop 1 all) ≡ drop 1 all
+  rest_is = take_all (length all - 1) (drop 1 all) (omega (arith, length-drop 1 all))
 
   pub keep_last : {r : List ℕ} → k ≤ kept → r ≡ stored_times (take (length all - 1) (drop 1 all))
       → r ≡ stored_times (last_rows 1 k (kept + 1) all)
   unfolding last_rows
   keep_last l s =
       let e : kept + 1 - k ≡ 1 = omega (arith, asked.held) in
-      rw (e, ← rest-is) s
+      rw (e, ← rest_is) s
 
 abbrev at : Queue → ℕ
 at q = q.rows.kept.0

@@ -1,5 +1,5 @@
 -- Laws of lists and tests that are about nothing in particular.
---   and-false     a test that cannot pass
+--   and_false     a test that cannot pass
 --   starts_byte   to begin with a byte and a rest is to have the byte first and then begin with the rest
 --   past_end      a byte past the end is 0
 --   names_end, names_more, names_stop   counting name bytes one byte at a time
@@ -17,9 +17,9 @@ use Rattle.alf.specs.Names.{goes_on_name}
 use Rattle.token_steps.specs.Taking.{byte_at, name_bytes}
 use Rattle.token_steps.specs.Steps.{starts}
 
-pub and-false : (a : Bool) → a && false ≡ false
-and-false true = refl
-and-false false = refl
+pub and_false : (a : Bool) → a && false ≡ false
+and_false true = refl
+and_false false = refl
 
 pub starts_byte : (x : ℕ) (w bs : List ℕ) → 0 < x
     → starts (x ∷ w) bs ≡ eqb x (byte_at bs 0) && starts w (drop 1 bs)

@@ -1,5 +1,5 @@
 -- Laws of single bytes: which of a name's first byte, `'` and `0 1 ?` a byte is, no two of them.
---   plain-cases     `0 1 ?` are three bytes
+--   plain_cases     `0 1 ?` are three bytes
 --   plain_unnamed, plain_unquoted, quote_unnamed   no two of them
 --   half_zero       half 0 is `?`
 --   and_both, contrary   two tests at once; a test with two answers
@@ -54,8 +54,8 @@ half_cases b = go (eqb b 63) (eqb b 48) (eqb b 49) refl refl refl
         (among b (88 ∷ 120 ∷ [])) (among b (72 ∷ 104 ∷ [])) (among b (76 ∷ 108 ∷ []))
         (among b (87 ∷ 119 ∷ [])) (among b (90 ∷ 122 ∷ [])) (among b (85 ∷ 117 ∷ []))))))
 
-pub plain-cases : (b : ℕ) → is_plain b ≡ true → (b ≡ 63) ⊎ ((b ≡ 48) ⊎ (b ≡ 49))
-plain-cases b h = go (half_cases b)
+pub plain_cases : (b : ℕ) → is_plain b ≡ true → (b ≡ 63) ⊎ ((b ≡ 48) ⊎ (b ≡ 49))
+plain_cases b h = go (half_cases b)
   where
     go : (b ≡ 63) ⊎ ((b ≡ 48) ⊎ ((b ≡ 49) ⊎ (3 ≤ half_of b)))
         → (b ≡ 63) ⊎ ((b ≡ 48) ⊎ (b ≡ 49))
@@ -66,7 +66,7 @@ plain-cases b h = go (half_cases b)
 
 pub plain_unnamed : (b : ℕ) → is_plain b ≡ true → starts_name b ≡ false
 unfolding starts_name is_letter
-plain_unnamed b h = go (plain-cases b h)
+plain_unnamed b h = go (plain_cases b h)
   where
     go : (b ≡ 63) ⊎ ((b ≡ 48) ⊎ (b ≡ 49)) → starts_name b ≡ false
     go (inl e) = rw e
@@ -74,7 +74,7 @@ plain_unnamed b h = go (plain-cases b h)
     go (inr (inr e)) = rw e
 
 pub plain_unquoted : (b : ℕ) → is_plain b ≡ true → eqb b 39 ≡ false
-plain_unquoted b h = go (plain-cases b h)
+plain_unquoted b h = go (plain_cases b h)
   where
     go : (b ≡ 63) ⊎ ((b ≡ 48) ⊎ (b ≡ 49)) → eqb b 39 ≡ false
     go (inl e) = rw e

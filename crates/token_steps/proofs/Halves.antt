@@ -16,7 +16,7 @@ use Rattle.token_steps.specs.Classes.{half_of}
 use Rattle.token_steps.specs.Taking.{byte_at, is_half}
 use Rattle.token_steps.specs.Steps.{half_at}
 use Rattle.token_steps.specs.Inner.{HalfAt}
-use Rattle.token_steps.proofs.ByteByByte.{and-false}
+use Rattle.token_steps.proofs.ByteByByte.{and_false}
 
 pub is_at_most : (t : Bool) {x y n : ℕ} → x ≤ n → y ≤ n → (if t then x else y) ≤ n
 is_at_most true h k = h
@@ -55,7 +55,7 @@ module _ (bs : List ℕ) (k : ℕ) {x : ℕ} (ex : x ≡ byte_at bs k) where
     module _ (hy : y ≡ 98) {z : ℕ} (ez : z ≡ byte_at bs (k + 3)) where
       pub name_byte_lem : goes_on_name z ≡ true → HalfAt bs k 9
       unfolding half_at
-      name_byte_lem h = half_is (rw (← ex, ← ey, ← ez) (rw (eq-eqb x 39 hx, eq-eqb y 98 hy, h) (rw and-false)))
+      name_byte_lem h = half_is (rw (← ex, ← ey, ← ez) (rw (eq-eqb x 39 hx, eq-eqb y 98 hy, h) (rw and_false)))
 
       pub half : {c r : ℕ} → goes_on_name z ≡ false → c ≡ byte_at bs (k + 2) → r ≡ half_of c → HalfAt bs k r
       unfolding half_at

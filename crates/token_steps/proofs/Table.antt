@@ -1,6 +1,6 @@
 -- The table of spellings as the code has it, a row of four bytes for each, and a search in it.
 --   entry                           row i of the table is entry i of the spellings, by a computed test
---   row_begins, find-hit, find-miss, find_end   one turn of the search, and its end
+--   row_begins, find_hit, find_miss, find_end   one turn of the search, and its end
 use mathlib.Core.Path.{◌≡◌, refl, sym, ◌∙◌}
 use mathlib.Core.Bool.{Bool, true, false, ◌&&◌}
 use mathlib.Core.List.{List, [], ◌∷◌}
@@ -81,20 +81,20 @@ module _ (bs : List ℕ) (i : ℕ) (inv : first_of (drop i spellings) bs ≡ fir
     pub row_begins : 0 < get_or row 0 0
     row_begins = rw is (entry i h).first
 
-    pub find-hit :
+    pub find_hit :
         true ≡ starts (word_of (get_or row 0 0) (get_or row 1 0) (get_or row 2 0)) bs →
         {n : ℕ} →
         n ≡ length (word_of (get_or row 0 0) (get_or row 1 0) (get_or row 2 0)) →
         step (get_or row 3 0) n ≡ first_of spellings bs
-    find-hit s {n} e =
+    find_hit s {n} e =
         let k = entry i h in
         let w = rw is at s in
         rw (e, is, k.code, k.bytes) (sym (first_hit _ _ bs (rw k.bytes at (sym w))) ∙ next h)
 
-    pub find-miss :
+    pub find_miss :
         false ≡ starts (word_of (get_or row 0 0) (get_or row 1 0) (get_or row 2 0)) bs →
         first_of (drop (i + 1) spellings) bs ≡ first_of spellings bs
-    find-miss s =
+    find_miss s =
         let k = entry i h in
         let w = rw is at s in
         rw add-one (sym (first_miss _ _ bs (rw k.bytes at (sym w))) ∙ next h)

@@ -1,6 +1,6 @@
 -- What one token step comes to on each of its ways, as the code takes them.
 --   no_half, bad_second, both_halves, lone, based_literal   `based`
---   not_plain, not-second, third, pair                      `plain`
+--   not_plain, not_second, third, pair                      `plain`
 --   by_class, short_name, long_name                         `take_token`
 use Rattle.std.specs.Prelude.{if◌then◌else◌}
 use mathlib.Core.Path.{◌≡◌, refl}
@@ -48,9 +48,9 @@ module _ (bs : List ℕ) {a f : ℕ} (ea : a ≡ byte_at bs 0) (ef : f ≡ half_
   not_plain h = rw (← ea, ← ef, le-ltb f 3 h)
 
   module _ (hf : f < 3) {b t : ℕ} (eb : b ≡ byte_at bs 1) (et : t ≡ half_of b) where
-    pub not-second : 3 ≤ t → first_of spellings bs ≡ plain_step bs
+    pub not_second : 3 ≤ t → first_of spellings bs ≡ plain_step bs
     unfolding plain_step
-    not-second h = rw (← ea, ← eb, ← ef, ← et, lt-ltb f 3 hf, le-ltb t 3 h)
+    not_second h = rw (← ea, ← eb, ← ef, ← et, lt-ltb f 3 hf, le-ltb t 3 h)
 
     module _ (ht : t < 3) {c u : ℕ} (ec : c ≡ byte_at bs 2) (eu : u ≡ half_of c) where
       pub third : u < 3 → step none 0 ≡ plain_step bs

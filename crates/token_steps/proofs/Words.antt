@@ -15,9 +15,9 @@ use Rattle.token_steps.specs.Steps.{starts}
 use Rattle.token_steps.specs.Inner.{word_of}
 use Rattle.token_steps.proofs.ByteByByte.{starts_byte}
 
-and-true : (a : Bool) → a && true ≡ a
-and-true true = refl
-and-true false = refl
+and_true : (a : Bool) → a && true ≡ a
+and_true true = refl
+and_true false = refl
 
 positive : {y : ℕ} → (y ≡ 0 → ⊥) → 0 < y
 positive h = omega arith
@@ -66,7 +66,7 @@ module _ (x y z : ℕ) (bs : List ℕ) {a : ℕ} (hx : 0 < x) (ea : a ≡ byte_a
         third_byte h {c} ec =
             rw (word_three x y z hy h, second (z ∷ []), eq-eqb y b hb)
             (rw (starts_byte z [] (drop 2 bs) (positive h), get_or-drop 2 bs 0 0, ← ec, starts_none)
-            (sym (and-true (eqb z c))))
+            (sym (and_true (eqb z c))))
 
 pub size_one : (x y z : ℕ) → y ≡ 0 → 1 ≡ length (word_of x y z)
 size_one x y z h = rw (word_one x y z h)

@@ -34,7 +34,7 @@ stopped_reading l (whole ts r) h = absurd (contrary h refl)
 pub record Whole (text : List ℕ) (t : Tokens) : Type 0 where
   pub tokens : List Token
   pub read : Reads 0 text tokens
-  pub count-is : t.count ≡ length tokens
+  pub count_is : t.count ≡ length tokens
   pub codes_are : t.codes ≡ filled (codes_of tokens)
   pub places_are : t.places ≡ filled (places_of tokens)
   pub is : t ≡ made tokens
@@ -43,7 +43,7 @@ pub whole_of : {text : List ℕ} {t : Tokens} → Scan text t → t.refused ≡ 
 unfolding made refused_by
 whole_of (stopped q s) h = absurd (contrary refl h)
 whole_of (whole ts r) h =
-    record { tokens = ts; read = r; count-is = refl; codes_are = refl; places_are = refl; is = refl }
+    record { tokens = ts; read = r; count_is = refl; codes_are = refl; places_are = refl; is = refl }
 
 -- no more tokens than bytes
 pub reads_short : {p : ℕ} {bs : List ℕ} {ts : List Token} → Reads p bs ts → length ts ≤ length bs
@@ -55,26 +55,26 @@ reads_short (token h t r) =
 
 module _ {text : List ℕ} {t : Tokens} (l : length text ≤ 4096) (w : Whole text t) where
   bound : t.count ≤ 4096
-  bound = let k = reads_short w.read in omega (arith, w.count-is)
+  bound = let k = reads_short w.read in omega (arith, w.count_is)
 
   pub counting : (limit : ℕ) → limit ≤ 4096 → Counting t.codes t.count limit
   counting limit h =
       record {
         inside = bound;
         there =
-            rw (w.codes_are, w.count-is, ← column_length (λ t. t.code) w.tokens)
+            rw (w.codes_are, w.count_is, ← column_length (λ t. t.code) w.tokens)
             (filled_holds (codes_of w.tokens));
         below = h;
       }
 
   -- the codes that are searched are those of the tokens
   front : take t.count t.codes ≡ codes_of w.tokens
-  front = rw (w.count-is, w.codes_are) (filled_front (λ t. t.code) w.tokens)
+  front = rw (w.count_is, w.codes_are) (filled_front (λ t. t.code) w.tokens)
 
   place_at : (i : ℕ) → i < t.count → get_or t.places i 0 ≡ get_or (places_of w.tokens) i 0
   place_at i h =
       let n = column_length (λ t. t.place) w.tokens in
-      rw w.places_are (filled_at (places_of w.tokens) i (omega (arith, w.count-is)))
+      rw w.places_are (filled_at (places_of w.tokens) i (omega (arith, w.count_is)))
 
   abbrev over : Bool → ℕ → ℕ
   over b limit = over_at (changed b) limit 0 (take t.count t.codes)
@@ -94,11 +94,11 @@ module _ {text : List ℕ} {t : Tokens} (l : length text ≤ 4096) (w : Whole te
       Tokenized text r
   deep_reading {i} e h f =
       rw (f, place_at i h, index true 32 e)
-      (read_deep text l w.read (rw (← index true 32 e) (omega (arith, w.count-is))))
+      (read_deep text l w.read (rw (← index true 32 e) (omega (arith, w.count_is))))
 
   module _ {d : ℕ} (eq : d ≡ over true 32) (no : t.count ≤ d) where
     shallow : length w.tokens ≤ over_at (changed true) 32 0 (codes_of w.tokens)
-    shallow = rw (← index true 32 eq) (omega (arith, w.count-is))
+    shallow = rw (← index true 32 eq) (omega (arith, w.count_is))
 
     pub many_reading :
         {i : ℕ} {r : Tokens} →
@@ -108,8 +108,8 @@ module _ {text : List ℕ} {t : Tokens} (l : length text ≤ 4096) (w : Whole te
         Tokenized text r
     many_reading {i} e h f =
         rw (f, place_at i h, index false 256 e)
-        (read_many text l w.read shallow (rw (← index false 256 e) (omega (arith, w.count-is))))
+        (read_many text l w.read shallow (rw (← index false 256 e) (omega (arith, w.count_is))))
 
     pub whole_reading : {i : ℕ} → i ≡ over false 256 → t.count ≤ i → Tokenized text t
     whole_reading {i} e h =
-        rw w.is (read_whole text l w.read shallow (rw (← index false 256 e) (omega (arith, w.count-is))))
+        rw w.is (read_whole text l w.read shallow (rw (← index false 256 e) (omega (arith, w.count_is))))

@@ -1,7 +1,7 @@
 -- The scan of a text: what is known at a place where a token is to start, and how it goes on.
 --   Scanned        the tokens before the place are written, and what the rest comes to, the text comes to
 --   scan_start, scan_blank, scan_token   at the start; past a blank; past a token
---   stop_inside, scan-stop, scan-end     where no token starts; at the text's end
+--   stop_inside, scan_stop, scan_end     where no token starts; at the text's end
 use mathlib.Core.Path.{◌≡◌, refl, ◌∙◌}
 use mathlib.Core.Bool.{true, false}
 use mathlib.Core.Logic.{◌⊎◌, inl, inr}
@@ -20,7 +20,7 @@ use Rattle.token_steps.specs.Taking.NoToken.{barred, tokenless}
 use Rattle.basics.specs.Refusing.{refusal}
 use Rattle.tokens.specs.Texts.{Token, token_at, Reads, Stuck}
 use Rattle.tokens.specs.Texts.Reads.{done, blank, token}
-use Rattle.tokens.specs.Texts.Stuck.{blank as blank-then, token as token-then, here}
+use Rattle.tokens.specs.Texts.Stuck.{blank as blank_then, token as token_then, here}
 use Rattle.token_steps.specs.Steps.{none, step_of}
 use Rattle.tokens.specs.Tokenizing.{zeros, filled, codes_of, places_of, made}
 use Rattle.tokens.specs.Inner.{Scan}
@@ -35,7 +35,7 @@ pub record Scanned (text : List ℕ) (p count : ℕ) (codes places : List ℕ) :
   pub before : List Token
   pub inside : p ≤ length text
   pub room : count ≤ p
-  pub count-is : count ≡ length before
+  pub count_is : count ≡ length before
   pub codes_are : codes ≡ filled (codes_of before)
   pub places_are : places ≡ filled (places_of before)
   pub reads : (ts : List Token) → Reads p (drop p text) ts → Reads 0 text (before ++ ts)
@@ -51,7 +51,7 @@ scan_start text e f =
       before = [];
       inside = omega arith;
       room = omega arith;
-      count-is = refl;
+      count_is = refl;
       codes_are = e ∙ filled_none;
       places_are = f ∙ filled_none;
       reads = λ ts r. r;
@@ -95,7 +95,7 @@ stuck_token :
     Taken bs w c a →
     Stuck (p + length w) a q →
     Stuck p bs q
-stuck_token e b t r = rw e (token-then b (rw e at t) r)
+stuck_token e b t r = rw e (token_then b (rw e at t) r)
 
 module _ (text : List ℕ) (p : ℕ) (h : p < length text) where
   abbrev first : ℕ
@@ -112,11 +112,11 @@ module _ (text : List ℕ) (p : ℕ) (h : p < length text) where
           before = z.before;
           inside = h;
           room = omega arith;
-          count-is = z.count-is;
+          count_is = z.count_is;
           codes_are = z.codes_are;
           places_are = z.places_are;
           reads = λ ts r. z.reads ts (rw rest (blank b r));
-          stuck = λ q s. z.stuck q (rw rest (blank-then b s));
+          stuck = λ q s. z.stuck q (rw rest (blank_then b s));
         })
 
     module _ {r : Step} (e : r ≡ step_of (drop p text)) where
@@ -130,8 +130,8 @@ module _ (text : List ℕ) (p : ℕ) (h : p < length text) where
       stop_inside c =
           let k = none_inside (drop p text) (step_right.stops c) in omega (arith, length-drop p text)
 
-      pub scan-stop : is_blank_lem first ≡ false → r.code ≡ none → Stuck 0 text (p + r.size)
-      scan-stop b c = z.stuck _ (rw rest (here b (rw rest at (step_right.stops c))))
+      pub scan_stop : is_blank_lem first ≡ false → r.code ≡ none → Stuck 0 text (p + r.size)
+      scan_stop b c = z.stuck _ (rw rest (here b (rw rest at (step_right.stops c))))
 
       module _ (c : r.code ≡ none → ⊥) where
         taken : Taken (drop p text) (take r.size (drop p text)) r.code (drop r.size (drop p text))
@@ -152,12 +152,12 @@ module _ (text : List ℕ) (p : ℕ) (h : p < length text) where
               before = z.before ++ (token_at r.code p ∷ []);
               inside = token_fits.1;
               room = let k = token_fits.0 in omega arith;
-              count-is = rw length-append (omega arith);
+              count_is = rw length-append (omega arith);
               codes_are =
-                  filled_more (λ t. t.code) z.before (token_at r.code p) z.count-is (omega arith)
+                  filled_more (λ t. t.code) z.before (token_at r.code p) z.count_is (omega arith)
                   z.codes_are;
               places_are =
-                  filled_more (λ t. t.place) z.before (token_at r.code p) z.count-is (omega arith)
+                  filled_more (λ t. t.place) z.before (token_at r.code p) z.count_is (omega arith)
                   z.places_are;
               reads =
                   λ ts s. rw append_assoc
@@ -177,7 +177,7 @@ module _ (text : List ℕ) (p : ℕ) (h : p < length text) where
                 Stuck (p + length (take r.size (drop p text))) (drop r.size (drop p text)) q
             onward_stuck s = rw (step_right.fits c, drop-drop r.size p text) s
 
-pub scan-end :
+pub scan_end :
     (text : List ℕ) {p count : ℕ} {codes places : List ℕ} →
     length text ≤ p →
     Scanned text p count codes places →
@@ -189,6 +189,6 @@ pub scan-end :
       places = places;
     })
 unfolding made
-scan-end text {p} h z =
-    rw (z.count-is, z.codes_are, z.places_are)
+scan_end text {p} h z =
+    rw (z.count_is, z.codes_are, z.places_are)
     (whole z.before (rw append-nil at (z.reads [] (rw (drop_of_length-le text {i = p} h) done))))

@@ -1,5 +1,5 @@
 -- Laws of the bytes that a refusal of a text shows.
---   blank_end, blank-more, blank_stop   the bytes up to a blank, one byte at a time
+--   blank_end, blank_more, blank_stop   the bytes up to a blank, one byte at a time
 --   apart                  a number among some is not among others, where the lists have none in common
 --   extent_unique          a number at a place shows one number of bytes
 --   refused_in_unique      a text is refused in one way
@@ -27,7 +27,7 @@ use Rattle.token_steps.specs.Classes.{is_blank_lem}
 use Rattle.token_steps.specs.Taking.{Taken}
 use Rattle.token_steps.proofs.Bytes.{contrary}
 use Rattle.token_steps.proofs.TokenStarts.{token_size}
-use Rattle.tokens.specs.Extents.{to_blank_lem, OfToken, Shown, Extent, to_blank_rule, token, at-end, other, RefusedIn}
+use Rattle.tokens.specs.Extents.{to_blank_lem, OfToken, Shown, Extent, to_blank_rule, token, at_end, other, RefusedIn}
 use Rattle.tokens.proofs.TextLaws.{taken_unique}
 
 module _ (ts : List ℕ) (i : ℕ) where
@@ -35,10 +35,10 @@ module _ (ts : List ℕ) (i : ℕ) where
   unfolding to_blank_lem
   blank_end h = rw (drop_of_length-le ts h)
 
-  pub blank-more : i < length ts → is_blank_lem (get_or ts i 0) ≡ false
+  pub blank_more : i < length ts → is_blank_lem (get_or ts i 0) ≡ false
       → to_blank_lem (drop i ts) ≡ suc (to_blank_lem (drop (i + 1) ts))
   unfolding to_blank_lem
-  blank-more h e = rw (add-one, drop-cons ts i 0 h, e)
+  blank_more h e = rw (add-one, drop-cons ts i 0 h, e)
 
   pub blank_stop : i < length ts → is_blank_lem (get_or ts i 0) ≡ true → to_blank_lem (drop i ts) ≡ 0
   unfolding to_blank_lem
@@ -79,19 +79,19 @@ none_taken text {w} {a} {p = p} e t =
 pub extent_unique : (text : List ℕ) (n p : ℕ) {j k : ℕ} → Extent text n p j → Extent text n p k → j ≡ k
 extent_unique text n p (to_blank_rule e f) (to_blank_rule g h) = f ∙ sym h
 extent_unique text n p (to_blank_rule e f) (token g t h) = absurd (two_not e g)
-extent_unique text n p (to_blank_rule e f) (at-end g t h) = absurd (two_not e g)
+extent_unique text n p (to_blank_rule e f) (at_end g t h) = absurd (two_not e g)
 extent_unique text n p (to_blank_rule e f) (other g h) = absurd (two_shown e g)
 extent_unique text n p (token g t h) (to_blank_rule e f) = absurd (two_not e g)
 extent_unique text n p (token g t h) (token i u j) = h ∙ ap length (taken_unique t u).bytes ∙ sym j
-extent_unique text n p (token g t h) (at-end i u j) = absurd (none_taken text u t)
+extent_unique text n p (token g t h) (at_end i u j) = absurd (none_taken text u t)
 extent_unique text n p (token g t h) (other i j) = absurd (token_shown n g i)
-extent_unique text n p (at-end g t h) (to_blank_rule e f) = absurd (two_not e g)
-extent_unique text n p (at-end g t h) (token i u j) = absurd (none_taken text t u)
-extent_unique text n p (at-end g t h) (at-end i u j) = h ∙ sym j
-extent_unique text n p (at-end g t h) (other i j) = absurd (token_shown n g i)
+extent_unique text n p (at_end g t h) (to_blank_rule e f) = absurd (two_not e g)
+extent_unique text n p (at_end g t h) (token i u j) = absurd (none_taken text t u)
+extent_unique text n p (at_end g t h) (at_end i u j) = h ∙ sym j
+extent_unique text n p (at_end g t h) (other i j) = absurd (token_shown n g i)
 extent_unique text n p (other g h) (to_blank_rule e f) = absurd (two_shown e g)
 extent_unique text n p (other g h) (token i u j) = absurd (token_shown n i g)
-extent_unique text n p (other g h) (at-end i u j) = absurd (token_shown n i g)
+extent_unique text n p (other g h) (at_end i u j) = absurd (token_shown n i g)
 extent_unique text n p (other g h) (other i j) = h ∙ sym j
 
 pub refused_in_unique : (text : List ℕ) (o : Order) → Sole o → {r s : Refusal} → RefusedIn text o r

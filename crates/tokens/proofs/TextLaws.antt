@@ -20,10 +20,10 @@ use Rattle.token_steps.specs.Taking.Barred.{together, overlong, loose, lone, bad
 use Rattle.token_steps.specs.Taking.NoToken.{barred, tokenless}
 use Rattle.tokens.specs.Texts.{Token, Reads, Stuck}
 use Rattle.tokens.specs.Texts.Reads.{done, blank, token}
-use Rattle.tokens.specs.Texts.Stuck.{blank as blank-then, token as token-then, here}
+use Rattle.tokens.specs.Texts.Stuck.{blank as blank_then, token as token_then, here}
 use Rattle.token_steps.specs.Steps.{none, step_of}
 use Rattle.token_steps.proofs.Bytes.{contrary, plain_unquoted, quote_unnamed}
-use Rattle.token_steps.proofs.ByteByByte.{and-false}
+use Rattle.token_steps.proofs.ByteByByte.{and_false}
 use Rattle.token_steps.proofs.TokenStarts.{token_size}
 use Rattle.token_steps.proofs.OneCode.{token_unique}
 use Rattle.token_steps.proofs.Taking.{right}
@@ -69,8 +69,8 @@ unfolding place
 barred_place {bs} (together a b c) = rw (unhalf bs (plain_unquoted (byte_at bs 0) a))
 barred_place {bs} (overlong a b) =
     rw (unhalf bs (ne_eqb (byte_at bs 0) 39 (λ e. contrary a (quote_unnamed (byte_at bs 0) e))))
-barred_place {bs} (loose a b) = rw (b, and-false)
-barred_place {bs} (lone a b c) = rw (ne_eqb (byte_at bs 3) 39 c, and-false)
+barred_place {bs} (loose a b) = rw (b, and_false)
+barred_place {bs} (lone a b c) = rw (ne_eqb (byte_at bs 3) 39 c, and_false)
 barred_place {bs} (bad_half a b c) = rw (a, eq-eqb (byte_at bs 3) 39 b)
 
 pub no_token_unique : {bs : List ℕ} {j k : ℕ} → NoToken bs j → NoToken bs k → j ≡ k
@@ -93,24 +93,24 @@ reads_unique {p} (token h t r) (token k u s) =
     cc (e.code, reads_unique r (rw (← e.bytes, ← e.after) at s))
 
 pub stuck_unique : {p q r : ℕ} {bs : List ℕ} → Stuck p bs q → Stuck p bs r → q ≡ r
-stuck_unique (blank-then h s) (blank-then k t) = stuck_unique s t
-stuck_unique (blank-then h s) (token-then k u t) = absurd (contrary h k)
-stuck_unique (blank-then h s) (here k n) = absurd (contrary h k)
-stuck_unique (token-then h t s) (blank-then k r) = absurd (contrary k h)
-stuck_unique (token-then h t s) (token-then k u r) =
+stuck_unique (blank_then h s) (blank_then k t) = stuck_unique s t
+stuck_unique (blank_then h s) (token_then k u t) = absurd (contrary h k)
+stuck_unique (blank_then h s) (here k n) = absurd (contrary h k)
+stuck_unique (token_then h t s) (blank_then k r) = absurd (contrary k h)
+stuck_unique (token_then h t s) (token_then k u r) =
     let e = taken_unique t u in stuck_unique s (rw (← e.bytes, ← e.after) at r)
-stuck_unique (token-then h t s) (here k n) = absurd (taken_not_none t n)
-stuck_unique (here h n) (blank-then k r) = absurd (contrary k h)
-stuck_unique (here h n) (token-then k u r) = absurd (taken_not_none u n)
+stuck_unique (token_then h t s) (here k n) = absurd (taken_not_none t n)
+stuck_unique (here h n) (blank_then k r) = absurd (contrary k h)
+stuck_unique (here h n) (token_then k u r) = absurd (taken_not_none u n)
 stuck_unique (here {p = p} h n) (here k m) = ap (λ (x : ℕ). p + x) (no_token_unique n m)
 
 pub reads_not_stuck : {p q : ℕ} {bs : List ℕ} {ts : List Token} → Reads p bs ts → Stuck p bs q → ⊥
 reads_not_stuck {q = q} (done {p = p}) s = elim s [ ]
-reads_not_stuck (blank h r) (blank-then k s) = reads_not_stuck r s
-reads_not_stuck (blank h r) (token-then k u s) = contrary h k
+reads_not_stuck (blank h r) (blank_then k s) = reads_not_stuck r s
+reads_not_stuck (blank h r) (token_then k u s) = contrary h k
 reads_not_stuck (blank h r) (here k n) = contrary h k
-reads_not_stuck (token h t r) (blank-then k s) = contrary k h
-reads_not_stuck (token h t r) (token-then k u s) =
+reads_not_stuck (token h t r) (blank_then k s) = contrary k h
+reads_not_stuck (token h t r) (token_then k u s) =
     let e = taken_unique t u in reads_not_stuck r (rw (← e.bytes, ← e.after) at s)
 reads_not_stuck (token h t r) (here k n) = taken_not_none t n
 
@@ -120,7 +120,7 @@ Outcome p bs = ((ts : List Token) × Reads p bs ts) ⊎ ((q : ℕ) × Stuck p bs
 
 after_blank : {p b : ℕ} {bs : List ℕ} → is_blank_lem b ≡ true → Outcome (suc p) bs → Outcome p (b ∷ bs)
 after_blank h (inl (ts, r)) = inl (ts, blank h r)
-after_blank h (inr (q, s)) = inr (q, blank-then h s)
+after_blank h (inr (q, s)) = inr (q, blank_then h s)
 
 after_token :
     {p b c : ℕ} {bs w a : List ℕ} →
@@ -129,7 +129,7 @@ after_token :
     Outcome (p + length w) a →
     Outcome p (b ∷ bs)
 after_token h t (inl (ts, r)) = inl (_, token h t r)
-after_token h t (inr (q, s)) = inr (q, token-then h t s)
+after_token h t (inr (q, s)) = inr (q, token_then h t s)
 
 taken_less : {bs w a : List ℕ} {c n : ℕ} → Taken bs w c a → length bs ≤ suc n → length a ≤ n
 taken_less {bs} {w} {a} t h =

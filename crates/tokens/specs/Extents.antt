@@ -34,7 +34,7 @@ pub data Extent (text : List ℕ) (n p k : ℕ) : Type 0 where
       k ≡ length w →
       Extent text n p k
   -- 0 where the place is the text's end
-  at-end : among n OfToken ≡ true → p ≡ length text → k ≡ 0 → Extent text n p k
+  at_end : among n OfToken ≡ true → p ≡ length text → k ≡ 0 → Extent text n p k
   -- 0 for every other number
   other : among n Shown ≡ false → k ≡ 0 → Extent text n p k
 

@@ -3,11 +3,13 @@
 
 ghost use Rattle.std.specs.Prelude.{◌≤◌};
 
+use loading::files::read_all;
 use run_printing::printing::{character, number, refusal, small, write};
 use run_printing::texts::length;
 use std::io;
-use std::io::{Read, Stdout};
+use std::io::Stdout;
 use text_parts::lines::{behind_line, line_at};
+use text_parts::parts::front;
 
 fn wide16(n: u16) -> usize {
     n as usize
@@ -63,8 +65,8 @@ fn show_lines(to: Stdout, input: &[u8]) {
 }
 
 fn main(rt: HostRuntime) -> io::Result<()> {
-    let mut input = Vec::new(rt.alloc());
-    rt.reader().read_to_end(&mut input)?;
-    show_lines(rt.stdout(), &input);
+    let mut input = [0u8; 65536];
+    let n = read_all(&mut rt.reader(), &mut input)?;
+    show_lines(rt.stdout(), front(&input, n));
     Ok(())
 }

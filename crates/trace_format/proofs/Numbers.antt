@@ -1,5 +1,5 @@
 -- The bytes of a number, low first, and the number of such bytes: one law for every width.
---   word-is, time_short, time_long   what the code reads byte by byte, and four bytes by four
+--   word_is, time_short, time_long   what the code reads byte by byte, and four bytes by four
 --   number_spelt   bytes that stand at a place are those of their number
 --   number_read    and the bytes of a number give it back
 --   number_small   how large it is at most
@@ -64,8 +64,8 @@ module _ (file : List ℕ) where
 
   module _ (p : ℕ) {a b c d : ℕ} (first : ByteIs (get_or file p 0) a) (second : ByteIs (get_or file (p + 1) 0) b)
       (third : ByteIs (get_or file (p + 2) 0) c) (fourth : ByteIs (get_or file (p + 3) 0) d) where
-    pub word-is : WordIs (number_at 4 file p) (a + 256 * b + 65536 * c + 16777216 * d)
-    word-is =
+    pub word_is : WordIs (number_at 4 file p) (a + 256 * b + 65536 * c + 16777216 * d)
+    word_is =
         record {
           is = omega (arith, first.is, second.is, third.is, fourth.is, number_four p);
           small = omega (arith, first.small, second.small, third.small, fourth.small);

@@ -24,7 +24,7 @@ use Rattle.trace_texts.specs.Texts.{names_made, times_made, states_made, names_o
 use Rattle.trace_texts.specs.Texts.{row_order, rows_order, said_order}
 use Rattle.text_copies.proofs.CopiedRows.{times_long}
 use Rattle.text_copies.proofs.Lengths.{names_long, states_long}
-use Rattle.trace_texts.proofs.Parts.{joined_part, all_map, map_all, all-at, all_parts, all_by}
+use Rattle.trace_texts.proofs.Parts.{joined_part, all_map, map_all, all_at, all_parts, all_by}
 use Rattle.trace_texts.proofs.PassedParts.{one_name, one_row, row_few, row_time_lem, row_later, row_states, time_small}
 
 past : (l : List ℕ) (i : ℕ) → length l ≤ i → get_or l i 0 ≡ 0
@@ -181,6 +181,6 @@ module _ (size : ℕ) (head : Line) (rows : List Line) (p : Passed (said_order s
             let e : suc r - 1 ≡ r = omega arith in
             let l = row_later k (wide head) rows (suc r) (row_passed (suc r) h) (omega arith) in
             omega (arith, times_are r, times_are (suc r), rw e at l);
-        codes = λ i h. all-at 0 states_small i h;
+        codes = λ i h. all_at 0 states_small i h;
         words = time_word;
       }

@@ -20,8 +20,8 @@ use Rattle.trace_texts.specs.Texts.{is_changed, tells, named, none, time_bound, 
 use borrow.Author.Tests.{lt-ltb}
 use Rattle.alf.specs.Names.{is_decimal}
 use Rattle.figures.specs.Numbers.{decimal}
-use Rattle.figures.proofs.Digits.{decimal-read, decimal_length, width_some}
-use Rattle.trace_text_laws.proofs.WordBytes.{Digit, digit_is, decimal-digits}
+use Rattle.figures.proofs.Digits.{decimal_read, decimal_length, width_some}
+use Rattle.trace_text_laws.proofs.WordBytes.{Digit, digit_is, decimal_digits}
 
 abbrev pub bytes_of : List Word → List (List ℕ)
 bytes_of ws = map (λ (w : Word). w.bytes) ws
@@ -35,13 +35,13 @@ changed_is : is_changed (bytes "changed") ≡ true
 unfolding is_changed same bytes
 changed_is = refl
 
-or-true : (b : Bool) → (b || true) ≡ true
-or-true true = refl
-or-true false = refl
+or_true : (b : Bool) → (b || true) ≡ true
+or_true true = refl
+or_true false = refl
 
-and-false : (b : Bool) → (b && false) ≡ false
-and-false true = refl
-and-false false = refl
+and_false : (b : Bool) → (b && false) ≡ false
+and_false true = refl
+and_false false = refl
 
 pub tells_last : (ns : List (List ℕ)) (ws : List Word) → bytes_of ws ≡ ns ++ (bytes "changed" ∷ []) → tells ws ≡ true
 unfolding tells
@@ -52,7 +52,7 @@ tells_last [] (w ∷ ws) e =
 tells_last (n ∷ ns) [] e = let z : ◌≡◌ {A = ℕ} 0 1 = cc in absurd (omega arith)
 tells_last (n ∷ ns) (w ∷ ws) e =
     let t : bytes_of ws ≡ ns ++ (bytes "changed" ∷ []) = cc in
-    rw (tells_last ns ws t) (or-true (is_changed w.bytes))
+    rw (tells_last ns ws t) (or_true (is_changed w.bytes))
 
 pub named_before : (ns : List (List ℕ)) (ws : List Word) → bytes_of ws ≡ ns ++ (bytes "changed" ∷ [])
     → bytes_of (named ws) ≡ ns
@@ -67,7 +67,7 @@ named_before (n ∷ ns) (w ∷ ws) e =
     let t : bytes_of ws ≡ ns ++ (bytes "changed" ∷ []) = cc in
     let h : w.bytes ≡ n = cc in
     let i = named_before ns ws t in
-    rw (tells_last ns ws t, and-false (is_changed w.bytes)) (cc)
+    rw (tells_last ns ws t, and_false (is_changed w.bytes)) (cc)
 
 pub letter_code : (c : ℕ) → c ≤ 7 → state_of (letter c) ≡ c
 unfolding state_of letter among bytes
@@ -96,8 +96,8 @@ unfolding is_time
 decimal_time t h =
     rw (
       lt-ltb 0 (length (decimal t)) (omega (arith, decimal_length t, width_some t)),
-      all_decimal (decimal-digits t),
-      decimal-read t (omega arith),
+      all_decimal (decimal_digits t),
+      decimal_read t (omega arith),
       lt-ltb t time_bound h,
     )
     refl

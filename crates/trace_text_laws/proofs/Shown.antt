@@ -20,7 +20,7 @@ use Rattle.alf.specs.Traces.{changed, change_count}
 use Rattle.alf.specs.Values.{row_of}
 use Rattle.alf.proofs.Orders.{passed_both}
 use Rattle.figures.specs.Numbers.{reading, decimal}
-use Rattle.figures.proofs.Digits.{decimal-read}
+use Rattle.figures.proofs.Digits.{decimal_read}
 use Rattle.listing.specs.Listing.{letter}
 use Rattle.trace_format.specs.Format.{Trace}
 use Rattle.trace_format.proofs.RowByRow.{room_for}
@@ -37,11 +37,11 @@ use Rattle.trace_text_laws.proofs.Said.{bytes_behind, decimal_time}
 
 -- Lines that say what the listing says.
 module _ {names times states : List ℕ} {n : ℕ} (t : Trace names times states n) (head : Line) (rows : List Line)
-    (said-head : said_by head ≡ head_words names (names_in names))
-    (said-rows : map said_by rows ≡ listed 0 n (λ r. row_words names (names_in names) states (get_or times r 0) r)) where
+    (said_head : said_by head ≡ head_words names (names_in names))
+    (said_rows : map said_by rows ≡ listed 0 n (λ r. row_words names (names_in names) states (get_or times r 0) r)) where
   behind_time : bytes_of (drop 1 head.words) ≡ listed 0 (names_in names) (name_at names) ++ (bytes "changed" ∷ [])
   unfolding head_words
-  behind_time = bytes_behind head.words ∙ ap (drop 1) said-head
+  behind_time = bytes_behind head.words ∙ ap (drop 1) said_head
 
   names_are : bytes_of (name_words head) ≡ listed 0 (names_in names) (name_at names)
   names_are = named_before (listed 0 (names_in names) (name_at names)) (drop 1 head.words) behind_time
@@ -62,8 +62,8 @@ module _ {names times states : List ℕ} {n : ℕ} (t : Trace names times states
       ∙ listed_at 0 (names_in names) i (name_at names) [] h
       ∙ ap (name_at names) (zero-add i)
 
-  new-name : (i : ℕ) → i < names_in names → NewName (name_words head) i
-  new-name i h =
+  new_name : (i : ℕ) → i < names_in names → NewName (name_words head) i
+  new_name i h =
       record {
         name = rw (name_at_lem i h) (t.good i h).named;
         new = λ j l e. (t.good i h).new j l (sym (name_at_lem j (omega arith)) ∙ e ∙ name_at_lem i h);
@@ -74,11 +74,11 @@ module _ {names times states : List ℕ} {n : ℕ} (t : Trace names times states
   names_pass zero h = tt
   names_pass (suc i) h =
       passed_both (names_order (name_words head) i) _ (names_pass i (omega arith))
-      ((λ p a. omega (arith, a.given, t.slots.few)), ((λ p a. a.given (new-name i (omega arith))), tt))
+      ((λ p a. omega (arith, a.given, t.slots.few)), ((λ p a. a.given (new_name i (omega arith))), tt))
 
   first_word : (get_or head.words 0 none).bytes ≡ bytes "time"
   unfolding head_words
-  first_word = bytes_at head.words 0 ∙ ap (λ (l : List (List ℕ)). get_or l 0 []) said-head
+  first_word = bytes_at head.words 0 ∙ ap (λ (l : List (List ℕ)). get_or l 0 []) said_head
 
   time_first : same (bytes "time") (bytes "time") ≡ true
   unfolding same bytes
@@ -99,7 +99,7 @@ module _ {names times states : List ℕ} {n : ℕ} (t : Trace names times states
   row_said : (r : ℕ) → r < n → said_by (row_at r) ≡ row_words names (names_in names) states (get_or times r 0) r
   row_said r h =
       sym (get_or-map said_by rows r (line [] 0))
-      ∙ ap (λ (l : List (List (List ℕ))). get_or l r []) said-rows
+      ∙ ap (λ (l : List (List (List ℕ))). get_or l r []) said_rows
       ∙ listed_at 0 n r (λ r. row_words names (names_in names) states (get_or times r 0) r) [] h
       ∙ ap (λ (i : ℕ). row_words names (names_in names) states (get_or times i 0) i) (zero-add r)
 
@@ -108,7 +108,7 @@ module _ {names times states : List ℕ} {n : ℕ} (t : Trace names times states
   time_word r h = bytes_at (row_at r).words 0 ∙ ap (λ (l : List (List ℕ)). get_or l 0 []) (row_said r h)
 
   time_read : (r : ℕ) → r < n → time_of_lem (row_at r) ≡ get_or times r 0
-  time_read r h = ap (reading 0) (time_word r h) ∙ decimal-read (get_or times r 0) (omega (arith, t.words r))
+  time_read r h = ap (reading 0) (time_word r h) ∙ decimal_read (get_or times r 0) (omega (arith, t.words r))
 
   states_count : (r : ℕ) → length (state_words (names_in names) states r) ≡ names_in names
   unfolding state_words
@@ -188,7 +188,7 @@ module _ {names times states : List ℕ} {n : ℕ} (t : Trace names times states
   rows_count : length rows ≡ n
   rows_count =
       sym (length-map rows said_by)
-      ∙ ap length said-rows
+      ∙ ap length said_rows
       ∙ listed_length 0 n (λ r. row_words names (names_in names) states (get_or times r 0) r)
 
   pub said_passes : (size : ℕ) → Passed (said_order size (head ∷ rows))

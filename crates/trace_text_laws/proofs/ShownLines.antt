@@ -20,7 +20,7 @@ use Rattle.trace_format.proofs.RowByRow.{room_for}
 use Rattle.row_lines.specs.Lines.{member, members, letters, row_line, row_lines}
 use Rattle.activity.specs.Activity.{head_line, activity_text}
 use Rattle.trace_texts.proofs.Splitting.{Dense, trail, Spelt}
-use Rattle.trace_text_laws.proofs.WordBytes.{name_dense, letter_dense, decimal_dense, decimal-digits, no_comment}
+use Rattle.trace_text_laws.proofs.WordBytes.{name_dense, letter_dense, decimal_dense, decimal_digits, no_comment}
 
 -- words behind words
 trail_both : (a b : List (List ℕ)) → trail (a ++ b) ≡ trail a ++ trail b
@@ -148,7 +148,7 @@ module _ {names times states : List ℕ} {n : ℕ} (t : Trace names times states
   rows_spelt a zero h = Spelt.none
   rows_spelt a (suc m) h =
       let k = names_in names in
-      Spelt.more (decimal_dense (get_or times a 0)) (no_comment _ (decimal-digits (get_or times a 0)))
+      Spelt.more (decimal_dense (get_or times a 0)) (no_comment _ (decimal_digits (get_or times a 0)))
       (all_both
       (all_listed 0 k (λ i. letter (row_of k states a i) ∷ [])
       (λ i l j. letter_dense (row_of k states a i) (code_small a i (omega arith) (omega arith))))

@@ -1,6 +1,6 @@
 -- Names, letters of states and numbers are words of a text: they have no blank and no LF.
 --   name_dense, letter_dense, decimal_dense    names, letters and numbers
---   Digit, decimal-digits, digit_is            the digits of a number
+--   Digit, decimal_digits, digit_is            the digits of a number
 --   no_comment                                 a number starts no comment
 use Prim.Native.Nat.{ℕ, zero, suc, ◌/◌, ◌≤◌}
 use native.Mathlib.Omega.{arith}
@@ -80,9 +80,9 @@ unfolding digits
 digits_all zero n = All.none
 digits_all (suc k) n = all_last (digits_all k (n / 10)) (record { low = omega arith; high = omega arith })
 
-pub decimal-digits : (n : ℕ) → All Digit (decimal n)
+pub decimal_digits : (n : ℕ) → All Digit (decimal n)
 unfolding decimal
-decimal-digits n = digits_all (width n) n
+decimal_digits n = digits_all (width n) n
 
 pub digit_is : {d : ℕ} → Digit d → is_decimal d ≡ true
 unfolding is_decimal
@@ -104,7 +104,7 @@ some_digit : (n : ℕ) → 1 ≤ length (decimal n)
 some_digit n = omega (arith, decimal_length n, width_some n)
 
 pub decimal_dense : (n : ℕ) → Dense (decimal n)
-decimal_dense n = digits_dense (decimal n) (some_digit n) (decimal-digits n)
+decimal_dense n = digits_dense (decimal n) (some_digit n) (decimal_digits n)
 
 pub no_comment : (ds : List ℕ) → All Digit ds → get_or ds 0 0 ≡ 35 → ⊥
 no_comment [] a e = omega arith

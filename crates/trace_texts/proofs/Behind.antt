@@ -1,7 +1,7 @@
 -- Line after line.
---   Passing, passing_first, passing_next, passes-end, passes_all    bytes of a line are passed, up to LF
+--   Passing, passing_first, passing_next, passes_end, passes_all    bytes of a line are passed, up to LF
 --   says_first        whether a line says something is told by the first byte of its first word
---   Seeking, seeking_first, seeking_next, next_found, next-none     lines that say nothing are passed
+--   Seeking, seeking_first, seeking_next, next_found, next_none     lines that say nothing are passed
 use Rattle.std.specs.Prelude.{if◌then◌else◌}
 use Prim.Native.Nat.{ℕ, ◌+◌, ◌<◌, ◌≤◌}
 use native.Mathlib.Omega.{arith}
@@ -63,9 +63,9 @@ module _ {text : List ℕ} {p i : ℕ} (g : Passing text p i) where
         same_rest = g.same_rest ∙ rest_step text h (ne_eqb (get_or text i 0) 10 n);
       }
 
-  pub passes-end : i < length text → get_or text i 0 ≡ 10 → Passes text p (i + 1)
+  pub passes_end : i < length text → get_or text i 0 ≡ 10 → Passes text p (i + 1)
   unfolding said_from
-  passes-end h e =
+  passes_end h e =
       record {
         low = omega (arith, g.low);
         within = omega arith;
@@ -102,9 +102,9 @@ says_first text {i} h n b =
     ap (λ (x : Lines). says x.first.words) (step text h)
     ∙ rw (ne_eqb (get_or text i 0) 10 n, b) (says_joins i (get_or text i 0) (from text (i + 1)).first.words)
 
-opening-is : (b : ℕ) → is_opening b ≡ true → (b ≡ 10 → ⊥) × (b ≡ 35 → ⊥)
+opening_is : (b : ℕ) → is_opening b ≡ true → (b ≡ 10 → ⊥) × (b ≡ 35 → ⊥)
 unfolding is_opening
-opening-is b h = go (eqb b 10) (eqb b 35) refl refl h
+opening_is b h = go (eqb b 10) (eqb b 35) refl refl h
   where
     go : (x y : Bool) → eqb b 10 ≡ x → eqb b 35 ≡ y → not (x || y) ≡ true → (b ≡ 10 → ⊥) × (b ≡ 35 → ⊥)
     go true y k l m = never m
@@ -130,8 +130,8 @@ unfolding said_from
 said_skips s = ap (λ (x : Lines). saying (x.first ∷ x.rest)) s.same_lines
 
 module _ {text : List ℕ} {p at : ℕ} (g : Seeking text p at) where
-  pub next-none : length text ≤ at → Next text p at
-  next-none h =
+  pub next_none : length text ≤ at → Next text p at
+  next_none h =
       record {
         within = g.within;
         low = g.low;
@@ -140,8 +140,8 @@ module _ {text : List ℕ} {p at : ℕ} (g : Seeking text p at) where
       }
 
   module _ {w : ℕ} (s : Skips text at w) where
-    pub next-end : w ≡ length text → Next text p w
-    next-end e =
+    pub next_end : w ≡ length text → Next text p w
+    next_end e =
         record {
           within = s.within;
           low = omega (arith, g.low, s.low);
@@ -151,7 +151,7 @@ module _ {text : List ℕ} {p at : ℕ} (g : Seeking text p at) where
 
     pub next_found : {b : Bool} → b ≡ is_opening (get_or text w 0) → b ≡ true → Next text p w
     next_found e t =
-        let o = opening-is (get_or text w 0) (sym e ∙ t) in
+        let o = opening_is (get_or text w 0) (sym e ∙ t) in
         record {
           within = s.within;
           low = omega (arith, g.low, s.low);

@@ -127,7 +127,7 @@ pub record Looking (text : List ℕ) (p i at : ℕ) : Type 0 where
   pub left : (from text at).first.words ≡ drop i (from text p).first.words
   pub same_end : (from text at).first.end ≡ (from text p).first.end
   pub same_rest : (from text at).rest ≡ (from text p).rest
-  pub at-word : at < length text → is_blank_lem (get_or text at 0) ≡ false
+  pub at_word : at < length text → is_blank_lem (get_or text at 0) ≡ false
 
 pub looking_first : {text : List ℕ} {p at : ℕ} → Skips text p at → Looking text p 0 at
 looking_first s =
@@ -136,7 +136,7 @@ looking_first s =
       left = ap (λ (x : Lines). x.first.words) (sym s.same_lines);
       same_end = ap (λ (x : Lines). x.first.end) (sym s.same_lines);
       same_rest = ap (λ (x : Lines). x.rest) (sym s.same_lines);
-      at-word = s.behind;
+      at_word = s.behind;
     }
 
 module _ {text : List ℕ} {p i at : ℕ} (g : Looking text p i at) where
@@ -152,7 +152,7 @@ module _ {text : List ℕ} {p i at : ℕ} (g : Looking text p i at) where
       )
   next_words {b} r (inr h) =
       let e : b ≡ at = omega (arith, r.low) in
-      let none = no_run text r e g.at-word in
+      let none = no_run text r e g.at_word in
       rw e (none ∙ sym (ap (drop 1) none), refl, refl)
 
   pub looking_next : {b at' : ℕ} → Runs text at b → Skips text b at' → Looking text p (i + 1) at'
@@ -166,7 +166,7 @@ module _ {text : List ℕ} {p i at : ℕ} (g : Looking text p i at) where
             ∙ drop-drop 1 i (from text p).first.words;
         same_end = ap (λ (x : Lines). x.first.end) back ∙ w.1 ∙ g.same_end;
         same_rest = ap (λ (x : Lines). x.rest) back ∙ w.2 ∙ g.same_rest;
-        at-word = s.behind;
+        at_word = s.behind;
       }
 
 pub looking_end : {text : List ℕ} {p i n at end : ℕ} → Looking text p i at → i ≡ n → Runs text at end
@@ -177,5 +177,5 @@ looking_end {text} {p} g e r =
       same_end = g.same_end;
       same_rest = g.same_rest;
       run = r;
-      at-word = g.at-word;
+      at_word = g.at_word;
     }

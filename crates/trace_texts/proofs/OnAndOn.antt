@@ -25,7 +25,7 @@ finds_on {text} {p} {i} g h =
       same_end = h.same_end ∙ g.same_end;
       same_rest = h.same_rest ∙ g.same_rest;
       run = h.run;
-      at-word = h.at-word;
+      at_word = h.at_word;
     }
 
 pub has_word : {text : List ℕ} {p i s e : ℕ} → Finds text p i s e → i < length (from text p).first.words → s < e

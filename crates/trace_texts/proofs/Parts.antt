@@ -1,6 +1,6 @@
 -- Lists in parts of one length, and what is so of each entry.
 --   parts_length, joined_part              how long the parts are together, and one of them
---   all_map, map_all, all-at, all_parts, all_by     what is so of each entry
+--   all_map, map_all, all_at, all_parts, all_by     what is so of each entry
 use Prim.Native.Nat.{ℕ, zero, suc, ◌+◌, ◌*◌, ◌<◌}
 use native.Mathlib.Omega.{arith}
 use native.Mathlib.Nat.{zero-mul, suc-mul}
@@ -37,10 +37,10 @@ pub map_all : {A B : Type 0} {P : B → Type 0} (f : A → B) {l : List A} → A
 map_all f All.none = All.none
 map_all f (All.more p a) = All.more p (map_all f a)
 
-pub all-at : {A : Type 0} {P : A → Type 0} {l : List A} (d : A) → All P l → (i : ℕ) → i < length l → P (get_or l i d)
-all-at d All.none i h = absurd (omega arith)
-all-at d (All.more p a) zero h = p
-all-at d (All.more p a) (suc i) h = all-at d a i (omega arith)
+pub all_at : {A : Type 0} {P : A → Type 0} {l : List A} (d : A) → All P l → (i : ℕ) → i < length l → P (get_or l i d)
+all_at d All.none i h = absurd (omega arith)
+all_at d (All.more p a) zero h = p
+all_at d (All.more p a) (suc i) h = all_at d a i (omega arith)
 
 pub all_parts : {P : ℕ → Type 0} {ls : List (List ℕ)} → All (All P) ls → All P (joined ls)
 unfolding joined

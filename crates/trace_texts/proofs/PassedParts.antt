@@ -68,9 +68,9 @@ one_state row (suc m) i q h = go (below? i m) (one_state row m i (passed_left (s
         (le_stable _ 7
         (λ n. r.1.0 (state_word row m).at (record { given = lt_stable 7 _ (λ f. n (omega arith)); there = refl })))
 
-not-false : (b : Bool) → (b ≡ false → ⊥) → b ≡ true
-not-false true h = refl
-not-false false h = absurd (h refl)
+not_false : (b : Bool) → (b ≡ false → ⊥) → b ≡ true
+not_false true h = refl
+not_false false h = absurd (h refl)
 
 -- what passed of one row
 module _ (k : ℕ) (passed : Bool) (rows : List Line) (r : ℕ) (q : Passed (row_order k passed rows r)) where
@@ -88,7 +88,7 @@ module _ (k : ℕ) (passed : Bool) (rows : List Line) (r : ℕ) (q : Passed (row
 
   pub row_time_lem : is_time (get_or here.words 0 none).bytes ≡ true
   unfolding row_order Passed
-  row_time_lem = not-false _ (λ e. q.1.0 (get_or here.words 0 none).at (record { given = e; there = refl }))
+  row_time_lem = not_false _ (λ e. q.1.0 (get_or here.words 0 none).at (record { given = e; there = refl }))
 
   pub row_later : 0 < r → time_of_lem (get_or rows (r - 1) (line [] 0)) < time_of_lem here
   unfolding row_order Passed

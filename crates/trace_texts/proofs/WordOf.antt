@@ -51,14 +51,14 @@ module _ {text : List ℕ} {p n s e : ℕ} (g : Finds text p n s e) where
       go : (x : Bool) → eqb (get_or text s 0) 10 ≡ x → eqb (get_or text s 0) 10 ≡ true
       go true f = f
       go false f =
-          let solid : is_solid_lem (get_or text s 0) ≡ true = rw (f, g.at-word l) refl in
+          let solid : is_solid_lem (get_or text s 0) ≡ true = rw (f, g.at_word l) refl in
           let none : is_solid_lem (get_or text s 0) ≡ false = rw same at (g.run.behind (omega (arith, same))) in
           never (sym none ∙ solid)
 
   pub no_word : e ≤ s → (length (from text p).first.words ≤ n) × (s ≡ (from text p).first.end)
   no_word h =
       let same : e ≡ s = omega (arith, g.run.low) in (
-        drop_none _ n (sym (no_run text g.run same g.at-word) ∙ g.left),
+        drop_none _ n (sym (no_run text g.run same g.at_word) ∙ g.left),
         sym (ended (below? s (length text))) ∙ g.same_end,
       )
     where

@@ -34,7 +34,7 @@ pub record Finds (text : List ℕ) (p n start end : ℕ) : Type 0 where
   pub same_end : (from text start).first.end ≡ (from text p).first.end
   pub same_rest : (from text start).rest ≡ (from text p).rest
   pub run : Runs text start end
-  pub at-word : start < length text → is_blank_lem (get_or text start 0) ≡ false
+  pub at_word : start < length text → is_blank_lem (get_or text start 0) ≡ false
 
 -- the lines that say something, from a byte on
 unfoldable pub said_from : List ℕ → ℕ → List Line

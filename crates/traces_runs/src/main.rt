@@ -10,11 +10,13 @@ ghost use Rattle.std.specs.Prelude.{◌≤◌};
 use crate::again::read_again;
 use crate::long::read_rows;
 use basics::Outcome;
+use loading::files::read_all;
 use run_printing::printing::{broken, character, number, small, write};
 use run_words::words::digit;
 use std::io;
-use std::io::{Read, Stdout};
+use std::io::Stdout;
 use text_parts::lines::{behind_line, line_at};
+use text_parts::parts::front;
 use trace_reader::Reading;
 use trace_reader::read::read_trace;
 use trace_writer::write::write_trace;
@@ -214,10 +216,10 @@ fn show_lines(to: Stdout, input: &[u8]) {
 
 // The files of the input; then one name and 65,535 rows, and 65,536: the last one's mark is at byte 4 + 7 * 65,535.
 fn main(rt: HostRuntime) -> io::Result<()> {
-    let mut input = Vec::new(rt.alloc());
-    rt.reader().read_to_end(&mut input)?;
+    let mut input = [0u8; 65536];
+    let n = read_all(&mut rt.reader(), &mut input)?;
     let to = rt.stdout();
-    show_lines(to, &input);
+    show_lines(to, front(&input, n));
     read_rows(to, 65535);
     read_rows(to, 65536);
     Ok(())

@@ -1,6 +1,6 @@
 -- The vector expression that ends at a place, from its last byte: what it is, and that its operands end where the code
 -- looks for them.
--- Main names: vector_pos, right_ends, edge-is, before_is, before_ends, condition_is, join_is, ends_left.
+-- Main names: vector_pos, right_ends, edge_is, before_is, before_ends, condition_is, join_is, ends_left.
 use Prim.Native.Nat.{ℕ, ◌-◌, ◌<◌, ◌≤◌}
 use native.Mathlib.Omega.{arith}
 use mathlib.Core.Path.{◌≡◌, refl}
@@ -9,7 +9,7 @@ use mathlib.Core.List.{List}
 use lib.Dec.{eqb}
 use lib.ListN.{get_or, length}
 use borrow.Author.Tests.{eqb-true, eqb-false}
-use Rattle.alf.specs.Expressions.{edge, join, while, on-right, on-left}
+use Rattle.alf.specs.Expressions.{edge, join, while, on_right, on_left}
 use Rattle.alf.specs.Decoder.{edge_at, join_at, is_boolean, is_vector, top_boolean, top_vector, under, stack_at}
 use Rattle.alf.proofs.Made.{Made}
 use Rattle.alf.proofs.Parts.{made_last}
@@ -28,7 +28,7 @@ vector_under g l h = let p = g.before in record { within = omega arith; whole = 
 
 -- P & c with P before m and c behind it; P j Q likewise; c & P
 pub record Conditioned (t : List ℕ) (names end m : ℕ) : Type 0 where
-  pub is : vector_at t names end ≡ while on-right (vector_at t names m) (boolean_at t names (end - 1))
+  pub is : vector_at t names end ≡ while on_right (vector_at t names m) (boolean_at t names (end - 1))
   pub left : EndsVector t names m
   pub right : EndsBoolean t names (end - 1)
 
@@ -50,13 +50,13 @@ module _ (t : List ℕ) (names end : ℕ) (h : EndsVector t names end) where
   inside : end - 1 ≤ length t
   inside = omega (arith, h.within)
 
-  pub edge-is : 64 ≤ get_or t (end - 1) 0
+  pub edge_is : 64 ≤ get_or t (end - 1) 0
       → vector_at t names end ≡ edge (edge_at (get_or t (end - 1) 0 - 64)) (boolean_at t names (end - 1))
-  edge-is k = (edge_top names _ byte h.whole k).is
+  edge_is k = (edge_top names _ byte h.whole k).is
 
   pub before_is : get_or t (end - 1) 0 ≡ 57
       → top_vector (stack_at t names end)
-      ≡ while on-left (vector_at t names (end - 1)) (top_boolean (under (stack_at t names (end - 1))))
+      ≡ while on_left (vector_at t names (end - 1)) (top_boolean (under (stack_at t names (end - 1))))
   before_is k = (condition_before_top names _ byte h.whole k).is
 
   pub before_ends : get_or t (end - 1) 0 ≡ 57 → EndsVector t names (end - 1)

@@ -5,8 +5,8 @@
 use Rattle.std.specs.Prelude.{ℕ, ◌+◌, ◌-◌, max, ltb, if◌then◌else◌}
 use Rattle.alf.specs.Expressions.{Binary, and, or, xor, xnor, equals, differs, above, below, is_at_least, is_at_most}
 use Rattle.alf.specs.Expressions.{Boolean, name, literal, negated, binary, choice, Vector, edge, join, while}
-use Rattle.alf.specs.Expressions.{Join, followed-by, either_order, with-or-then, any_order, with, or_else}
-use Rattle.alf.specs.Expressions.{on-right, on-left, Expression, boolean, vector}
+use Rattle.alf.specs.Expressions.{Join, followed_by_join, either_order, with_or_then, any_order, with, or_else}
+use Rattle.alf.specs.Expressions.{on_right, on_left, Expression, boolean, vector}
 use Rattle.alf.specs.Decoder.{binary_at, join_at}
 
 -- (1) `! ~` and edges; (2) `^ ~^ == != > < >= <=`; (3) `& &&`; (4) `-> <-> &> <&>`; (5) `| ||`; (6) `? :`
@@ -23,9 +23,9 @@ binary_level is_at_least = 2
 binary_level is_at_most = 2
 
 unfoldable pub join_level : Join → ℕ
-join_level followed-by = 4
+join_level followed_by_join = 4
 join_level either_order = 4
-join_level with-or-then = 4
+join_level with_or_then = 4
 join_level any_order = 4
 join_level with = 3
 join_level or_else = 5
@@ -59,9 +59,9 @@ unfoldable pub vector_depth : Vector → ℕ
 vector_depth (edge e c) = bracketed 1 (boolean c) (boolean_depth c)
 vector_depth (join j p q) =
     max (bracketed (join_level j) (vector p) (vector_depth p)) (bracketed (join_level j - 1) (vector q) (vector_depth q))
-vector_depth (while on-right p c) =
+vector_depth (while on_right p c) =
     max (bracketed 3 (vector p) (vector_depth p)) (bracketed 2 (boolean c) (boolean_depth c))
-vector_depth (while on-left p c) =
+vector_depth (while on_left p c) =
     max (bracketed 3 (boolean c) (boolean_depth c)) (bracketed 2 (vector p) (vector_depth p))
 
 unfoldable pub depth_of : Expression → ℕ

@@ -10,8 +10,8 @@ use mathlib.Core.Path.{◌≡◌, refl, sym, ◌∙◌}
 use mathlib.Core.Bool.{true}
 use mathlib.Core.List.{List, [], ◌∷◌, ◌++◌}
 use lib.ListN.{get_or, length, length-append}
-use Rattle.alf.specs.Expressions.{Vector, edge, join, while, on-right, on-left, boolean, vector}
-use Rattle.alf.specs.Expressions.{Join, followed-by, either_order, with-or-then, any_order, with, or_else}
+use Rattle.alf.specs.Expressions.{Vector, edge, join, while, on_right, on_left, boolean, vector}
+use Rattle.alf.specs.Expressions.{Join, followed_by_join, either_order, with_or_then, any_order, with, or_else}
 use Rattle.alf.specs.Bytes.{edge_number, join_byte, boolean_bytes, vector_bytes, bytes_of}
 use Rattle.alf.specs.Decoder.{join_at, arity_at}
 use Rattle.alf.specs.Decoder.{Stack, empty, broken, push, is_vector, top_vector, stack_at}
@@ -19,15 +19,15 @@ use Rattle.basics.proofs.Bools.{never}
 use Rattle.alf.proofs.Parts.{deep, size, back}
 use Rattle.trees.specs.Parts.{EndsVector, vector_at}
 use Rattle.trees.proofs.Starts.{of_vector, whole_deep}
-use Rattle.trees.proofs.Vectors.{Conditioned, Joined, edge-is, before_is}
+use Rattle.trees.proofs.Vectors.{Conditioned, Joined, edge_is, before_is}
 use Rattle.window_answers.specs.Lengths.{joined_length, longest}
 
 -- no more events than bytes
 joined_sum : (j : Join) (n m : ℕ) → joined_length j n m ≤ n + m
 unfolding joined_length
-joined_sum followed-by n m = omega arith
+joined_sum followed_by_join n m = omega arith
 joined_sum either_order n m = omega arith
-joined_sum with-or-then n m = omega arith
+joined_sum with_or_then n m = omega arith
 joined_sum any_order n m = omega arith
 joined_sum with n m = omega arith
 joined_sum or_else n m = omega arith
@@ -44,10 +44,10 @@ longest_bytes (join j p q) =
       length-append (vector_bytes p) (vector_bytes q ++ (join_byte j ∷ [])),
       length-append (vector_bytes q) (join_byte j ∷ []),
     )
-longest_bytes (while on-right p c) =
+longest_bytes (while on_right p c) =
     let n = longest_bytes p in
     omega (arith, length-append (vector_bytes p) (boolean_bytes c ++ (56 ∷ [])))
-longest_bytes (while on-left p c) =
+longest_bytes (while on_left p c) =
     let n = longest_bytes p in
     omega (arith, length-append (boolean_bytes c) (vector_bytes p ++ (57 ∷ [])), length-append (vector_bytes p) (57 ∷ []))
 
@@ -59,21 +59,21 @@ longest_size (push (boolean c) s) h = never h
 longest_size (push (vector p) s) h = let l = longest_bytes p in omega arith
 
 -- the expressions on top have no more bytes than there are
-size-le : (t : List ℕ) (names m n : ℕ) → deep n (stack_at t names m) → size n (stack_at t names m) ≤ m
+size_le : (t : List ℕ) (names m n : ℕ) → deep n (stack_at t names m) → size n (stack_at t names m) ≤ m
 unfolding stack_at deep size
-size-le t names zero zero h = omega arith
-size-le t names zero (suc n) h = absurd h
-size-le t names (suc m) zero h = omega arith
-size-le t names (suc m) (suc n) h =
+size_le t names zero zero h = omega arith
+size_le t names zero (suc n) h = absurd h
+size_le t names (suc m) zero h = omega arith
+size_le t names (suc m) (suc n) h =
     let g = rw sub-one at (back t names (suc m) n (omega arith) h) in
-    let l = size-le t names m (n + arity_at (get_or t m 0)) g.has in
+    let l = size_le t names m (n + arity_at (get_or t m 0)) g.has in
     let e = g.less in
     omega arith
 
 pub longest_fits : (t : List ℕ) (names end : ℕ) → EndsVector t names end → longest (vector_at t names end) ≤ end
 longest_fits t names end h =
     let l = longest_size (stack_at t names end) h.whole in
-    let u = size-le t names end 1 (whole_deep _ (of_vector h).whole) in
+    let u = size_le t names end 1 (whole_deep _ (of_vector h).whole) in
     omega arith
 
 -- operators by their bytes
@@ -102,7 +102,7 @@ Length t names end r = r ≡ longest (vector_at t names end)
 module _ (t : List ℕ) (names end : ℕ) where
   pub edge_longest : EndsVector t names end → 64 ≤ get_or t (end - 1) 0 → Length t names end 1
   unfolding longest
-  edge_longest h k = rw (edge-is t names end h k) refl
+  edge_longest h k = rw (edge_is t names end h k) refl
 
   pub before_longest : {r : ℕ} → EndsVector t names end → get_or t (end - 1) 0 ≡ 57 → Length t names (end - 1) r
       → Length t names end r

@@ -10,7 +10,7 @@ use lib.ListN.{length, length-append}
 use borrow.Author.Tests.{ltb-false}
 use Rattle.basics.specs.Words.{greatest_of}
 use Rattle.alf.specs.Expressions.{Boolean, Edge, Vector, edge, join, while}
-use Rattle.alf.specs.Expressions.{Join, followed-by, either_order, with-or-then, any_order, with, or_else}
+use Rattle.alf.specs.Expressions.{Join, followed_by_join, either_order, with_or_then, any_order, with, or_else}
 use Rattle.alf.specs.Alternatives.{Alternative, each, chained, overlapped, rewritten, alternatives, steps_of, over_limit}
 use Rattle.basics.proofs.Bools.{or_left, or_right}
 use Rattle.basics.proofs.Extremes.{greatest_of_append}
@@ -42,10 +42,10 @@ behind_each (x ∷ (z ∷ xs)) ys h k =
 in_order : (j : Join) (xs ys : List Alternative) → 0 < length xs → 0 < length ys → joined_length j 1 1 ≡ 2
     → most xs + most ys ≤ most (rewritten j xs ys)
 unfolding rewritten joined_length
-in_order followed-by xs ys h k o = behind_each xs ys h k
+in_order followed_by_join xs ys h k o = behind_each xs ys h k
 in_order either_order xs ys h k o =
     let e = behind_each xs ys h k in omega (arith, greatest_of_append length (chained xs ys) (chained ys xs))
-in_order with-or-then xs ys h k o =
+in_order with_or_then xs ys h k o =
     let e = behind_each xs ys h k in omega (arith, greatest_of_append length (overlapped xs ys) (chained xs ys))
 in_order any_order xs ys h k o =
     let e = behind_each xs ys h k in
@@ -62,9 +62,9 @@ module _ (p q : Vector) (h : longest p ≤ most (alternatives p)) (k : longest q
 
   joined_steps : (j : Join) → joined_length j (longest p) (longest q) ≤ most (alternatives (join j p q))
   unfolding joined_length
-  joined_steps followed-by = summed followed-by refl
+  joined_steps followed_by_join = summed followed_by_join refl
   joined_steps either_order = summed either_order refl
-  joined_steps with-or-then = summed with-or-then refl
+  joined_steps with_or_then = summed with_or_then refl
   joined_steps any_order = summed any_order refl
   joined_steps with = omega (arith, (join_left with p q).steps, (join_right with p q).steps)
   joined_steps or_else = omega (arith, (join_left or_else p q).steps, (join_right or_else p q).steps)

@@ -46,8 +46,8 @@ module _ {t : List ℕ} {names end : ℕ} (h : EndsVector t names end) where
   was : Made names (last_byte t end) (stack_at t names (end - 1)) (stack_at t names end)
   was = made_last t names end some_bytes
 
-  edge-is : 64 ≤ last_byte t end → EdgeTop (last_byte t end) (stack_at t names (end - 1)) (stack_at t names end)
-  edge-is = edge_top names _ was h.whole
+  edge_is : 64 ≤ last_byte t end → EdgeTop (last_byte t end) (stack_at t names (end - 1)) (stack_at t names end)
+  edge_is = edge_top names _ was h.whole
 
   join_is : last_byte t end < 56 → JoinTop (last_byte t end) (stack_at t names (end - 1)) (stack_at t names end)
   join_is = join_top names _ was h.whole
@@ -59,7 +59,7 @@ module _ {t : List ℕ} {names end : ℕ} (h : EndsVector t names end) where
   before_is = condition_before_top names _ was h.whole
 
   pub edge_ends : 64 ≤ last_byte t end → EndsBoolean t names (end - 1)
-  edge_ends k = record { within = omega (arith, h.within); whole = (edge-is k).right }
+  edge_ends k = record { within = omega (arith, h.within); whole = (edge_is k).right }
 
   module _ (small : last_byte t end < 64) where
     pub operator_byte : OperatorByte (last_byte t end)
@@ -191,6 +191,6 @@ module _ {t : List ℕ} {names end : ℕ} (h : EndsVector t names end) where
       ≡ On ρ t pins names states end a b
   unfolding leaf_over_lem answer
   edge_answer ρ pins states a b k =
-      rw (le-ltb _ _ k, on_vector t pins names states end ρ h.whole, (edge-is k).is)
+      rw (le-ltb _ _ k, on_vector t pins names states end ρ h.whole, (edge_is k).is)
       (sym (edge_placed (state_at ρ names states) (boolean_at t names) pins end a b (edge_at (last_byte t end - 64))
       (boolean_at t names (end - 1))))

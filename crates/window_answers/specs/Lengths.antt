@@ -3,12 +3,12 @@
 --   longest        of an expression; that a window of more events answers no is a law
 use Rattle.std.specs.Prelude.{ℕ, ◌+◌, max}
 use Rattle.alf.specs.Expressions.{Vector, edge, join, while}
-use Rattle.alf.specs.Expressions.{Join, followed-by, either_order, with-or-then, any_order, with, or_else}
+use Rattle.alf.specs.Expressions.{Join, followed_by_join, either_order, with_or_then, any_order, with, or_else}
 
 unfoldable pub joined_length : Join → ℕ → ℕ → ℕ
-joined_length followed-by n m = n + m
+joined_length followed_by_join n m = n + m
 joined_length either_order n m = n + m
-joined_length with-or-then n m = n + m
+joined_length with_or_then n m = n + m
 joined_length any_order n m = n + m
 joined_length with n m = max n m
 joined_length or_else n m = max n m

@@ -193,9 +193,9 @@ module _ {names tree : List ℕ} {sort : Sort} (h : Named names) (a : Accepted o
 
   module _ {list : List ℕ} {count : ℕ}
       (k : Holds list count (signs 6 (tree_at tree (names_in names) (length tree)))) where
-    pub line-is : line_from names 0 (take count list) ≡ text_at names tree
+    pub line_is : line_from names 0 (take count list) ≡ text_at names tree
     unfolding signs tree_at text_at text
-    line-is = ap (line_from names 0) k.front ∙ line_text (names_few names h.passed) tokens
+    line_is = ap (line_from names 0) k.front ∙ line_text (names_few names h.passed) tokens
 
     counted : count ≡ length (written 6 (tree_of e))
     unfolding signs tree_at
@@ -212,7 +212,7 @@ module _ {names tree : List ℕ} {sort : Sort} (h : Named names) (a : Accepted o
     short = omega (arith, text_short tokens, few)
 
     pub lined : Linable names list count
-    lined = record { there = omega (arith, counted, few); signs = spellable; short = rw line-is short }
+    lined = record { there = omega (arith, counted, few); signs = spellable; short = rw line_is short }
 
     -- the text is made
     pub wrote :
@@ -221,5 +221,5 @@ module _ {names tree : List ℕ} {sort : Sort} (h : Named names) (a : Accepted o
         Delivers (take size buffer) out out' r →
         Writes names tree sort out out' r
     wrote {out = out} {r = r} m d =
-        let g = rw (m.front ∙ line-is) at d in
+        let g = rw (m.front ∙ line_is) at d in
         record { outcome = comes_end names tree sort (length out) h a r g.outcome; memory = g.memory }

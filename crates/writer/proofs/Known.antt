@@ -12,9 +12,9 @@ use lib.ListN.{length, length-append}
 use Rattle.alf.specs.Names.{is_name, name_at}
 use Rattle.alf.specs.Expressions.{Boolean, name, literal, negated, binary, choice, Vector, edge, join, while}
 use Rattle.alf.specs.Expressions.{Binary, and, or, xor, xnor, equals, differs, above, below, is_at_least, is_at_most}
-use Rattle.alf.specs.Expressions.{Join, followed-by, either_order, with-or-then, any_order, with, or_else}
+use Rattle.alf.specs.Expressions.{Join, followed_by_join, either_order, with_or_then, any_order, with, or_else}
 use Rattle.alf.specs.Expressions.{Half, any, the, Edge, pair, changes, stays}
-use Rattle.alf.specs.Expressions.{on-right, on-left, Expression, boolean, vector}
+use Rattle.alf.specs.Expressions.{on_right, on_left, Expression, boolean, vector}
 use Rattle.alf.specs.Expressions.{Over, HalfKnown, EdgeKnown, VectorOver, ExpressionOver}
 use Rattle.alf.specs.Bytes.{binary_byte, half_number, edge_number, boolean_bytes, vector_bytes, bytes_of}
 use Rattle.grammar.specs.declared.Token.{Token}
@@ -83,9 +83,9 @@ binary_sign is_at_most = low (lit≤ tt) (lit≤ tt)
 
 join_sign : (j : Join) → Sign (join_code j)
 unfolding join_code
-join_sign followed-by = low (lit≤ tt) (lit≤ tt)
+join_sign followed_by_join = low (lit≤ tt) (lit≤ tt)
 join_sign either_order = low (lit≤ tt) (lit≤ tt)
-join_sign with-or-then = low (lit≤ tt) (lit≤ tt)
+join_sign with_or_then = low (lit≤ tt) (lit≤ tt)
 join_sign any_order = low (lit≤ tt) (lit≤ tt)
 join_sign with = low (lit≤ tt) (lit≤ tt)
 join_sign or_else = low (lit≤ tt) (lit≤ tt)
@@ -120,9 +120,9 @@ module _ {names : List ℕ} (good : (i : ℕ) → i < length names / 32 → is_n
   unfolding vector_tree VectorOver
   vector_known (edge e c) h = k_one (a_sign (edge_sign e h.0)) (boolean_known c h.1)
   vector_known (join j p q) h = k_two (a_sign (join_sign j)) (vector_known p h.0) (vector_known q h.1)
-  vector_known (while on-right p c) h =
+  vector_known (while on_right p c) h =
       k_two (a_sign (low (lit≤ tt) (lit≤ tt))) (vector_known p h.0) (boolean_known c h.1)
-  vector_known (while on-left p c) h =
+  vector_known (while on_left p c) h =
       k_two (a_sign (low (lit≤ tt) (lit≤ tt))) (boolean_known c h.1) (vector_known p h.0)
 
   pub tree_known : (e : Expression) → ExpressionOver (length names / 32) e → TreeKnown names (tree_of e)
@@ -167,8 +167,8 @@ vector_nodes : (p : Vector) → length (nodes (vector_tree p)) ≡ length (vecto
 unfolding vector_tree nodes vector_bytes
 vector_nodes (edge e c) = simp length-append (omega (arith, boolean_nodes c))
 vector_nodes (join j p q) = simp length-append (omega (arith, vector_nodes p, vector_nodes q))
-vector_nodes (while on-right p c) = simp length-append (omega (arith, vector_nodes p, boolean_nodes c))
-vector_nodes (while on-left p c) = simp length-append (omega (arith, vector_nodes p, boolean_nodes c))
+vector_nodes (while on_right p c) = simp length-append (omega (arith, vector_nodes p, boolean_nodes c))
+vector_nodes (while on_left p c) = simp length-append (omega (arith, vector_nodes p, boolean_nodes c))
 
 pub nodes_bytes : (e : Expression) → length (nodes (tree_of e)) ≡ length (bytes_of e)
 unfolding tree_of bytes_of

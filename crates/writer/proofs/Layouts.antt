@@ -167,10 +167,10 @@ module _ (t : List ℕ) (names end : ℕ) (h : Ends t names end) where
     three_middle s =
         record { within = omega (arith, s.before, h.within); whole = rw s.left three_at_lem.left }
 
-    pub three-parts : (l : ℕ) {m k : ℕ} → Start t names (end - 1) m → Start t names m k
+    pub three_parts_lem : (l : ℕ) {m k : ℕ} → Start t names (end - 1) m → Start t names m k
         → Three t names end m k l
     unfolding tree_at sign
-    three-parts l s r =
+    three_parts_lem l s r =
         record {
           is = rw (three_at_lem.is, r.left, s.left) (fitted_three l (made 60) _ _ _);
           first =
@@ -200,7 +200,7 @@ pub three_start :
     Going out at (signs l (tree_at t names end))
     (three_parts l 60 (tree_at t names k) (tree_at t names m) (tree_at t names (end - 1))) out at
 three_start {t} {names} {end} {l} h s r =
-    going_start _ (three-parts t names end h.whole.ends h.low h.high l s r).is h.whole.room
+    going_start _ (three_parts_lem t names end h.whole.ends h.low h.high l s r).is h.whole.room
 
 pub one_start :
     {t : List ℕ} {names end l : ℕ} {out : List ℕ} {at : ℕ} →

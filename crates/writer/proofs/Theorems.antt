@@ -12,9 +12,9 @@ use Rattle.alf.specs.declared.Sort.{Sort}
 use Rattle.basics.specs.declared.Outcome.{Outcome}
 use Rattle.alf.specs.Expressions.{Boolean, name, literal, negated, binary, choice, Vector, edge, join, while}
 use Rattle.alf.specs.Expressions.{Binary, and, or, xor, xnor, equals, differs, above, below, is_at_least, is_at_most}
-use Rattle.alf.specs.Expressions.{Join, followed-by, either_order, with-or-then, any_order, with, or_else}
+use Rattle.alf.specs.Expressions.{Join, followed_by_join, either_order, with_or_then, any_order, with, or_else}
 use Rattle.alf.specs.Expressions.{Edge, EdgeKnown, Over, VectorOver, ExpressionOver}
-use Rattle.alf.specs.Expressions.{on-right, on-left, Expression, boolean, vector}
+use Rattle.alf.specs.Expressions.{on_right, on_left, Expression, boolean, vector}
 use Rattle.alf.specs.Bytes.{binary_byte, edge_number}
 use Rattle.alf.proofs.Outcomes.{AllFixed, at_fixed, first_fixed, comes_unique}
 use Rattle.tokens.specs.Texts.{Reads}
@@ -65,9 +65,9 @@ two_binary is_at_most f g = two_is refl f g
 
 two_join : (j : Join) {a b : Tree} → Formed a → Formed b → Formed (two (made (join_code j)) a b)
 unfolding join_code kind kind_in table
-two_join followed-by f g = two_is refl f g
+two_join followed_by_join f g = two_is refl f g
 two_join either_order f g = two_is refl f g
-two_join with-or-then f g = two_is refl f g
+two_join with_or_then f g = two_is refl f g
 two_join any_order f g = two_is refl f g
 two_join with f g = two_is refl f g
 two_join or_else f g = two_is refl f g
@@ -93,8 +93,8 @@ vector_formed : (n : ℕ) (p : Vector) → VectorOver n p → Formed (vector_tre
 unfolding vector_tree VectorOver join_code
 vector_formed n (edge e c) h = one_is (edge_kind e h.0) (boolean_formed n c h.1)
 vector_formed n (join j p q) h = two_join j (vector_formed n p h.0) (vector_formed n q h.1)
-vector_formed n (while on-right p c) h = two_join with (vector_formed n p h.0) (boolean_formed n c h.1)
-vector_formed n (while on-left p c) h = two_join with (boolean_formed n c h.1) (vector_formed n p h.0)
+vector_formed n (while on_right p c) h = two_join with (vector_formed n p h.0) (boolean_formed n c h.1)
+vector_formed n (while on_left p c) h = two_join with (boolean_formed n c h.1) (vector_formed n p h.0)
 
 tree_formed : (n : ℕ) (e : Expression) → ExpressionOver n e → Formed (tree_of e)
 unfolding tree_of ExpressionOver

@@ -5,8 +5,8 @@
 -- Which brackets the text needs is the grammar's to say (`written`, in its Written.antt).
 use Rattle.std.specs.Prelude.{ℕ, ◌+◌, List}
 use Rattle.alf.specs.Expressions.{Boolean, name, literal, negated, binary, choice, Vector, edge, join, while}
-use Rattle.alf.specs.Expressions.{Join, followed-by, either_order, with-or-then, any_order, with, or_else}
-use Rattle.alf.specs.Expressions.{on-right, on-left, Expression, boolean, vector}
+use Rattle.alf.specs.Expressions.{Join, followed_by_join, either_order, with_or_then, any_order, with, or_else}
+use Rattle.alf.specs.Expressions.{on_right, on_left, Expression, boolean, vector}
 use Rattle.alf.specs.Bytes.{binary_byte, edge_number}
 use Rattle.grammar.specs.declared.Token.{Token}
 use Rattle.grammar.specs.Grammar.{Tree, leaf, one, two, three}
@@ -19,9 +19,9 @@ named i = record { code = 0; place = i }
 
 -- vectors have the booleans' `&` and `|`
 unfoldable pub join_code : Join → ℕ
-join_code followed-by = 50
+join_code followed_by_join = 50
 join_code either_order = 51
-join_code with-or-then = 52
+join_code with_or_then = 52
 join_code any_order = 53
 join_code with = 40
 join_code or_else = 41
@@ -36,8 +36,8 @@ boolean_tree (choice c a b) = three (made 60) (boolean_tree c) (boolean_tree a) 
 unfoldable pub vector_tree : Vector → Tree
 vector_tree (edge e c) = one (made (64 + edge_number e)) (boolean_tree c)
 vector_tree (join j p q) = two (made (join_code j)) (vector_tree p) (vector_tree q)
-vector_tree (while on-right p c) = two (made 40) (vector_tree p) (boolean_tree c)
-vector_tree (while on-left p c) = two (made 40) (boolean_tree c) (vector_tree p)
+vector_tree (while on_right p c) = two (made 40) (vector_tree p) (boolean_tree c)
+vector_tree (while on_left p c) = two (made 40) (boolean_tree c) (vector_tree p)
 
 unfoldable pub tree_of : Expression → Tree
 tree_of (boolean c) = boolean_tree c

@@ -2,7 +2,7 @@ use borrow.Author.Rules.{rules}
 use native.Mathlib.Omega.{arith}
 use mathlib.Core.Path.{sym, ◌∙◌}
 use Rattle.alf.specs.Names.{goes_on_name}
-use Rattle.names.proofs.Names.{name_empty, name_long, name_start, name_rest, all_end, all_more, all-stop}
+use Rattle.names.proofs.Names.{name_empty, name_long, name_start, name_rest, all_end, all_more, all_stop}
 use Rattle.names.proofs.is_name.Goals as goal
 
 pub returns-then-n-eq0 : goal.returns-then-n-eq0
@@ -24,7 +24,7 @@ loop-i-init c = (
 pub returns-then-not-goes_on_name : goal.returns-then-not-goes_on_name
 returns-then-not-goes_on_name c =
     sym (c.loop-i.invariant.2 ∙
-    all-stop goes_on_name _ _ c.loop-i-test.true
+    all_stop goes_on_name _ _ c.loop-i-test.true
     (sym c.goes_on_name.ensures ∙ c.if-not-goes_on_name.true))
 
 pub loop-i-preserved : goal.loop-i-preserved

@@ -3,8 +3,8 @@ use mathlib.Core.Path.{sym, ◌∙◌}
 use Prim.Native.Nat.{◌+◌, ◌≤◌, ◌<◌}
 use lib.ListN.{length}
 use Rattle.tokens.specs.Inner.Scan.{stopped}
-use Rattle.tokens.proofs.Scanning.{scan_start, scan_blank, stop_fits, stop_inside, scan-stop}
-use Rattle.tokens.proofs.Scanning.{token_fits, scan_token, scan-end}
+use Rattle.tokens.proofs.Scanning.{scan_start, scan_blank, stop_fits, stop_inside, scan_stop}
+use Rattle.tokens.proofs.Scanning.{token_fits, scan_token, scan_end}
 use Rattle.tokens.proofs.scan.Goals as goal
 
 -- where a token was taken: it has a byte, and ends in the text
@@ -36,7 +36,7 @@ pub returns-then-code : goal.returns-then-code
 returns-then-code c =
     let step = c.take_token-s.ensures in
     let unblank = sym c.is_blank.ensures ∙ c.if-is_blank.false in
-    let stuck = scan-stop _ _ c.loop-at-test.true c.loop-at.invariant step unblank c.if-code.true in
+    let stuck = scan_stop _ _ c.loop-at-test.true c.loop-at.invariant step unblank c.if-code.true in
     rw c.refuse_bytes.ensures (stopped _ stuck)
 
 pub overflow_add-at-in-loop-at : goal.overflow_add-at-in-loop-at
@@ -52,4 +52,4 @@ loop-at-preserved c =
     scan_token _ _ c.loop-at-test.true c.loop-at.invariant step c.if-code.false unblank c.requires
 
 pub returns : goal.returns
-returns c = rw c.refusal_of.ensures (scan-end _ c.loop-at-test.false c.loop-at.invariant)
+returns c = rw c.refusal_of.ensures (scan_end _ c.loop-at-test.false c.loop-at.invariant)

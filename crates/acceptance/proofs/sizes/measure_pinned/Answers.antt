@@ -1,5 +1,5 @@
 use native.Mathlib.Omega.{arith}
-use Rattle.acceptance.proofs.MeasuredPins.{first-at, next_at, all-at, shaping_at}
+use Rattle.acceptance.proofs.MeasuredPins.{first_at, next_at, all_at, shaping_at}
 use Rattle.acceptance.proofs.MeasuredPins.{over_number_at, over_steps_at, over_tests_at, within_at}
 use Rattle.acceptance.proofs.sizes.measure_pinned.Goals as goal
 
@@ -10,7 +10,7 @@ pub returns-then-n-gt64 : goal.returns-then-n-gt64
 returns-then-n-gt64 c = over_number_at c.count_at-n.ensures c.if-n-gt64.true
 
 pub loop-t-init : goal.loop-t-init
-loop-t-init c = (omega arith, first-at)
+loop-t-init c = (omega arith, first_at)
 
 pub shape_of-x-requires-in-loop-t : goal.shape_of-x-requires-in-loop-t
 shape_of-x-requires-in-loop-t c =
@@ -29,16 +29,16 @@ loop-t-preserved c =
 pub returns-then-steps-gt16 : goal.returns-then-steps-gt16
 returns-then-steps-gt16 c =
     over_steps_at c.count_at-n.ensures
-    (all-at c.loop-t.invariant.1 c.loop-t.invariant.0 c.loop-t-test.false) c.if-n-gt64.false c.if-steps-gt16.true
+    (all_at c.loop-t.invariant.1 c.loop-t.invariant.0 c.loop-t-test.false) c.if-n-gt64.false c.if-steps-gt16.true
 
 pub returns-then-tests-gt64 : goal.returns-then-tests-gt64
 returns-then-tests-gt64 c =
     over_tests_at c.count_at-n.ensures
-    (all-at c.loop-t.invariant.1 c.loop-t.invariant.0 c.loop-t-test.false) c.if-n-gt64.false c.if-steps-gt16.false
+    (all_at c.loop-t.invariant.1 c.loop-t.invariant.0 c.loop-t-test.false) c.if-n-gt64.false c.if-steps-gt16.false
     c.if-tests-gt64.true
 
 pub returns : goal.returns
 returns c =
     within_at c.count_at-n.ensures
-    (all-at c.loop-t.invariant.1 c.loop-t.invariant.0 c.loop-t-test.false) c.if-n-gt64.false c.if-steps-gt16.false
+    (all_at c.loop-t.invariant.1 c.loop-t.invariant.0 c.loop-t-test.false) c.if-n-gt64.false c.if-steps-gt16.false
     c.if-tests-gt64.false

@@ -2,11 +2,11 @@ use native.Mathlib.Omega.{arith}
 use Prim.Native.Nat.{◌≤◌}
 use lib.ListN.{get_or}
 use Rattle.basics.proofs.PartByPart.{put_length}
-use Rattle.alternative_lines.proofs.LineParts.{lines-first, lines_asked, lines_next, lines_last}
+use Rattle.alternative_lines.proofs.LineParts.{lines_first, lines_asked, lines_next, lines_last}
 use Rattle.alternative_lines.proofs.numbered.put_lines.Goals as goal
 
 pub loop-k-init : goal.loop-k-init
-loop-k-init c = lines-first c.requires
+loop-k-init c = lines_first c.requires
 
 pub overflow_cast-n : goal.overflow_cast-n
 overflow_cast-n c = omega (arith, c.type_inv.steps c.loop-k.k)

@@ -1,6 +1,6 @@
 -- `put_step` meets its contract.
 use Rattle.basics.specs.Text.{bytes}
-use Rattle.alternative_writing.proofs.StepWalks.{tests_asked, empty_countable, step_empty, step-some}
+use Rattle.alternative_writing.proofs.StepWalks.{tests_asked, empty_countable, step_empty, step_some}
 use Rattle.alternative_writing.proofs.steps.put_step.Goals as goal
 
 pub put-requires : goal.put-requires
@@ -17,4 +17,4 @@ put_tests-requires c = tests_asked c.requires _ c.put_gap-p.ensures
 
 pub returns : goal.returns
 unfolding bytes
-returns c = step-some c.requires _ c.put_gap-p.ensures c.if-n-eq0.false c.put_tests.ensures
+returns c = step_some c.requires _ c.put_gap-p.ensures c.if-n-eq0.false c.put_tests.ensures

@@ -1,5 +1,5 @@
 use native.Mathlib.Omega.{arith}
-use Rattle.contradictions.proofs.Flagging.{flagging_first, flag_room, flags-length, flagging_rows}
+use Rattle.contradictions.proofs.Flagging.{flagging_first, flag_room, flags_length, flagging_rows}
 use Rattle.contradictions.proofs.Flagging.{flagging_next, flagging_end}
 use Rattle.contradictions.proofs.possible.flag_all.Goals as goal
 
@@ -34,7 +34,7 @@ loop-k-preserved c =
     c.flag.ensures)
 
 pub shape_of-flags : goal.shape_of-flags
-shape_of-flags c = flags-length c.requires c.loop-k.invariant
+shape_of-flags c = flags_length c.requires c.loop-k.invariant
 
 pub returns : goal.returns
 returns c = flagging_end c.requires c.loop-k.invariant c.loop-k-test.false

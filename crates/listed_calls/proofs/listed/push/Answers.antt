@@ -1,5 +1,5 @@
 -- `listed::push` meets its contract.
-use Rattle.listed_calls.proofs.QueueCalls.{push_asked, push-refused, push_told}
+use Rattle.listed_calls.proofs.QueueCalls.{push_asked, push_refused, push_told}
 use Rattle.listed_calls.proofs.listed.push.Goals as goal
 
 pub push-requires : goal.push-requires
@@ -9,7 +9,7 @@ push-requires c =
 
 pub returns-in-Refused : goal.returns-in-Refused
 returns-in-Refused c =
-    push-refused c.row_fits-lists.ensures c.queue_good-good.ensures c.judge_push-v.ensures
+    push_refused c.row_fits-lists.ensures c.queue_good-good.ensures c.judge_push-v.ensures
     c.in-Refused.is
 
 pub returns-in-Good : goal.returns-in-Good

@@ -1,5 +1,5 @@
 -- `pushing::push` meets its contract.
-use Rattle.queue_calls.proofs.Pushes.{push_good, push-refused, push_told}
+use Rattle.queue_calls.proofs.Pushes.{push_good, push_refused, push_told}
 use Rattle.queue_calls.proofs.pushing.push.Goals as goal
 
 pub push_tree-requires : goal.push_tree-requires
@@ -9,7 +9,7 @@ push_tree-requires c =
 
 pub returns-in-Refused : goal.returns-in-Refused
 returns-in-Refused c =
-    push-refused c.row_fits-fits.ensures c.queue_good-good.ensures c.judge_push-v.ensures
+    push_refused c.row_fits-fits.ensures c.queue_good-good.ensures c.judge_push-v.ensures
     c.in-Refused.is
 
 pub returns-in-Good : goal.returns-in-Good

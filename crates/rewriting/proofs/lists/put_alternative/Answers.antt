@@ -1,6 +1,6 @@
 use native.Mathlib.Omega.{arith}
 use Rattle.rewriting.proofs.Filling.{walking_first, walking_lengths}
-use Rattle.rewriting.proofs.Turns.{step_stepping, step_rises, step_small, step-next, counts_room, steps_added}
+use Rattle.rewriting.proofs.Turns.{step_stepping, step_rises, step_small, step_next, counts_room, steps_added}
 use Rattle.rewriting.proofs.lists.put_alternative.Goals as goal
 
 pub loop-j-init : goal.loop-j-init
@@ -33,7 +33,7 @@ bounds-tests-s c = counts_room c.requires.0 c.loop-j.invariant c.loop-j-test.tru
 
 pub loop-j-preserved : goal.loop-j-preserved
 loop-j-preserved c =
-    step-next c.requires.0 c.loop-j.invariant c.loop-j-test.true c.put_step-next.ensures
+    step_next c.requires.0 c.loop-j.invariant c.loop-j-test.true c.put_step-next.ensures
 
 pub shape_of-tests : goal.shape_of-tests
 shape_of-tests c = (walking_lengths c.loop-j.invariant).0

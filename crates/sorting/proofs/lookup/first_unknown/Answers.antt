@@ -2,7 +2,7 @@ use borrow.Author.Rules.{rules}
 use borrow.Author.Count.{below_none, below_more}
 use mathlib.Core.Path.{◌≡◌, sym, ◌∙◌}
 use native.Mathlib.Omega.{arith}
-use Rattle.sorting.proofs.SlotNumbers.{first_here, first-none}
+use Rattle.sorting.proofs.SlotNumbers.{first_here, first_none}
 use Rattle.sorting.proofs.lookup.first_unknown.Goals as goal
 
 pub loop-i-init : goal.loop-i-init
@@ -33,4 +33,4 @@ returns c =
     let i = c.loop-i in
     let e : i.i ≡ c.args.count = omega
     (arith, c.loop-i-test.false, i.invariant.0) in
-    e ∙ first-none _ _ (λ j l. i.invariant.1 j (omega arith))
+    e ∙ first_none _ _ (λ j l. i.invariant.1 j (omega arith))

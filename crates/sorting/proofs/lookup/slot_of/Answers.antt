@@ -2,7 +2,7 @@ use borrow.Author.Rules.{rules}
 use borrow.Author.Count.{below_none, below_more}
 use native.Mathlib.Omega.{arith}
 use Rattle.basics.proofs.Deciding.{told, not_told}
-use Rattle.sorting.proofs.SlotNumbers.{number_here, number-none, slot_told, word_fits}
+use Rattle.sorting.proofs.SlotNumbers.{number_here, number_none, slot_told, word_fits}
 use Rattle.sorting.proofs.lookup.slot_of.Goals as goal
 
 pub overflow_add-end : goal.overflow_add-end
@@ -32,4 +32,4 @@ loop-k-preserved c = (
 )
 
 pub returns : goal.returns
-returns c = number-none _ _ _ (omega (arith, c.loop-k-test.false)) c.loop-k.invariant.1
+returns c = number_none _ _ _ (omega (arith, c.loop-k-test.false)) c.loop-k.invariant.1

@@ -37,14 +37,14 @@ unfolding bytes
 push-requires c =
     let start = begun (goal.at.push-requires c).Start c.if-out-size.false in
     let at_pattern = going_on start c.put-p.ensures in
-    let at-end = going_on at_pattern c.put_plain-q.ensures in
-    going_byte at-end
+    let at_end = going_on at_pattern c.put_plain-q.ensures in
+    going_byte at_end
 
 pub returns : goal.returns
 unfolding bytes
 returns c =
     let start = begun (goal.at.returns c).Start c.if-out-size.false in
     let at_pattern = going_on start c.put-p.ensures in
-    let at-end = going_on at_pattern c.put_plain-q.ensures in
+    let at_end = going_on at_pattern c.put_plain-q.ensures in
     delivered (ended_size c.args.columns.now c.args.pattern.now) c.if-out-size.false
-    (going_end (going_on at-end c.push.ensures))
+    (going_end (going_on at_end c.push.ensures))

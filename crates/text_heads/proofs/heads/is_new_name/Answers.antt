@@ -1,5 +1,5 @@
 use native.Mathlib.Omega.{arith}
-use Rattle.text_heads.proofs.NewNames.{not_named, newing_first, repeated, newing_next, new-all}
+use Rattle.text_heads.proofs.NewNames.{not_named, newing_first, repeated, newing_next, new_all}
 use Rattle.text_heads.proofs.heads.is_new_name.Goals as goal
 
 pub slice_bounds-is_name-count : goal.slice_bounds-is_name-count
@@ -61,5 +61,5 @@ loop-j-preserved c =
 
 pub returns : goal.returns
 returns c =
-    new-all c.requires (c.loop-j.invariant c.requires) c.loop-j-test.false c.is_name.ensures
+    new_all c.requires (c.loop-j.invariant c.requires) c.loop-j-test.false c.is_name.ensures
     c.if-not-is_name.false

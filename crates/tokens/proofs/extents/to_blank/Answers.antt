@@ -1,6 +1,6 @@
 use native.Mathlib.Omega.{arith}
 use mathlib.Core.Path.{sym, ◌∙◌}
-use Rattle.tokens.proofs.ShownBytes.{blank_end, blank-more, blank_stop}
+use Rattle.tokens.proofs.ShownBytes.{blank_end, blank_more, blank_stop}
 use Rattle.tokens.proofs.extents.to_blank.Goals as goal
 
 pub returns-then-is_blank : goal.returns-then-is_blank
@@ -13,7 +13,7 @@ returns-then-is_blank c =
 pub loop-i-preserved : goal.loop-i-preserved
 loop-i-preserved c =
     let text = c.args.text.now in
-    let more = blank-more text c.loop-i.i c.loop-i-test.true
+    let more = blank_more text c.loop-i.i c.loop-i-test.true
     (sym c.is_blank.ensures ∙ c.if-is_blank.false) in
     omega arith
 

@@ -1,7 +1,7 @@
 use Prim.Native.Nat.{◌<◌}
 use native.Mathlib.Omega.{arith}
 use lib.ListN.{length}
-use Rattle.trace_texts.proofs.Behind.{seeking_first, seeking_next, next-none, next-end, next_found}
+use Rattle.trace_texts.proofs.Behind.{seeking_first, seeking_next, next_none, next_end, next_found}
 use Rattle.trace_texts.proofs.lines.next_line.Goals as goal
 use Rattle.trace_texts.proofs.lines.next_line.Goals.{Else-w-text}
 
@@ -17,7 +17,7 @@ pub skip_blanks-w-requires : goal.skip_blanks-w-requires
 skip_blanks-w-requires c = c.loop-at.invariant.within
 
 pub returns-then-w-text : goal.returns-then-w-text
-returns-then-w-text c = next-end c.loop-at.invariant c.skip_blanks-w.ensures c.if-w-text.true
+returns-then-w-text c = next_end c.loop-at.invariant c.skip_blanks-w.ensures c.if-w-text.true
 
 pub bounds-text-w : goal.bounds-text-w
 bounds-text-w c = inside (goal.at.bounds-text-w c).Else-w-text
@@ -46,4 +46,4 @@ loop-at-preserved c =
     c.opens.ensures c.if-opens.false c.behind_line-at.ensures
 
 pub returns : goal.returns
-returns c = next-none c.loop-at.invariant c.loop-at-test.false
+returns c = next_none c.loop-at.invariant c.loop-at-test.false

@@ -6,7 +6,7 @@ use Rattle.trees.proofs.Starts.{ends_pos}
 use Rattle.basics.proofs.PartByPart.{going_room, going_on, going_end, put_as}
 use Rattle.writer.proofs.Layouts.{leaf_signs, leaf_room, one_ends, one_start}
 use Rattle.writer.proofs.Layouts.{two_right, two_parts_lem, two_start, level_bounds}
-use Rattle.writer.proofs.Layouts.{three_right, three_middle, three-parts, three_start}
+use Rattle.writer.proofs.Layouts.{three_right, three_middle, three_parts_lem, three_start}
 use Rattle.writer.proofs.layout.+emit_emit_three_emit_two.Goals as goal
 
 pub emit-overflow_sub-last : goal.emit-overflow_sub-last
@@ -77,7 +77,7 @@ emit_three-emit-q-requires t c =
     let r = c.start_of-first.ensures in (
       omega (arith, s.before, r.before, ends_pos h.whole.ends),
       record {
-        ends = (three-parts _ _ _ h.whole.ends h.low h.high 6 s r).first;
+        ends = (three_parts_lem _ _ _ h.whole.ends h.low h.high 6 s r).first;
         room = going_room opened;
       },
     )

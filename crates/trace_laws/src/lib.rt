@@ -1,0 +1,2 @@
+// The theorems of the trace files: nothing but proofs.
+#![tactic(auto)]
