@@ -2,18 +2,17 @@
 """Brings the definitions and lemmas of this repository to today's spelling: words in snake case, a prime as an apostrophe.
 
 usage: port_names.py                     in the repository: turns crates/ by tools/port_names.tsv, one row a name
-       port_names.py gather TREE..       writes the table from trees that port.py has turned (KIT is their Rattle)
+       port_names.py gather TREE..       writes the table from trees that port.py has turned, for the Rattle of `rt`
        port_names.py left [TREE]         turns what was left by tools/port_names_left.tsv: names that a library has too,
                                          constructors, names of imported modules
 
 A name is turned in definitions, proofs, clauses, comments and must-fail edits, and never in a string. Functions of src/ keep
 their names, as they have no dash and no capital. The table has no two names that fall together: each new name was nowhere.
 """
-import collections, os, re, sys
+import collections, os, re, subprocess, sys
 
 HERE = os.path.dirname(os.path.realpath(__file__))
 TABLE = os.path.join(HERE, 'port_names.tsv')
-KIT = '/opt/rattle/rattle'
 DECLARED = re.compile(r"(?m)^ *(?:(?:pub|abbrev|unfoldable|data|record) )*([^\s(){}.;,@\"«»:]+)(?: [\({][^\n]*?[\)}])* :")
 WORD = re.compile(r"[^\s(){}\[\].;,@\"«»:]+")
 TOKEN = re.compile(r"(?P<string>b?\"(?:\\.|[^\"\\\n])*\")|(?P<word>[^\s(){}\[\].;,@\"«»:`]+)")
@@ -71,7 +70,8 @@ def gather(trees):
                 rest = re.sub(r'\b(?:fn|mod) \w+|::\w+|\w+::|\w+(?=\()', ' ', rest)
                 for w in set(re.findall(r'\w+', rest)):
                     in_rust[w].add(p)
-    for d, ds, fs in os.walk(KIT):
+    kit_folder = os.path.join(os.path.dirname(subprocess.run(['rt', 'doc'], capture_output=True, text=True).stdout.split()[0]), 'rattle')
+    for d, ds, fs in os.walk(kit_folder):
         for f in fs:
             if f.endswith('.antt'):
                 kit.update(WORD.findall(re.sub(r'--[^\n]*|"[^"\n]*"', ' ', read(os.path.join(d, f)))))
