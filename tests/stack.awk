@@ -9,7 +9,8 @@
 # Functions that call one another in a circle take the table's counts times their frames; over the others the dearest
 # way down is summed. It prints a line for each function asked for: what was measured, and what is reckoned. Status 1: a
 # frame in a circle is over `frame`, a function in a circle is not in the table, a sum is over `limit`, or more was
-# measured than is reckoned, of which 1,024 bytes may be the caller's.
+# measured than is reckoned, of which 2,048 bytes may be the caller's: a queue and what a push gives, both by value, take
+# over 1,400 of them.
 function hex(x,  i, v) {
     for (i = 3; i <= length(x); i++) v = 16 * v + index("0123456789abcdef", substr(x, i, 1)) - 1
     return v
@@ -111,7 +112,7 @@ END {
         if (measured[f] > limit) wrong(f " took over " limit " bytes")
         most = index(" " tabled " ", " " f " ") ? with_table : other
         if (measured[f] > most && f != deepest) wrong(f " took over " most " bytes")
-        if (measured[f] > down(f) + 1024) wrong(f " took more than is reckoned")
+        if (measured[f] > down(f) + 2048) wrong(f " took more than is reckoned")
     }
     exit bad
 }

@@ -2,7 +2,7 @@
 -- How to read them, for who does not prove:
 --   f : A → B → C            f takes an A and a B and gives a C; `f x y` is f of x and y; ℕ: the numbers 0, 1, 2, ..
 --   List A, [], x ∷ xs       a list of As; the empty one; x before the list xs; `xs ++ ys` is one list behind another
---   getD xs i d              entry i of a list, counted from 0; d where there is none
+--   get_or xs i d            entry i of a list, counted from 0; d where there is none
 --   zero, suc n              0; n + 1
 --   eqb, ltb, leb            tests: equal, below, at most; `x - y` is 0 where y is above x
 --   λ x. e                   the function that gives e for x

@@ -58,11 +58,14 @@ fn keep_line(console: &Console, rules: Rules, names: &[u8], text: &[u8], kept: &
     keep_pattern(console, rules, names, front(text, kept_bytes(text)), kept)
 }
 
-// All lines of a text.
+// All lines of a text, while somebody reads what is said of them.
 fn keep_lines(console: &Console, rules: Rules, names: &[u8], text: &[u8], kept: &mut [u8]) -> bool {
     let mut good = true;
     let mut at: usize = 0;
     while at < text.len() {
+        if console.is_unread() {
+            return false;
+        }
         let done = keep_line(console, rules, names, line_at(text, at), kept);
         if !done {
             good = false;

@@ -127,7 +127,7 @@ fn next(i: usize) -> usize {
     i
 }
 
-// All words behind argument `out`; whether nothing was complained of.
+// All words behind argument `out`, while somebody reads what is said of them; whether nothing was complained of.
 pub fn keep_words<R: Env + Files + Input>(
     rt: &R,
     console: &Console,
@@ -141,6 +141,9 @@ pub fn keep_words<R: Env + Files + Input>(
     let mut good = true;
     let mut i = next(out);
     while i < count {
+        if console.is_unread() {
+            return false;
+        }
         let w = take(rt, console, rules, names, Way { kind, good }, i, kept);
         kind = w.kind;
         good = w.good;
