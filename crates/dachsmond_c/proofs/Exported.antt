@@ -1,6 +1,6 @@
 -- What a function of include/dachsmond.h ensures is what the function of `dachsmond` of the same name ensures, of its
--- arguments at entry (a), its result (r) and its arguments at exit (e); and it requires nothing. So what shut_out says of
--- that one (AttachedForC, AttachedListsForC) holds of what C calls.
+-- arguments at entry (a), its result (r) and its arguments at exit (e); and it requires nothing. So what shut_out says
+-- of that one (AttachedForC, AttachedListsForC) holds of what C calls.
 -- Here: texts, files, rows, matching, a correction, a push. The others stand in ExportedLists.
 use contract.Lifetimes.{Lfts}
 use borrow.Fn.Kinds.{Dens}
@@ -80,27 +80,33 @@ use Rattle.dachsmond_c.proofs.changing.dachsmond_push.Reads as push_exported
 use Rattle.dachsmond_c.proofs.changing.dachsmond_push.Kinds as push_kinds
 
 pub check_names_lem : (κs : Lfts 1) (a : Dens κs check_names_kinds.ps) → check_names_exported.Pre κs a
-    × ((r : Told) (e : Dens κs check_names_kinds.ps) → check_names_exported.Post κs a r e → check_names_says.Post κs a r e)
+    × ((r : Told) (e : Dens κs check_names_kinds.ps) → check_names_exported.Post κs a r e
+    → check_names_says.Post κs a r e)
 check_names_lem κs a = (tt, λ r e p. p)
 
 pub read_expression_lem : (κs : Lfts 2) (a : Dens κs read_expression_kinds.ps) → read_expression_exported.Pre κs a
-    × ((r : Expression) (e : Dens κs read_expression_kinds.ps) → read_expression_exported.Post κs a r e → read_expression_says.Post κs a r e)
+    × ((r : Expression) (e : Dens κs read_expression_kinds.ps) → read_expression_exported.Post κs a r e
+    → read_expression_says.Post κs a r e)
 read_expression_lem κs a = (tt, λ r e p. p)
 
 pub write_expression_lem : (κs : Lfts 3) (a : Dens κs write_expression_kinds.ps) → write_expression_exported.Pre κs a
-    × ((r : Told) (e : Dens κs write_expression_kinds.ps) → write_expression_exported.Post κs a r e → write_expression_says.Post κs a r e)
+    × ((r : Told) (e : Dens κs write_expression_kinds.ps) → write_expression_exported.Post κs a r e
+    → write_expression_says.Post κs a r e)
 write_expression_lem κs a = (tt, λ r e p. p)
 
 pub read_trace : (κs : Lfts 4) (a : Dens κs read_trace_kinds.ps) → read_trace_exported.Pre κs a
-    × ((r : Trace) (e : Dens κs read_trace_kinds.ps) → read_trace_exported.Post κs a r e → read_trace_says.Post κs a r e)
+    × ((r : Trace) (e : Dens κs read_trace_kinds.ps) → read_trace_exported.Post κs a r e
+    → read_trace_says.Post κs a r e)
 read_trace κs a = (tt, λ r e p. p)
 
 pub write_trace : (κs : Lfts 4) (a : Dens κs write_trace_kinds.ps) → write_trace_exported.Pre κs a
-    × ((r : Told) (e : Dens κs write_trace_kinds.ps) → write_trace_exported.Post κs a r e → write_trace_says.Post κs a r e)
+    × ((r : Told) (e : Dens κs write_trace_kinds.ps) → write_trace_exported.Post κs a r e
+    → write_trace_says.Post κs a r e)
 write_trace κs a = (tt, λ r e p. p)
 
 pub changes_at : (κs : Lfts 1) (a : Dens κs changes_at_kinds.ps) → changes_at_exported.Pre κs a
-    × ((r : Changed) (e : Dens κs changes_at_kinds.ps) → changes_at_exported.Post κs a r e → changes_at_says.Post κs a r e)
+    × ((r : Changed) (e : Dens κs changes_at_kinds.ps) → changes_at_exported.Post κs a r e
+    → changes_at_says.Post κs a r e)
 changes_at κs a = (tt, λ r e p. p)
 
 pub row_state : (κs : Lfts 2) (a : Dens κs row_state_kinds.ps) → row_state_exported.Pre κs a
@@ -116,11 +122,13 @@ pub values : (κs : Lfts 3) (a : Dens κs values_kinds.ps) → values_exported.P
 values κs a = (tt, λ r e p. p)
 
 pub row_answer_lem : (κs : Lfts 2) (a : Dens κs row_answer_kinds.ps) → row_answer_exported.Pre κs a
-    × ((r : Answered) (e : Dens κs row_answer_kinds.ps) → row_answer_exported.Post κs a r e → row_answer_says.Post κs a r e)
+    × ((r : Answered) (e : Dens κs row_answer_kinds.ps) → row_answer_exported.Post κs a r e
+    → row_answer_says.Post κs a r e)
 row_answer_lem κs a = (tt, λ r e p. p)
 
 pub window_answer : (κs : Lfts 2) (a : Dens κs window_answer_kinds.ps) → window_answer_exported.Pre κs a
-    × ((r : Answered) (e : Dens κs window_answer_kinds.ps) → window_answer_exported.Post κs a r e → window_answer_says.Post κs a r e)
+    × ((r : Answered) (e : Dens κs window_answer_kinds.ps) → window_answer_exported.Post κs a r e
+    → window_answer_says.Post κs a r e)
 window_answer κs a = (tt, λ r e p. p)
 
 pub match_row_lem : (κs : Lfts 3) (a : Dens κs match_row_kinds.ps) → match_row_exported.Pre κs a
@@ -140,7 +148,8 @@ pub rewrite : (κs : Lfts 5) (a : Dens κs rewrite_kinds.ps) → rewrite_exporte
 rewrite κs a = (tt, λ r e p. p)
 
 pub contradictions : (κs : Lfts 2) (a : Dens κs contradictions_kinds.ps) → contradictions_exported.Pre κs a
-    × ((r : Told) (e : Dens κs contradictions_kinds.ps) → contradictions_exported.Post κs a r e → contradictions_says.Post κs a r e)
+    × ((r : Told) (e : Dens κs contradictions_kinds.ps) → contradictions_exported.Post κs a r e
+    → contradictions_says.Post κs a r e)
 contradictions κs a = (tt, λ r e p. p)
 
 pub correct : (κs : Lfts 4) (a : Dens κs correct_kinds.ps) → correct_exported.Pre κs a
@@ -156,7 +165,8 @@ pub old_rules_rule : (κs : Lfts 0) (a : Dens κs old_rules_kinds.ps) → old_ru
 old_rules_rule κs a = (tt, λ r e p. p)
 
 pub empty_queue : (κs : Lfts 0) (a : Dens κs empty_queue_kinds.ps) → empty_queue_exported.Pre κs a
-    × ((r : Queue) (e : Dens κs empty_queue_kinds.ps) → empty_queue_exported.Post κs a r e → empty_queue_says.Post κs a r e)
+    × ((r : Queue) (e : Dens κs empty_queue_kinds.ps) → empty_queue_exported.Post κs a r e
+    → empty_queue_says.Post κs a r e)
 empty_queue κs a = (tt, λ r e p. p)
 
 pub push : (κs : Lfts 2) (a : Dens κs push_kinds.ps) → push_exported.Pre κs a

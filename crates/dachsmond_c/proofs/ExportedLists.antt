@@ -37,23 +37,28 @@ use Rattle.dachsmond_c.proofs.listings.dachsmond_table_total.Reads as table_tota
 use Rattle.dachsmond_c.proofs.listings.dachsmond_table_total.Kinds as table_total_kinds
 
 pub listed_fits : (κs : Lfts 5) (a : Dens κs listed_fits_kinds.ps) → listed_fits_exported.Pre κs a
-    × ((r : Told) (e : Dens κs listed_fits_kinds.ps) → listed_fits_exported.Post κs a r e → listed_fits_says.Post κs a r e)
+    × ((r : Told) (e : Dens κs listed_fits_kinds.ps) → listed_fits_exported.Post κs a r e
+    → listed_fits_says.Post κs a r e)
 listed_fits κs a = (tt, λ r e p. p)
 
 pub listed_match_row : (κs : Lfts 7) (a : Dens κs listed_match_row_kinds.ps) → listed_match_row_exported.Pre κs a
-    × ((r : Matched) (e : Dens κs listed_match_row_kinds.ps) → listed_match_row_exported.Post κs a r e → listed_match_row_says.Post κs a r e)
+    × ((r : Matched) (e : Dens κs listed_match_row_kinds.ps) → listed_match_row_exported.Post κs a r e
+    → listed_match_row_says.Post κs a r e)
 listed_match_row κs a = (tt, λ r e p. p)
 
 pub listed_match_all : (κs : Lfts 11) (a : Dens κs listed_match_all_kinds.ps) → listed_match_all_exported.Pre κs a
-    × ((r : Told) (e : Dens κs listed_match_all_kinds.ps) → listed_match_all_exported.Post κs a r e → listed_match_all_says.Post κs a r e)
+    × ((r : Told) (e : Dens κs listed_match_all_kinds.ps) → listed_match_all_exported.Post κs a r e
+    → listed_match_all_says.Post κs a r e)
 listed_match_all κs a = (tt, λ r e p. p)
 
 pub listed_totals : (κs : Lfts 6) (a : Dens κs listed_totals_kinds.ps) → listed_totals_exported.Pre κs a
-    × ((r : Counted) (e : Dens κs listed_totals_kinds.ps) → listed_totals_exported.Post κs a r e → listed_totals_says.Post κs a r e)
+    × ((r : Counted) (e : Dens κs listed_totals_kinds.ps) → listed_totals_exported.Post κs a r e
+    → listed_totals_says.Post κs a r e)
 listed_totals κs a = (tt, λ r e p. p)
 
 pub listed_push : (κs : Lfts 6) (a : Dens κs listed_push_kinds.ps) → listed_push_exported.Pre κs a
-    × ((r : Pushed) (e : Dens κs listed_push_kinds.ps) → listed_push_exported.Post κs a r e → listed_push_says.Post κs a r e)
+    × ((r : Pushed) (e : Dens κs listed_push_kinds.ps) → listed_push_exported.Post κs a r e
+    → listed_push_says.Post κs a r e)
 listed_push κs a = (tt, λ r e p. p)
 
 pub list : (κs : Lfts 4) (a : Dens κs list_kinds.ps) → list_exported.Pre κs a
@@ -61,7 +66,8 @@ pub list : (κs : Lfts 4) (a : Dens κs list_kinds.ps) → list_exported.Pre κs
 list κs a = (tt, λ r e p. p)
 
 pub table_heading : (κs : Lfts 1) (a : Dens κs table_heading_kinds.ps) → table_heading_exported.Pre κs a
-    × ((r : Told) (e : Dens κs table_heading_kinds.ps) → table_heading_exported.Post κs a r e → table_heading_says.Post κs a r e)
+    × ((r : Told) (e : Dens κs table_heading_kinds.ps) → table_heading_exported.Post κs a r e
+    → table_heading_says.Post κs a r e)
 table_heading κs a = (tt, λ r e p. p)
 
 pub table_line : (κs : Lfts 4) (a : Dens κs table_line_kinds.ps) → table_line_exported.Pre κs a
@@ -69,9 +75,11 @@ pub table_line : (κs : Lfts 4) (a : Dens κs table_line_kinds.ps) → table_lin
 table_line κs a = (tt, λ r e p. p)
 
 pub table_refused : (κs : Lfts 2) (a : Dens κs table_refused_kinds.ps) → table_refused_exported.Pre κs a
-    × ((r : Told) (e : Dens κs table_refused_kinds.ps) → table_refused_exported.Post κs a r e → table_refused_says.Post κs a r e)
+    × ((r : Told) (e : Dens κs table_refused_kinds.ps) → table_refused_exported.Post κs a r e
+    → table_refused_says.Post κs a r e)
 table_refused κs a = (tt, λ r e p. p)
 
 pub table_total : (κs : Lfts 1) (a : Dens κs table_total_kinds.ps) → table_total_exported.Pre κs a
-    × ((r : Told) (e : Dens κs table_total_kinds.ps) → table_total_exported.Post κs a r e → table_total_says.Post κs a r e)
+    × ((r : Told) (e : Dens κs table_total_kinds.ps) → table_total_exported.Post κs a r e
+    → table_total_says.Post κs a r e)
 table_total κs a = (tt, λ r e p. p)

@@ -1,6 +1,7 @@
--- The same as Attached, for the library for C: what a function of include/dachsmond.h ensures is that it hands on
--- (`Hands`) a result that the call's contract allows, of its arguments at entry (a), its result (r) and its
--- arguments at exit (e); and it requires nothing. So what is shut out of a call is shut out of its function for C.
+-- The same as Attached, for the library for C: what a function of `dachsmond` ensures is that it hands on (`Hands`) a
+-- result that the call's contract allows, of its arguments at entry (a), its result (r) and its arguments at exit (e);
+-- and it requires nothing. By `Exported` (dachsmond_c) the same holds of the function of include/dachsmond.h of the same
+-- name. So what is shut out of a call is shut out of its function for C.
 -- Here: texts, files, rows, matching, a correction, a push. The others stand in AttachedListsForC.
 use Prim.Native.Nat.{ℕ, ◌/◌}
 use mathlib.Core.Path.{◌≡◌}

@@ -78,13 +78,13 @@ abbrev pub Begins : Rules → Vector → ℕ → Type 0
 Begins ρ p t = began (state_at ρ names states) times (alternatives p) 2 ≡ At (record { 0 = t })
 
 pub short_began : (ρ : Rules) → Begins ρ short_first 10
-unfolding states times alternatives rewritten each began began_in at_row steps_from step_at test_at least_of value recorded_or
-    state edge_on asked digit_asked letter_asked reduce
+unfolding states times alternatives rewritten each began began_in at_row steps_from step_at test_at least_of value
+    recorded_or state edge_on asked digit_asked letter_asked reduce
 short_began ρ = refl
 
 long_began : (ρ : Rules) → Begins ρ long_first 0
-unfolding states times alternatives rewritten each began began_in at_row steps_from step_at test_at least_of value recorded_or
-    state edge_on asked digit_asked letter_asked reduce
+unfolding states times alternatives rewritten each began began_in at_row steps_from step_at test_at least_of value
+    recorded_or state edge_on asked digit_asked letter_asked reduce
 long_began ρ = refl
 
 pub short_is : (ρ : Rules) → expression ρ (T.asked short_first) names ≡ meant ρ short_first

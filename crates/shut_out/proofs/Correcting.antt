@@ -71,7 +71,8 @@ module _ {ρ : Rules} {k n : ℕ} {tree codes answers : List ℕ} {r : ℕ} {new
     unfolding last_rewritten
     next_reached h = omega (arith, h, steps_pos (expression ρ tree k))
 
-    pub writes_elsewhere : (i : ℕ) → (i < r) ⊎ (last ρ k n tree r < i) → (get_or answers' i 0 ≡ get_or answers i 0 → ⊥) → ⊥
+    pub writes_elsewhere : (i : ℕ) → (i < r) ⊎ (last ρ k n tree r < i)
+        → (get_or answers' i 0 ≡ get_or answers i 0 → ⊥) → ⊥
     writes_elsewhere i h differ = differ (correction_stays g.accepted done i h)
 
     pub stored : codes' ≡ corrected k codes r new
