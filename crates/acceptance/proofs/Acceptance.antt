@@ -1,13 +1,18 @@
 -- A tree is accepted exactly if the tests of its kind, its nodes, its brackets and its size say so.
--- Main names: is_over_lem, vector_tree_lem; shallow_yes, shallow_no; too_many, no_tree, not_vector, not_boolean;
--- boolean_accepts, vector_accepts, over_accepts; decides_unique; decoded, accepted_bytes, accepted_boolean,
--- accepted_vector, accepted_tree; accepted_any_rules.
+-- Main names: is_over_lem, vector_tree_lem; small_decided, shallow_decided; too_many, no_tree, not_vector;
+-- not_boolean, boolean_accepts, vector_accepts, over_accepts; decides_unique; decoded, accepted_bytes,
+-- accepted_boolean, accepted_vector, accepted_tree; accepted_any_rules.
+use Rattle.std.specs.Prelude.{None, Some}
 use Prim.Native.Nat.{ℕ, ◌<◌, ◌≤◌, min}
 use native.Mathlib.Omega.{arith}
 use mathlib.Core.Path.{◌≡◌, refl, ap, sym, ◌∙◌}
 use mathlib.Core.Bool.{Bool, true, false}
 use mathlib.Core.List.{List}
 use lib.ListN.{length}
+use lib.Dec.{leb}
+use mathlib.Core.Logic.{◌⊎◌, inl, inr}
+use Rattle.std.proofs.lemmas.Bool.Decides.{leb_tells}
+use Rattle.std.specs.Option.{is_some}
 use Rattle.alf.specs.Expressions.{Vector, Expression, boolean, vector}
 use Rattle.alf.specs.Bytes.{bytes_of}
 use Rattle.alf.specs.Decoder.{top_vector, is_boolean, is_vector, Decodes}
@@ -18,15 +23,12 @@ use Rattle.alf.specs.declared.Sort.TheVariants as sort
 use Rattle.basics.proofs.Bools.{never}
 use Rattle.alf.proofs.Decoding.{decode_unique}
 use Rattle.alf.proofs.FewNames.{decodes_encoded, encoded_decodes}
-use Rattle.trees.specs.declared.sorts.Kind.TheVariants as kind
 use Rattle.trees.specs.Parts.{is_whole, top, Ends, EndsBoolean, EndsVector}
 use Rattle.trees.specs.Parts.{expression_at, vector_at}
 use Rattle.trees.specs.Sorts.{tree_kind, Holds}
 use Rattle.steady_pins.specs.Finding.{Tree}
 use Rattle.trees.proofs.Trees.{kind_decodes}
-use Rattle.acceptance.specs.declared.sizes.Size.{Size}
-use Rattle.acceptance.specs.declared.sizes.Measured.{Measured}
-use Rattle.acceptance.specs.declared.sizes.Measured.TheVariants.{Over, Within}
+use Rattle.acceptance.specs.Sizes.{Measured}
 use Rattle.acceptance.specs.Sizes.{measured}
 use Rattle.acceptance.specs.Accepted.{sort_of_lem, over_size, Accepted, Shallow, Limited}
 use Rattle.basics.specs.Deciding.{Decides}
@@ -34,8 +36,8 @@ use Rattle.basics.proofs.Deciding.{same_decided}
 
 -- the answer of the size
 is_over : Measured → Bool
-is_over Over = true
-is_over (Within s) = false
+is_over None = true
+is_over (Some s) = false
 
 is_over_lem : (p : Vector) → is_over (measured p) ≡ over_limit (alternatives p)
 unfolding is_over measured
@@ -45,23 +47,20 @@ is_over_lem p = go (over_limit (alternatives p)) refl
     go true e = rw e refl
     go false e = rw e refl
 
-module _ (p : Vector) {m : Measured} (h : m ≡ measured p) where
-  pub over_no : m ≡ Over → Decides false (over_limit (alternatives p) ≡ false)
-  unfolding Decides is_over
-  over_no e = λ f. never (sym f ∙ sym (is_over_lem p) ∙ ap is_over (sym h ∙ e))
-
-  pub within_yes : {s : Size} → m ≡ Within s → Decides true (over_limit (alternatives p) ≡ false)
-  unfolding Decides is_over
-  within_yes e = sym (is_over_lem p) ∙ ap is_over (sym h ∙ e)
+pub small_decided : (p : Vector) (m : Measured) → m ≡ measured p
+    → Decides (is_some m) (over_limit (alternatives p) ≡ false)
+unfolding Decides is_over
+small_decided p None h = λ f. never (sym f ∙ sym (is_over_lem p) ∙ ap is_over (sym h))
+small_decided p (Some s) h = sym (is_over_lem p) ∙ ap is_over (sym h)
 
 -- the answer of the depth
-pub shallow_yes : (x : ℕ) {d : ℕ} → d ≡ min 33 x → d ≤ 32 → Decides true (x ≤ 32)
+pub shallow_decided : (x d : ℕ) → d ≡ min 33 x → Decides (leb d 32) (x ≤ 32)
 unfolding Decides
-shallow_yes x e l = omega arith
-
-pub shallow_no : (x : ℕ) {d : ℕ} → d ≡ min 33 x → 32 < d → Decides false (x ≤ 32)
-unfolding Decides
-shallow_no x e l = λ h. omega arith
+shallow_decided x d e = go (leb_tells d 32)
+  where
+    go : ((leb d 32 ≡ true) × (d ≤ 32)) ⊎ ((leb d 32 ≡ false) × (32 < d)) → Decides (leb d 32) (x ≤ 32)
+    go (inl t) = rw t.0 (omega (arith, t.1))
+    go (inr t) = rw t.0 (λ h. omega (arith, t.1))
 
 is_vector_sort : Sort → Bool
 is_vector_sort sort.Boolean = false
@@ -93,21 +92,21 @@ module _ (t : List ℕ) (names : ℕ) where
   unfolding Decodes is_whole
   whole_end e h = record { within = omega arith; whole = ap is_whole h }
 
-  is_boolean_lem : tree_kind t names ≡ kind.Boolean → Holds kind.Boolean (Decodes names t)
+  is_boolean_lem : tree_kind t names ≡ Some sort.Boolean → Holds (Some sort.Boolean) (Decodes names t)
   is_boolean_lem k = rw k at (kind_decodes t names)
 
-  is_vector_lem : tree_kind t names ≡ kind.Vector → Holds kind.Vector (Decodes names t)
+  is_vector_lem : tree_kind t names ≡ Some sort.Vector → Holds (Some sort.Vector) (Decodes names t)
   is_vector_lem k = rw k at (kind_decodes t names)
 
-  pub boolean_ends : tree_kind t names ≡ kind.Boolean → Ends t names (length t)
+  pub boolean_ends : tree_kind t names ≡ Some sort.Boolean → Ends t names (length t)
   unfolding Holds
   boolean_ends k = whole_end _ (is_boolean_lem k).1
 
-  pub vector_ends : tree_kind t names ≡ kind.Vector → EndsVector t names (length t)
+  pub vector_ends : tree_kind t names ≡ Some sort.Vector → EndsVector t names (length t)
   unfolding Holds Decodes is_vector
   vector_ends k = record { within = omega arith; whole = ap is_vector (is_vector_lem k).1 }
 
-  pub vector_tree_lem : tree_kind t names ≡ kind.Vector → length t ≤ 256 → Tree t names (length t)
+  pub vector_tree_lem : tree_kind t names ≡ Some sort.Vector → length t ≤ 256 → Tree t names (length t)
   vector_tree_lem k l = record { ends = vector_ends k; few = l }
 
   module _ (ρ : Rules) (s : Sort) where
@@ -118,7 +117,7 @@ module _ (t : List ℕ) (names : ℕ) where
     unfolding Decides
     too_many l = λ a. let n = a.tokens in omega arith
 
-    pub no_tree : tree_kind t names ≡ kind.Neither → Decides false (Accepted ρ names s t)
+    pub no_tree : tree_kind t names ≡ None → Decides false (Accepted ρ names s t)
     unfolding Decides Holds
     no_tree k = λ a. (rw k at (kind_decodes t names)) a.expression (accepted_decodes a)
 
@@ -126,15 +125,15 @@ module _ (t : List ℕ) (names : ℕ) where
     sort_is : (e : Expression) → Decodes names t e → Accepted ρ names s t → sort_of_lem e ≡ s
     sort_is e h a = ap sort_of_lem (decode_unique names t e a.expression h (accepted_decodes a)) ∙ a.sorted
 
-    pub not_vector : tree_kind t names ≡ kind.Boolean → s ≡ sort.Vector → Decides false (Accepted ρ names s t)
+    pub not_vector : tree_kind t names ≡ Some sort.Boolean → s ≡ sort.Vector → Decides false (Accepted ρ names s t)
     unfolding Decides Holds sort_of_lem is_vector_sort
     not_vector k e = λ a. never (ap is_vector_sort (sort_is _ (is_boolean_lem k).1 a ∙ e))
 
-    pub not_boolean : tree_kind t names ≡ kind.Vector → s ≡ sort.Boolean → Decides false (Accepted ρ names s t)
+    pub not_boolean : tree_kind t names ≡ Some sort.Vector → s ≡ sort.Boolean → Decides false (Accepted ρ names s t)
     unfolding Decides Holds sort_of_lem is_vector_sort
     not_boolean k e = λ a. never (sym (ap is_vector_sort (sort_is _ (is_vector_lem k).1 a ∙ e)))
 
-    pub boolean_accepts : (r : Bool) → tree_kind t names ≡ kind.Boolean → s ≡ sort.Boolean → length t ≤ 256
+    pub boolean_accepts : (r : Bool) → tree_kind t names ≡ Some sort.Boolean → s ≡ sort.Boolean → length t ≤ 256
         → Decides r (Shallow t names) → Decides r (Accepted ρ names s t)
     unfolding Holds sort_of_lem over_size
     boolean_accepts r k e l =
@@ -150,7 +149,7 @@ module _ (t : List ℕ) (names : ℕ) where
         })
         shallow
 
-    module _ (k : tree_kind t names ≡ kind.Vector) where
+    module _ (k : tree_kind t names ≡ Some sort.Vector) where
       pub vector_accepts : (r : Bool) → s ≡ sort.Vector → length t ≤ 256
           → Decides true (Limited ρ t names)
           → Decides r (Shallow t names) → Decides r (Accepted ρ names s t)

@@ -1,6 +1,7 @@
 -- The size of a tree with its pins, one alternative after the other, whatever its operands are.
 -- Main names: MeasuringAt, first_at, next_at, all_at; shaping_at; over_number_at, over_steps_at, over_tests_at,
 -- within_at; tree_pinned, measured_meant.
+use Rattle.std.specs.Prelude.{None, Some}
 use Prim.Native.Nat.{ℕ, ◌+◌, ◌<◌, ◌≤◌, min, max}
 use native.Mathlib.Omega.{arith}
 use mathlib.Core.Path.{◌≡◌, ap, ◌∙◌}
@@ -15,8 +16,7 @@ use Rattle.steady_pins.specs.Pinned.{by_places}
 use Rattle.steady_pins.specs.Finding.{Tree, pins_of}
 use Rattle.steady_pins.proofs.PinnedAlternatives.{placed_number}
 use Rattle.steady_pins.proofs.Found.{found_means, found_pins}
-use Rattle.acceptance.specs.declared.sizes.Measured.{Measured}
-use Rattle.acceptance.specs.declared.sizes.Measured.TheVariants.{Over, Within}
+use Rattle.acceptance.specs.Sizes.{Measured}
 use Rattle.acceptance.specs.Sizes.{Shaping, ShapedAt, measured, PinnedTree, MeasuredAt}
 use Rattle.acceptance.proofs.Measures.{Measuring, first_measure, next_measure, measured_all, chosen_at}
 use Rattle.acceptance.proofs.Measures.{over_number, over_steps, over_tests, within}
@@ -57,19 +57,19 @@ module _ {pins tree : List ℕ} {names end : ℕ} where
 
   -- limit 8
   module _ {n : ℕ} (e : n ≡ min 65 (number_of_alternatives (vector_at tree names end))) where
-    pub over_number_at : 64 < n → MeasuredAt pins tree names end Over
+    pub over_number_at : 64 < n → MeasuredAt pins tree names end None
     over_number_at l =
         record { given = λ operand. over_number _ (number_placed operand pins end (vector_at tree names end) e) l }
 
     module _ {s k : ℕ} (m : MeasuringAt pins tree names end n s k) (l : n ≤ 64) where
-      pub over_steps_at : 16 < s → MeasuredAt pins tree names end Over
+      pub over_steps_at : 16 < s → MeasuredAt pins tree names end None
       over_steps_at h =
           record {
             given = λ operand.
                 over_steps _ (m.given operand) (number_placed operand pins end (vector_at tree names end) e) l h;
           }
 
-      pub over_tests_at : s ≤ 16 → 64 < k → MeasuredAt pins tree names end Over
+      pub over_tests_at : s ≤ 16 → 64 < k → MeasuredAt pins tree names end None
       over_tests_at h j =
           record {
             given = λ operand.
@@ -77,7 +77,7 @@ module _ {pins tree : List ℕ} {names end : ℕ} where
           }
 
       pub within_at : s ≤ 16 → k ≤ 64
-          → MeasuredAt pins tree names end (Within (record { alternatives = n; steps = s; tests = k }))
+          → MeasuredAt pins tree names end (Some (record { alternatives = n; steps = s; tests = k }))
       within_at h j =
           record {
             given = λ operand.

@@ -1,5 +1,6 @@
 -- The greatest over the alternatives, one after the other, and limit 8.
 -- Main names: first_measure, next_measure, measured_all, chosen_at; over_number, over_steps, over_tests, within.
+use Rattle.std.specs.Prelude.{None, Some}
 use Prim.Native.Nat.{ℕ, ◌+◌, ◌<◌, ◌≤◌, min, max}
 use native.Mathlib.Omega.{arith}
 use native.Mathlib.Numerals.{add-one}
@@ -15,7 +16,6 @@ use Rattle.basics.specs.Words.{greatest_of}
 use Rattle.alf.specs.Expressions.{Vector}
 use Rattle.alf.specs.Alternatives.{Alternative, alternatives, tests, number_of_alternatives, steps_of, tests_of, over_limit}
 use Rattle.basics.proofs.Extremes.{greatest_of_append}
-use Rattle.acceptance.specs.declared.sizes.Measured.TheVariants.{Over, Within}
 use Rattle.trees.specs.Parts.{EndsVector, vector_at}
 use Rattle.acceptance.specs.Sizes.{Chosen, Shaped, measured}
 
@@ -62,11 +62,11 @@ measured_all m l u = let e : ◌≡◌ {A = ℕ} _ _ = le_antisymm l u in rw e a
 
 -- limit 8
 module _ (p : Vector) where
-  over : over_limit (alternatives p) ≡ true → Over ≡ measured p
+  over : over_limit (alternatives p) ≡ true → None ≡ measured p
   unfolding measured
   over e = rw e refl
 
-  pub over_number : {n : ℕ} → n ≡ min 65 (number_of_alternatives p) → 64 < n → Over ≡ measured p
+  pub over_number : {n : ℕ} → n ≡ min 65 (number_of_alternatives p) → 64 < n → None ≡ measured p
   unfolding number_of_alternatives over_limit
   over_number e l = let h : 64 < length (alternatives p) = omega arith in over (rw (lt-ltb _ _ h) refl)
 
@@ -86,14 +86,14 @@ module _ (p : Vector) where
       few : ltb 64 (length (alternatives p)) ≡ false
       few = let a = all in le-ltb 64 (length (alternatives p)) (omega arith)
 
-      pub over_steps : 16 < s → Over ≡ measured p
+      pub over_steps : 16 < s → None ≡ measured p
       unfolding over_limit
       over_steps h =
           let g = steps in
           let x : 16 < greatest_of length (alternatives p) = omega arith in
           over (rw (few, lt-ltb 16 _ x) refl)
 
-      pub over_tests : s ≤ 16 → 64 < k → Over ≡ measured p
+      pub over_tests : s ≤ 16 → 64 < k → None ≡ measured p
       unfolding over_limit
       over_tests h j =
           let g = steps in
@@ -102,7 +102,7 @@ module _ (p : Vector) where
           let y : 64 < greatest_of tests (alternatives p) = omega arith in
           over (rw (few, le-ltb 16 _ x, lt-ltb 64 _ y) refl)
 
-      pub within : s ≤ 16 → k ≤ 64 → Within (record { alternatives = n; steps = s; tests = k }) ≡ measured p
+      pub within : s ≤ 16 → k ≤ 64 → Some (record { alternatives = n; steps = s; tests = k }) ≡ measured p
       unfolding over_limit measured number_of_alternatives steps_of tests_of
       within h j =
           let g = steps in

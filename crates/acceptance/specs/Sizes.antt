@@ -5,17 +5,21 @@
 --   Shaped, ShapedAt                  its numbers of steps and tests
 --   Held, Combined, WithPins          those of one under a condition, of one that is put together of two, with pins
 --   measured, PinnedTree, MeasuredAt  the size, or that it is over; of a tree with its pins
+use Rattle.std.specs.Prelude.{None, Option, Some}
+use Rattle.acceptance.specs.declared.sizes.Size.{Size}
 use Rattle.std.specs.Prelude.{ℕ, ◌+◌, ◌-◌, ◌<◌, ◌≤◌, min, ◌≡◌, List, [], length, get_or, if◌then◌else◌}
 use Rattle.alf.specs.Expressions.{Boolean, Vector}
 use Rattle.alf.specs.Alternatives.{Alternative, conditioned, alternatives, tests}
 use Rattle.alf.specs.Alternatives.{number_of_alternatives, steps_of, tests_of, over_limit}
-use Rattle.acceptance.specs.declared.sizes.Measured.{Measured}
-use Rattle.acceptance.specs.declared.sizes.Measured.TheVariants.{Over, Within}
 use Rattle.alternatives.specs.declared.picking.How.{How}
 use Rattle.trees.specs.Parts.{EndsVector, vector_at}
 use Rattle.alternatives.specs.Picks.{put}
 use Rattle.steady_pins.specs.Pinned.{by_places}
 use Rattle.acceptance.specs.Notes.{Noted}
+
+-- the size, or none: over limit 8
+abbrev pub Measured : Type 0
+Measured = Option Size
 
 -- what is asked: byte b is an operator of two vectors, and the numbers are counted no further than 65
 pub record Counts (b n m : ℕ) : Type 0 where
@@ -81,8 +85,8 @@ pub record Small (x y : ℕ) : Type 0 where
 -- the size of a vector expression, or that it is over limit 8
 unfoldable pub measured : Vector → Measured
 measured p =
-    if over_limit (alternatives p) then Over
-    else Within (record { alternatives = number_of_alternatives p; steps = steps_of p; tests = tests_of p })
+    if over_limit (alternatives p) then None
+    else Some (record { alternatives = number_of_alternatives p; steps = steps_of p; tests = tests_of p })
 
 -- a tree of at most 256 bytes with its pins, and its size, whatever its operands are
 pub record PinnedTree (pins tree : List ℕ) (names end : ℕ) : Type 0 where

@@ -6,9 +6,7 @@ ghost use Rattle.acceptance.specs.Accepted.{Accepted, Shallow, Limited};
 ghost use Rattle.basics.specs.Deciding.{Decides};
 
 use crate::sizes;
-use crate::sizes::Measured;
 use alf::{Rules, Sort};
-use trees::sorts::Kind;
 use trees::{brackets, sorts};
 
 // Whether the brackets of the whole tree's text nest at most 32 deep.
@@ -16,10 +14,7 @@ fn is_shallow(tree: &[u8], names: usize) -> bool
     requires { Ends tree.now names (length tree.now) }
     ensures { Decides result (Shallow tree.now names) }
 {
-    if 32 < brackets::depth_of(tree, tree.len(), names) {
-        return false;
-    }
-    true
+    brackets::depth_of(tree, tree.len(), names) <= 32
 }
 
 // Whether the whole tree's vector expression, as the rules read it, is within limit 8.
@@ -27,11 +22,7 @@ fn is_small(rules: Rules, tree: &[u8], names: usize) -> bool
     requires { Tree tree.now names (length tree.now) }
     ensures { Decides result (Limited rules tree.now names) }
 {
-    let size = crate::sizes::measure(rules, tree, tree.len(), names);
-    match size {
-        Measured::Over => false,
-        Measured::Within(_) => true,
-    }
+    sizes::measure(rules, tree, tree.len(), names).is_some()
 }
 
 // Whether a tree is accepted under the rules.
@@ -41,21 +32,10 @@ pub fn accepts(rules: Rules, tree: &[u8], names: usize, sort: Sort) -> bool
     if 256 < tree.len() {
         return false;
     }
-    let kind = sorts::kind_of(tree, names);
-    match kind {
-        Kind::Neither => false,
-        Kind::Boolean => match sort {
-            Sort::Boolean => is_shallow(tree, names),
-            Sort::Vector => false,
-        },
-        Kind::Vector => match sort {
-            Sort::Boolean => false,
-            Sort::Vector => {
-                if is_small(rules, tree, names) {
-                    return is_shallow(tree, names);
-                }
-                false
-            }
-        },
+    match (sorts::kind_of(tree, names), sort) {
+        (Some(Sort::Boolean), Sort::Boolean) => is_shallow(tree, names),
+        (Some(Sort::Vector), Sort::Vector) => is_small(rules, tree, names)
+            && is_shallow(tree, names),
+        _ => false,
     }
 }

@@ -8,7 +8,7 @@ ghost use Rattle.acceptance.specs.Sizes.{Counts};
 pub fn cap(x: usize) -> usize
     ensures { result ≡ min 65 x }
 {
-    if x < 65 { x } else { 65 }
+    x.min(65)
 }
 
 // How many alternatives byte b makes of n and m.

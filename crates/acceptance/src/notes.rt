@@ -17,13 +17,12 @@ fn start_by(tree: &[u8], notes: &[u8; 768], end: usize, names: usize) -> usize
     ensures { StartBy tree.now names end result }
 {
     let mut at = end - 1;
-    let mut need = arity(tree[at]);
-    while 0 < need {
+    let need = arity(tree[at]);
+    for _ in 0..need {
         if at == 0 {
             return 0;
         }
         at = notes[255 + at] as usize;
-        need -= 1;
     }
     at
 }
@@ -75,13 +74,12 @@ pub fn note(tree: &[u8], pins: &[u8; 8192], end: usize, names: usize) -> [u8; 76
     ensures { Noted pins.now result tree.now names end }
 {
     let mut notes = blank();
-    let mut e: usize = 0;
-    while e < end {
-        e += 1;
+    for at in 0..end {
+        let e = at + 1;
         let n = count_by(tree, &notes, e, names);
         let from = start_by(tree, &notes, e, names);
         let k = pin_count(pins, e);
-        notes[e - 1] = n as u8;
+        notes[at] = n as u8;
         notes[255 + e] = from as u8;
         notes[511 + e] = k as u8;
     }

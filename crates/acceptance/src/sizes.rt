@@ -1,5 +1,5 @@
 // The size of a vector expression in alternatives, steps and tests: limit 8, counted and not built.
-ghost use Rattle.std.specs.Prelude.{◌≡◌, ◌<◌, ◌≤◌, max};
+ghost use Rattle.std.specs.Prelude.{◌≡◌, ◌<◌, ◌≤◌};
 ghost use Rattle.trees.specs.Parts.{vector_at};
 ghost use Rattle.alf.specs.Steady.{meant};
 ghost use Rattle.steady_pins.specs.Finding.{Tree};
@@ -22,13 +22,6 @@ pub struct Size {
     pub tests: usize,
 }
 
-// Over limit 8, or within it.
-#[derive(Clone, Copy)]
-pub enum Measured {
-    Over,
-    Within(Size),
-}
-
 // The steps and the tests of an alternative; 65 stands for more than 64.
 #[derive(Clone, Copy)]
 pub struct Shape {
@@ -45,12 +38,6 @@ fn hold(x: Shape) -> Shape
         steps: x.steps,
         tests: cap(x.tests + x.steps),
     }
-}
-
-fn larger(x: usize, y: usize) -> usize
-    ensures { result ≡ max x y }
-{
-    if x < y { y } else { x }
 }
 
 // Two alternatives put together.
@@ -71,7 +58,7 @@ fn combine(how: How, x: Shape, y: Shape) -> Shape
             tests,
         },
         How::Together => Shape {
-            steps: larger(x.steps, y.steps),
+            steps: x.steps.max(y.steps),
             tests,
         },
     }
@@ -154,30 +141,28 @@ fn measure_pinned(
     notes: &[u8; 768],
     end: usize,
     names: usize,
-) -> Measured
+) -> Option<Size>
     requires { PinnedTree pins.now tree.now names end × Noted pins.now notes.now tree.now names end }
     ensures { MeasuredAt pins.now tree.now names end result }
 {
     let n = notes::count_at(tree, notes, end, names);
     if 64 < n {
-        return Measured::Over;
+        return None;
     }
     let mut steps: usize = 0;
     let mut tests: usize = 0;
-    let mut t: usize = 0;
-    while t < n {
+    for t in 0..n {
         let x = shape_of(tree, pins, notes, end, names, t);
-        steps = larger(steps, x.steps);
-        tests = larger(tests, x.tests);
-        t += 1;
+        steps = steps.max(x.steps);
+        tests = tests.max(x.tests);
     }
     if 16 < steps {
-        return Measured::Over;
+        return None;
     }
     if 64 < tests {
-        return Measured::Over;
+        return None;
     }
-    Measured::Within(Size {
+    Some(Size {
         alternatives: n,
         steps,
         tests,
@@ -185,7 +170,7 @@ fn measure_pinned(
 }
 
 // The size of the vector expression that ends at `end`, as the rules read it, or that it is over limit 8.
-pub fn measure(rules: Rules, tree: &[u8], end: usize, names: usize) -> Measured
+pub fn measure(rules: Rules, tree: &[u8], end: usize, names: usize) -> Option<Size>
     requires { Tree tree.now names end }
     ensures { result ≡ measured (meant rules (vector_at tree.now names end)) }
 {

@@ -5,6 +5,7 @@
 --   Printed           what calls of `activity_part` wrote, from one row to another, appended
 --   parts_whole       from row 0 to the last, whatever the calls' contract allows: the text of the whole trace
 --   parts_checked     and the whole passes what is asked of a trace in lists
+use Rattle.std.specs.Prelude.{Ok}
 use Prim.Native.Nat.{ℕ, zero, suc, ◌+◌, ◌-◌, ◌<◌, ◌≤◌}
 use native.Mathlib.Omega.{arith}
 use native.Mathlib.Nat.{add-zero}
@@ -12,8 +13,7 @@ use mathlib.Core.Path.{◌≡◌, refl, sym, ap, ◌∙◌}
 use mathlib.Core.List.{List, ◌++◌, append_assoc}
 use lib.ListN.{length, take}
 use lib.Seq.{take_at}
-use Rattle.basics.specs.declared.Outcome.{Outcome}
-use Rattle.basics.specs.declared.Outcome.TheVariants.{Done}
+use Rattle.basics.specs.Refusing.{Outcome}
 use Rattle.basics.specs.Words.{listed}
 use Rattle.basics.specs.Text.{joined}
 use Rattle.basics.specs.Memory.{after}
@@ -50,7 +50,7 @@ module _ (names times states : List ℕ) (n from to : ℕ) (out : List ℕ) wher
       r s a.outcome b.outcome in
       (e, after_unique _ out e a.memory b.memory)
 
-  module _ {out' : List ℕ} {m : ℕ} (w : ListsPart names times states n from to out out' (Done m)) where
+  module _ {out' : List ℕ} {m : ℕ} (w : ListsPart names times states n from to out out' (Ok m)) where
     pub part_told : take m out' ≡ part_text names (names_in names) times states from (to - from)
     unfolding Comes after
     part_told = rw w.memory (take_at _ _ m (sym w.outcome.1))
@@ -103,10 +103,10 @@ parts_split names k times states a b c h l =
 -- What calls wrote for the rows from one to another, any number of them at a time, one call after the other; the buffer
 -- may be another at each call.
 pub data Printed (names times states : List ℕ) (n : ℕ) : ℕ → ℕ → List ℕ → Type 0 where
-  last : {from to : ℕ} {out out' : List ℕ} {m : ℕ} → ListsPart names times states n from to out out' (Done m)
+  last : {from to : ℕ} {out out' : List ℕ} {m : ℕ} → ListsPart names times states n from to out out' (Ok m)
       → Printed names times states n from to (take m out')
   more : {from between to : ℕ} {out out' : List ℕ} {m : ℕ} {rest : List ℕ}
-      → ListsPart names times states n from between out out' (Done m)
+      → ListsPart names times states n from between out out' (Ok m)
       → Printed names times states n between to rest → Printed names times states n from to (take m out' ++ rest)
 
 -- what is so of the rows from one to another once they are printed
@@ -117,7 +117,7 @@ record Shown (names times states : List ℕ) (n from to : ℕ) (text : List ℕ)
   rows : Passed (rows_order (names_in names) times states from (to - from))
 
 module _ (names times states : List ℕ) (n : ℕ) where
-  one_shown : {from to : ℕ} {out out' : List ℕ} {m : ℕ} → ListsPart names times states n from to out out' (Done m)
+  one_shown : {from to : ℕ} {out out' : List ℕ} {m : ℕ} → ListsPart names times states n from to out out' (Ok m)
       → Shown names times states n from to (take m out')
   one_shown w =
       record {

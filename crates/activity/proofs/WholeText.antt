@@ -6,6 +6,7 @@
 --   whole_good, whole_part                    the whole is a part
 --   tells_refused, tells_delivered            the whole: refused by the check of the trace, or passed
 --   no_part, rows_refused, part_delivered, lists_refused, lists_passed    a part, likewise
+use Rattle.std.specs.Prelude.{Err, Ok}
 use Prim.Native.Nat.{ℕ, ◌+◌, ◌-◌, ◌*◌, ◌≤◌}
 use native.Mathlib.Omega.{arith}
 use mathlib.Core.Path.{◌≡◌, refl, sym, ap, ◌∙◌}
@@ -14,8 +15,7 @@ use mathlib.Core.Logic.{inl, inr}
 use lib.ListN.{length, length-append}
 use borrow.Author.Tests.{ne_eqb}
 use Rattle.basics.specs.declared.Refusal.{Refusal}
-use Rattle.basics.specs.declared.Outcome.{Outcome}
-use Rattle.basics.specs.declared.Outcome.TheVariants.{Done, Refused}
+use Rattle.basics.specs.Refusing.{Outcome}
 use Rattle.basics.specs.Memory.{Put, Room, after}
 use Rattle.basics.proofs.PartByPart.{flat, Going, going_start, put_none}
 use Rattle.alf.specs.Names.{names_in}
@@ -129,12 +129,12 @@ module _ {names times states : List ℕ} {n k : ℕ} (g : NamesGood names times 
 
   -- the rows from one to another, once they are checked
   pub checked_good : {from to m : ℕ} {o : Outcome} → PartOf n from to
-      → Comes (rows_order k times states from (to - from)) (λ m. m ≡ k) o → o ≡ Done m
-      → PartGood names m times states from (to - from)
+      → Comes (rows_order k times states from (to - from)) (λ m. m ≡ k) o → o ≡ Ok m
+      → PartGood names k times states from (to - from)
   unfolding Comes
   checked_good {from} {to} {m} p c e =
-      let done : Comes (rows_order k times states from (to - from)) (λ m. m ≡ k) (Done m) = rw e at c in
-      rw done.1 (part_good from (to - from) (omega (arith, p.some, p.within)) done.0)
+      let done : Comes (rows_order k times states from (to - from)) (λ m. m ≡ k) (Ok m) = rw e at c in
+      part_good from (to - from) (omega (arith, p.some, p.within)) done.0
 
 pub whole_good : {names times states : List ℕ} {n k : ℕ} → Good names times states n k
     → PartGood names k times states 0 n
@@ -150,8 +150,8 @@ whole_part names times states n = refl
 -- the whole: refused by the check of the trace, or passed
 module _ {names times states : List ℕ} {n : ℕ} {out : List ℕ} where
   pub tells_refused : {o : Outcome} {r : Refusal} (made : ℕ → Type 0)
-      → Comes (lists_order names times states n) made o → o ≡ Refused r
-      → ListsActivity names times states n out out (Refused r)
+      → Comes (lists_order names times states n) made o → o ≡ Err r
+      → ListsActivity names times states n out out (Err r)
   unfolding after
   tells_refused made c e =
       record { outcome = comes_first (lists_order names times states n) _ made _ c e; memory = refl }
@@ -182,8 +182,8 @@ module _ {names : List ℕ} {k : ℕ} {times states : List ℕ} {n from to : ℕ
 
   module _ (p : PartOf n from to) where
     pub rows_refused : {o : Outcome} {r : Refusal} (made : ℕ → Type 0)
-        → Comes (rows_order k times states from (to - from)) made o → o ≡ Refused r
-        → WritesPart names k times states n from to out out (Refused r)
+        → Comes (rows_order k times states from (to - from)) made o → o ≡ Err r
+        → WritesPart names k times states n from to out out (Err r)
     unfolding Comes RefusedWith after
     rows_refused {r = r} made c e =
         let h = by_first (rows_order k times states from (to - from)) _ (rw e at c) in
@@ -193,25 +193,24 @@ module _ {names : List ℕ} {k : ℕ} {times states : List ℕ} {n from to : ℕ
         }
 
     pub part_delivered : {o : Outcome} {m : ℕ} {out' : List ℕ} {r : Outcome}
-        → Comes (rows_order k times states from (to - from)) (λ m. m ≡ k) o → o ≡ Done m
-        → Delivers (part_text names m times states from (to - from)) out out' r
+        → Comes (rows_order k times states from (to - from)) (λ m. m ≡ k) o → o ≡ Ok m
+        → Delivers (part_text names k times states from (to - from)) out out' r
         → WritesPart names k times states n from to out out' r
     unfolding Comes Passed
     part_delivered {o} {m} {out'} {r} c e d =
-        let done : Comes (rows_order k times states from (to - from)) (λ m. m ≡ k) (Done m) = rw e at c in
-        let told : Delivers (part_text names k times states from (to - from)) out out' r = rw done.1 at d in
+        let done : Comes (rows_order k times states from (to - from)) (λ m. m ≡ k) (Ok m) = rw e at c in
         record {
           outcome =
               comes_then (check 19 (At 0 (PartOf n from to → ⊥)) ∷ rows_order k times states from (to - from)) _ _ r
-              ((λ q a. a.given p), done.0) told.outcome;
-          memory = told.memory;
+              ((λ q a. a.given p), done.0) d.outcome;
+          memory = d.memory;
         }
 
 -- what was checked first: the lists
 module _ {names times states : List ℕ} {n from to : ℕ} {out : List ℕ} where
   pub lists_refused : {o : Outcome} {r : Refusal} (made : ℕ → Type 0)
-      → Comes (lent_order names times states n) made o → o ≡ Refused r
-      → ListsPart names times states n from to out out (Refused r)
+      → Comes (lent_order names times states n) made o → o ≡ Err r
+      → ListsPart names times states n from to out out (Err r)
   unfolding after
   lists_refused made c e =
       record { outcome = comes_first (lent_order names times states n) _ made _ c e; memory = refl }

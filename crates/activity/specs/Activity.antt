@@ -13,7 +13,7 @@
 -- The rows' lines are defined in row_lines. The whole text of T is computed as an example. That the parts together are
 -- the whole is in proofs/Parts.
 use Rattle.std.specs.Prelude.{ℕ, ◌-◌, ◌<◌, ◌≤◌, ◌≡◌, true, List, [], ◌∷◌, ◌++◌, eqb, length, if◌then◌else◌}
-use Rattle.basics.specs.declared.Outcome.{Outcome}
+use Rattle.basics.specs.Refusing.{Outcome}
 use Rattle.basics.specs.Memory.{after, front}
 use Rattle.alf.specs.Names.{names_in}
 use Rattle.alf.specs.Refusals.{Order, check, At, Comes}

@@ -2,7 +2,7 @@
 --   HeadFits, OpeningFits   room for the head, and for the head before row 0
 --   WritesPart              what a part comes to, once its lists are known to fit
 use Rattle.std.specs.Prelude.{ℕ, ◌-◌, ◌≡◌, List, length}
-use Rattle.basics.specs.declared.Outcome.{Outcome}
+use Rattle.basics.specs.Refusing.{Outcome}
 use Rattle.basics.specs.Memory.{Room, after, front}
 use Rattle.alf.specs.Refusals.{Comes}
 use Rattle.trace_writer.specs.Putting.{SlotsLent}

@@ -8,11 +8,12 @@ ghost use Rattle.row_lines.specs.Inner.{PartGood};
 ghost use Rattle.activity.specs.Activity.{head_line, opening, part_text, ListsActivity, ListsPart};
 ghost use Rattle.activity.specs.Inner.{HeadFits, OpeningFits, WritesPart};
 
-use basics::Outcome;
+use basics::Refusal;
 use basics::puts::put;
 use basics::refusing::refuse;
 use row_lines::marked::{members_size, put_members};
 use row_lines::rows::{put_rows, rows_size};
+use trace_writer::Lists;
 use trace_writer::checks::{check_lists, check_rows, check_trace};
 
 // The mask of all names.
@@ -51,54 +52,53 @@ fn put_opening(names: &[u8], k: usize, first: usize, out: &mut [u8], at: usize) 
 }
 
 // The lines of some rows that are known to be good, if there is room; before row 0 the head.
-fn write_part(
-    names: &[u8],
-    k: usize,
-    times: &[u64],
-    states: &[u8],
-    first: usize,
-    many: usize,
-    out: &mut [u8],
-) -> Outcome
-    requires { PartGood names.now k times.now states.now first many }
+fn write_part(lists: &Lists, first: usize, many: usize, out: &mut [u8]) -> Result<usize, Refusal>
+    requires { PartGood lists.now.names.now lists.now.k lists.now.times.now lists.now.states.now first many }
     ensures { Delivers
-        (part_text names.now k times.now states.now first many)
+        (part_text lists.now.names.now lists.now.k lists.now.times.now lists.now.states.now first many)
         out.old out.new result }
 {
-    let size = opening_size(names, k, first) + rows_size(names, k, times, states, first, many);
+    let size = opening_size(lists.names, lists.k, first) + rows_size(lists, first, many);
     if out.len() < size {
         return refuse(9, size);
     }
-    let p = put_opening(names, k, first, out, 0);
-    put_rows(names, k, times, states, first, many, out, p);
-    Outcome::Done(size)
+    let p = put_opening(lists.names, lists.k, first, out, 0);
+    put_rows(lists, first, many, out, p);
+    Ok(size)
 }
 
 // The activity listing of a trace in lists: names in slots, n times, and states row by row; its length. Refused with
 // 18, 12, then 13 and 15 row by row, 9.
-pub fn activity(names: &[u8], times: &[u64], states: &[u8], n: usize, out: &mut [u8]) -> Outcome
+pub fn activity(
+    names: &[u8],
+    times: &[u64],
+    states: &[u8],
+    n: usize,
+    out: &mut [u8],
+) -> Result<usize, Refusal>
     ensures { ListsActivity names.now times.now states.now n
         out.old out.new result }
 {
-    match check_trace(names, times, states, n) {
-        Outcome::Refused(r) => Outcome::Refused(r),
-        Outcome::Done(k) => write_part(names, k, times, states, 0, n, out),
-    }
+    let k = check_trace(names, times, states, n)?;
+    let lists = Lists {
+        names,
+        k,
+        times,
+        states,
+    };
+    write_part(&lists, 0, n, out)
 }
 
 // A part, once the lists are known to fit: 19, then 13 and 15 of its rows, 9.
 fn tell_part(
-    names: &[u8],
-    k: usize,
-    times: &[u64],
-    states: &[u8],
+    lists: &Lists,
     n: usize,
     from: usize,
     to: usize,
     out: &mut [u8],
-) -> Outcome
-    requires { NamesGood names.now times.now states.now n k }
-    ensures { WritesPart names.now k times.now states.now n from to
+) -> Result<usize, Refusal>
+    requires { NamesGood lists.now.names.now lists.now.times.now lists.now.states.now n lists.now.k }
+    ensures { WritesPart lists.now.names.now lists.now.k lists.now.times.now lists.now.states.now n from to
         out.old out.new result }
 {
     if to <= from {
@@ -107,10 +107,9 @@ fn tell_part(
     if n < to {
         return refuse(19, 0);
     }
-    match check_rows(k, times, states, from, to - from) {
-        Outcome::Refused(r) => Outcome::Refused(r),
-        Outcome::Done(m) => write_part(names, m, times, states, from, to - from, out),
-    }
+    let many = to - from;
+    check_rows(lists.k, lists.times, lists.states, from, many)?;
+    write_part(lists, from, many, out)
 }
 
 // The lines of the rows `from` to `to` - 1 of the activity listing, before row 0 the head; their length. Only these
@@ -124,12 +123,16 @@ pub fn activity_part(
     from: usize,
     to: usize,
     out: &mut [u8],
-) -> Outcome
+) -> Result<usize, Refusal>
     ensures { ListsPart names.now times.now states.now n from to
         out.old out.new result }
 {
-    match check_lists(names, times, states, n) {
-        Outcome::Refused(r) => Outcome::Refused(r),
-        Outcome::Done(k) => tell_part(names, k, times, states, n, from, to, out),
-    }
+    let k = check_lists(names, times, states, n)?;
+    let lists = Lists {
+        names,
+        k,
+        times,
+        states,
+    };
+    tell_part(&lists, n, from, to, out)
 }

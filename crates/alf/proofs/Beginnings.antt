@@ -6,17 +6,15 @@
 --   first_tried                  it is the alternative whose position is the number tried
 --   began_tries, began_none      so a yes has the time of row i - k, k its steps; any other answer has none
 --   began_answers                the window from there to row i answers yes for the expression as written
-use Rattle.std.specs.Prelude.{if◌then◌else◌}
-use mathlib.Core.Path.{◌≡◌, refl, ap, sym, ◌∙◌, subst}
+use Rattle.std.specs.Prelude.{None, Some}
+use mathlib.Core.Path.{◌≡◌, refl, sym, ◌∙◌}
 use mathlib.Core.List.{List, [], ◌∷◌, map}
 use mathlib.Core.Logic.{◌⊎◌, inl, inr}
-use Prim.Native.Nat.{ℕ, zero, suc, ◌+◌, ◌-◌, ◌<◌, ◌≤◌, max}
+use Prim.Native.Nat.{ℕ, zero, suc, ◌+◌, ◌-◌, ◌<◌, ◌≤◌}
 use native.Mathlib.Omega.{arith}
-use lib.Dec.{eqb}
 use lib.ListN.{length, get_or}
 use borrow.Author.Tests.{eq-eqb, ne_eqb}
-use Rattle.alf.specs.declared.Began.{Began}
-use Rattle.alf.specs.declared.Began.TheVariants.{At, Nowhere}
+use Rattle.alf.specs.Beginnings.{Began}
 use Rattle.basics.specs.Words.{greatest_of}
 use Rattle.alf.specs.Expressions.{Boolean, Vector}
 use Rattle.alf.specs.Windows.{YES, numbered, answer}
@@ -30,7 +28,7 @@ use Rattle.alf.proofs.RowsAreAlternatives.{row_on, row_off, row_small}
 
 -- the time of a row
 abbrev pub since : List ℕ → ℕ → Began
-since times r = At (record { 0 = get_or times r 0 })
+since times r = Some (record { 0 = get_or times r 0 })
 
 module _ (st : Boolean → ℕ → ℕ) (i : ℕ) where
   -- x is the first alternative in order that answers yes at row i
@@ -73,7 +71,7 @@ module _ (st : Boolean → ℕ → ℕ) (i : ℕ) where
 
     -- a list with a yes has a first one, another has none
     abbrev pub Without : List Alternative → Type 0
-    Without xs = (best_of st xs i < 2) × (began_in st times xs i ≡ Nowhere)
+    Without xs = (best_of st xs i < 2) × (began_in st times xs i ≡ None)
 
     pub search_yes : (xs : List Alternative) → ((x : Alternative) × FirstYes xs x) ⊎ Without xs
     unfolding best_of greatest_of began_in
@@ -153,13 +151,13 @@ module _ (st : Boolean → ℕ → ℕ) (times : List ℕ) (xs : List Alternativ
       go (inr b) = let l = yes_number _ e in let m = b.0 in absurd (omega arith)
 
   -- "No time is given with no, unknown or row 0"
-  pub began_none : (i : ℕ) → (answer_of st xs i ≡ 1 → ⊥) → began st times xs i ≡ Nowhere
+  pub began_none : (i : ℕ) → (answer_of st xs i ≡ 1 → ⊥) → began st times xs i ≡ None
   unfolding answer_of began
   began_none zero n = refl
   began_none (suc i) n = go (search_yes st (suc i) times xs)
     where
       go : ((x : Alternative) × FirstYes st (suc i) xs x) ⊎ Without st (suc i) times xs
-          → began_in st times xs (suc i) ≡ Nowhere
+          → began_in st times xs (suc i) ≡ None
       go (inl f) = absurd (n (number_yes _ (first_best st (suc i) f.1)))
       go (inr b) = b.1
 

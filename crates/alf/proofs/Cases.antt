@@ -13,7 +13,6 @@ use Rattle.alf.specs.Windows.{answer, best, numbered, row_answer}
 use Rattle.alf.specs.Alternatives.{each, padded, zipped, overlaid, conditioned, rewritten}
 use Rattle.alf.specs.Alternatives.{alternatives, steps_of}
 use Rattle.alf.specs.Traces.{corrected, last_rewritten}
-use Rattle.basics.specs.Text.{bytes}
 use Rattle.alf.specs.TableT.{states, cases, holds, all_hold}
 
 pub cases_hold : (ρ : Rules) → all_hold ρ cases ≡ true

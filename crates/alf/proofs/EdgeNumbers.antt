@@ -2,13 +2,10 @@
 -- Main names: half_any, half_the (a half from its number), edge_pair, edge_changes, edge_stays (an edge from its
 -- number).
 use mathlib.Core.Path.{◌≡◌, refl}
-use mathlib.Core.Bool.{true, false}
 use Prim.Native.Nat.{ℕ, zero, suc, ◌-◌, ◌/◌, ◌%◌, ◌<◌, ◌≤◌}
 use native.Mathlib.Numerals.{sub-one}
-use native.Mathlib.Omega.{arith}
-use lib.Dec.{ltb, eqb}
-use borrow.Author.Tests.{lt-ltb, le-ltb, eq-eqb, ne_eqb}
-use Rattle.alf.specs.Expressions.{Half, any, the, Edge, pair, changes, stays}
+use borrow.Author.Tests.{lt-ltb, le-ltb, ne_eqb}
+use Rattle.alf.specs.Expressions.{any, the, pair, changes, stays}
 use Rattle.alf.specs.Decoder.{half_at, edge_at}
 
 pub half_any : (h : ℕ) → h ≡ 0 → half_at h ≡ any

@@ -6,13 +6,13 @@
 --   Sole, sole_both, sole_fixed                    an order refuses with one number at one place
 --   none_first                                     what is so nowhere first is so nowhere
 --   Is                                             an outcome that is this refusal
+use Rattle.std.specs.Prelude.{Err}
 use mathlib.Core.Path.{◌≡◌, refl}
-use mathlib.Core.List.{List, [], ◌∷◌, ◌++◌}
+use mathlib.Core.List.{[], ◌∷◌, ◌++◌}
 use mathlib.Core.Logic.{◌⊎◌, inl, inr, ⊎_elim}
 use Prim.Native.Nat.{ℕ, zero, suc, ◌<◌}
 use native.Mathlib.Omega.{arith}
-use Rattle.basics.specs.declared.Outcome.{Outcome}
-use Rattle.basics.specs.declared.Outcome.TheVariants.{Refused}
+use Rattle.basics.specs.Refusing.{Outcome}
 use Rattle.basics.specs.Refusing.{refusal}
 use Rattle.basics.specs.declared.Refusal.{Refusal}
 use Rattle.alf.specs.Refusals.{Order, RefusedWith, RefusedBy, Passed, First}
@@ -91,4 +91,4 @@ none_first so f k s = none_below so f (suc k) k (omega arith) s
 
 -- an outcome that is this refusal
 abbrev pub Is : Outcome → ℕ → ℕ → Type 0
-Is r number p = r ≡ Refused (refusal number p)
+Is r number p = r ≡ Err (refusal number p)

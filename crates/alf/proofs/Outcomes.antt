@@ -6,6 +6,7 @@
 --   refused_by_unique   one refusal
 --   refused_among     its number is one of the order's
 --   comes_unique      one outcome
+use Rattle.std.specs.Prelude.{Err, Ok}
 use mathlib.Core.Path.{◌≡◌, refl, sym, ap, ◌∙◌}
 use mathlib.Core.List.{[], ◌∷◌}
 use mathlib.Core.Bool.{true}
@@ -14,8 +15,7 @@ use borrow.Author.Tests.{eq-eqb}
 use mathlib.Core.Logic.{◌⊎◌, inl, inr}
 use Prim.Native.Nat.{ℕ, ◌<◌, ◌≤◌}
 use native.Mathlib.Omega.{arith}
-use Rattle.basics.specs.declared.Outcome.{Outcome}
-use Rattle.basics.specs.declared.Outcome.TheVariants.{Done, Refused}
+use Rattle.basics.specs.Refusing.{Outcome}
 use Rattle.basics.specs.declared.Refusal.{Refusal}
 use Rattle.alf.specs.States.{among}
 use Rattle.alf.specs.Refusals.{Row, At, First, FirstOf, Order, numbers_of, RefusedWith, RefusedBy, Passed}
@@ -81,8 +81,8 @@ pub comes_unique :
     Comes o made b →
     a ≡ b
 unfolding Comes
-comes_unique o made f one (Done j) (Done k) x y = ap Done (one j k x.1 y.1)
-comes_unique o made f one (Done j) (Refused s) x y = absurd (refused_passed o _ _ x.0 y.by)
-comes_unique o made f one (Refused r) (Done k) x y = absurd (refused_passed o _ _ y.0 x.by)
-comes_unique o made f one (Refused r) (Refused s) x y =
-    ap Refused (refused_by_unique o f x y)
+comes_unique o made f one (Ok j) (Ok k) x y = ap Ok (one j k x.1 y.1)
+comes_unique o made f one (Ok j) (Err s) x y = absurd (refused_passed o _ _ x.0 y.by)
+comes_unique o made f one (Err r) (Ok k) x y = absurd (refused_passed o _ _ y.0 x.by)
+comes_unique o made f one (Err r) (Err s) x y =
+    ap Err (refused_by_unique o f x y)

@@ -4,8 +4,7 @@
 --   state_negated, state_binary, state_choice    the state of an operator, by the states of its operands
 --   value_same, state_same                       rows that agree on the names of an expression agree on it
 use Prim.Native.Nat.{ℕ, zero, suc, ◌<◌}
-use mathlib.Core.Path.{◌≡◌, refl, ap, sym, ◌∙◌}
-use lib.ListN.{get_or}
+use mathlib.Core.Path.{◌≡◌, refl, ap}
 use Rattle.alf.specs.declared.Rules.{Rules}
 use Rattle.alf.specs.States.{reduce, not_of_lem}
 use Rattle.alf.specs.Expressions.{Boolean, name, literal, negated, binary, choice, Binary, Over}

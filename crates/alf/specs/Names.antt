@@ -3,7 +3,7 @@
 --   names_in                              how many names a list has
 --   slot, until_zero, name_at, slot_of      a slot of a list, the name in it, a name as a slot
 --   GoodSlot                             a slot that passes refusal 12
-use Rattle.std.specs.Prelude.{ℕ, ◌+◌, ◌*◌, ◌/◌, ◌<◌, Bool, true, false, ◌&&◌, ◌||◌, ◌≡◌, List, [], ◌∷◌, ◌++◌, eqb, ltb, leb, length, take, drop, replicate, if◌then◌else◌}
+use Rattle.std.specs.Prelude.{ℕ, ◌*◌, ◌/◌, ◌<◌, Bool, true, false, ◌&&◌, ◌||◌, ◌≡◌, List, [], ◌∷◌, ◌++◌, eqb, ltb, leb, length, take, drop, replicate, if◌then◌else◌}
 use Rattle.basics.specs.Words.{all}
 
 -- Letters, digits, `_`. Each byte is put in its class by ranges; bytes 128 to 255 belong to no class.

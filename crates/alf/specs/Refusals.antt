@@ -11,10 +11,10 @@
 --   numbers_of                            the numbers of an order, as document 01 has them in one sentence
 --   Never, RefusedWith, Bare, RefusedBy    refused by the first row that holds, and no bytes shown
 --   Passed, Comes                        passed; the outcome of a call
+use Rattle.std.specs.Prelude.{Err, Ok}
 use Rattle.std.specs.Prelude.{ℕ, ◌-◌, ◌/◌, ◌<◌, ◌≤◌, true, ◌⊎◌, ◌≡◌, List, [], ◌∷◌, length, get_or}
 use Rattle.basics.specs.declared.Refusal.{Refusal}
-use Rattle.basics.specs.declared.Outcome.{Outcome}
-use Rattle.basics.specs.declared.Outcome.TheVariants.{Done, Refused}
+use Rattle.basics.specs.Refusing.{Outcome}
 use Rattle.alf.specs.Names.{GoodSlot}
 use Rattle.alf.specs.Alternatives.{Alternative, over_limit}
 
@@ -188,5 +188,5 @@ Passed (c ∷ cs) = Never c × Passed cs
 
 -- the outcome of a call: done where no row of its order holds, with the count that is made; else refused
 unfoldable pub Comes : Order → (ℕ → Type 0) → Outcome → Type 0
-Comes order made (Done k) = Passed order × made k
-Comes order made (Refused r) = RefusedBy order r
+Comes order made (Ok k) = Passed order × made k
+Comes order made (Err r) = RefusedBy order r

@@ -9,7 +9,7 @@ use Rattle.std.specs.Prelude.{ℕ, zero, suc, Bool, true, false, not, ◌&&◌, 
 use mathlib.Core.List.{List, [], ◌∷◌, ◌++◌, reverse_aux}
 use Rattle.basics.specs.Words.{all}
 use Rattle.alf.specs.declared.Rules.{Rules}
-use Rattle.alf.specs.Expressions.{name, Half, any, the, Edge, pair, changes, stays, Vector, edge, join, while}
+use Rattle.alf.specs.Expressions.{name, any, the, Edge, pair, changes, stays, Vector, edge, join, while}
 use Rattle.alf.specs.Expressions.{Join, followed_by_join, either_order, with_or_then, any_order, with, or_else}
 use Rattle.alf.specs.Alternatives.{is_name}
 

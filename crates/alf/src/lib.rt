@@ -24,13 +24,6 @@ pub struct RowNo(pub u32);
 #[derive(Clone, Copy)]
 pub struct Stamp(pub u64);
 
-// Where a match began (document 02, [12]): a time, or none is given.
-#[derive(Clone, Copy)]
-pub enum Began {
-    At(Stamp),
-    Nowhere,
-}
-
 // The rules that every call which evaluates takes, held fixed through a trace and its corrections.
 #[repr(C)]
 #[derive(Clone, Copy)]

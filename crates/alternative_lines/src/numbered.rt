@@ -98,8 +98,7 @@ fn put_lines(
     let mut p = at;
     let mut s: usize = 0;
     let mut t: usize = 0;
-    let mut k: usize = 0;
-    while k < steps.len() {
+    for k in 0..steps.len() {
         let n = steps[k] as usize;
         p = put_line(
             k + 1,
@@ -117,7 +116,6 @@ fn put_lines(
         );
         t = pass(tests, s, n, t);
         s += n;
-        k += 1;
     }
     p
 }

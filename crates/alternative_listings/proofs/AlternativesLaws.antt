@@ -2,16 +2,15 @@
 --   refused_text      the text is refused
 --   rewritten_text    the text is read, and its tree's alternatives are written
 --   text_unique       outcome, count and buffer afterwards follow from the input
+use Rattle.std.specs.Prelude.{Err, Ok}
 use Prim.Native.Nat.{ℕ}
 use mathlib.Core.Path.{◌≡◌, refl, sym, ap, ◌∙◌}
-use mathlib.Core.Bool.{true}
 use mathlib.Core.Logic.{inl, inr}
 use mathlib.Core.List.{List}
 use lib.ListN.{length, take}
 use Rattle.alf.specs.Names.{names_in}
 use Rattle.basics.specs.declared.Refusal.{Refusal}
-use Rattle.basics.specs.declared.Outcome.{Outcome}
-use Rattle.basics.specs.declared.Outcome.TheVariants.{Done, Refused}
+use Rattle.basics.specs.Refusing.{Outcome}
 use Rattle.alf.specs.declared.Rules.{Rules}
 use Rattle.alf.specs.declared.Sort.TheVariants as sort
 use Rattle.alf.specs.Expressions.{Vector, Expression, boolean, vector}
@@ -37,9 +36,9 @@ use Rattle.alternative_lines.specs.Listing.{listing}
 use Rattle.alternative_listings.specs.Calls.{own_at, listing_at, order, tally, WritesAlternatives, DeliversLines}
 use Rattle.alternative_listings.specs.AlternativesText.{RewritesText, refused, rewritten}
 
-pub refused_text : {ρ : Rules} {names text out : List ℕ} {r : Read} → ReadsText ρ names text sort.Vector r
-    → r.refused ≡ true → RewritesText ρ names text out out (record { written = Refused r.refusal; untold = 0 })
-refused_text h e = refused (read_refused h e)
+pub refused_text : {ρ : Rules} {names text out : List ℕ} {r : Refusal} → ReadsText ρ names text sort.Vector (Err r)
+    → RewritesText ρ names text out out (record { written = Err r; untold = 0 })
+refused_text h = refused (read_refused h)
 
 -- the names and the tree of a text are good, so 9 is left
 module _ (ρ : Rules) (names tree : List ℕ) (room : ℕ) (good : Passed (names_order names))
@@ -58,8 +57,8 @@ module _ (ρ : Rules) (names tree : List ℕ) (room : ℕ) (good : Passed (names
   nine_left : (o : Outcome) → Comes (order ρ names tree room) done o
       → Comes (line_order (listing_at ρ names tree) room) done o
   unfolding Comes Passed order
-  nine_left (Done k) x = (x.0.1.1.1, x.1)
-  nine_left (Refused q) x = record { by = only_nine _ _ x.by; bare = x.bare }
+  nine_left (Ok k) x = (x.0.1.1.1, x.1)
+  nine_left (Err q) x = record { by = only_nine _ _ x.by; bare = x.bare }
 
 module _ {ρ : Rules} {names text : List ℕ} {q : Read} (f : Found ρ names text sort.Vector q) where
   abbrev tree : List ℕ
@@ -105,7 +104,7 @@ pub text_unique : {ρ : Rules} {names text out a b : List ℕ} {r s : Lines} →
 unfolding pattern_of
 text_unique {ρ} {names} {text} (refused x) (refused y) =
     let e = refused_in_unique text (read_order ρ names text sort.Vector) (read_sole ρ names text sort.Vector) x y in
-    (ap (λ (r : Refusal). record { written = Refused r; untold = 0 }) e, refl)
+    (ap (λ (r : Refusal). record { written = Err r; untold = 0 }) e, refl)
 text_unique (refused x) (rewritten h g d) = absurd (refused_passed _ _ _ h x.by)
 text_unique (rewritten h g d) (refused x) = absurd (refused_passed _ _ _ h x.by)
 text_unique {ρ} {names} {out = out} (rewritten {p = p} h g d) (rewritten {p = q} k f c) =

@@ -3,6 +3,7 @@
 --   reportable, noted_all, own-lines     the notes are the expression's own
 --   tree_listed, lists_fit_lem      the lists are those of an accepted tree
 --   refused_names, refused_tree, listed      the whole call
+use Rattle.std.specs.Prelude.{Err, Ok}
 use Prim.Native.Nat.{ℕ, ◌+◌, ◌<◌, ◌≤◌}
 use native.Mathlib.Omega.{arith}
 use mathlib.Core.Path.{◌≡◌, refl, sym, ap, ◌∙◌}
@@ -12,8 +13,7 @@ use mathlib.Core.List.{List, [], ◌∷◌, ◌++◌}
 use lib.ListN.{length, take, drop, replicate, length-append, length-map}
 use Rattle.alf.specs.Names.{names_in}
 use Rattle.basics.specs.Refusing.{refusal}
-use Rattle.basics.specs.declared.Outcome.{Outcome}
-use Rattle.basics.specs.declared.Outcome.TheVariants.{Done, Refused}
+use Rattle.basics.specs.Refusing.{Outcome}
 use Rattle.basics.specs.declared.Refusal.{Refusal}
 use Rattle.alf.specs.declared.Rules.{Rules}
 use Rattle.alf.specs.declared.Sort.TheVariants.{Vector}
@@ -24,8 +24,10 @@ use Rattle.names.specs.Check.{names_order}
 use Rattle.acceptance.specs.Accepted.{Accepted}
 use Rattle.alternatives.specs.InMemory.{sum, alternatives_of_lem}
 use Rattle.alternatives.proofs.Cuts.{cut_length, tests_length}
+use Rattle.alternatives.specs.declared.lists.Lists.{Lists}
 use Rattle.rewriting.specs.declared.lists.Alternatives.{Alternatives}
 use Rattle.rewriting.specs.Lists.{joined, alternatives_at, step_list, test_list, edge_list, Holds}
+use Rattle.rewriting.specs.Lists.{StandFor}
 use Rattle.contradictions.specs.Possible.{flag_of, flag_list, Flagged, Reported}
 use Rattle.rewriting.proofs.Joining.{lengths_sum}
 use Rattle.rewriting.proofs.Holding.{front_taken, step_entries, test_entries, edge_entries}
@@ -40,19 +42,19 @@ use Rattle.alternative_texts.specs.Texts.{untold_test, untold}
 use Rattle.alternative_listings.specs.Calls.{own_at, listing_at, order, tally, WritesAlternatives, DeliversLines}
 use Rattle.alternative_texts.specs.Inner.{Puts, all_tests}
 use Rattle.alternative_lines.specs.Inner.{AllLines, flagged, lines_with, headed_lines}
-use Rattle.alternative_listings.specs.Inner.{Whole, Listed}
+use Rattle.alternative_listings.specs.Inner.{Whole, Listed, ListedOn}
 use Rattle.alternative_texts.proofs.Counting.{counted_all}
 
 -- 9, or the text at the front
 pub lines_short : {w out : List ℕ} {k n : ℕ} {r : Outcome} → k ≡ length w → length out < k
-    → r ≡ Refused (refusal 9 k)
+    → r ≡ Err (refusal 9 k)
     → DeliversLines w n out out (record { written = r; untold = 0 })
 unfolding tally
 lines_short h l e = record { delivers = short h l e; untold_are = rw e refl }
 
 pub lines_done : {w out out' : List ℕ} {k n m u r : ℕ} → k ≡ length w → k ≤ length out
     → Puts out 0 w m out' r
-    → u ≡ n → DeliversLines w n out out' (record { written = Done k; untold = u })
+    → u ≡ n → DeliversLines w n out out' (record { written = Ok k; untold = u })
 unfolding tally
 lines_done h l p e = record { delivers = delivered h l p.put; untold_are = e }
 
@@ -151,10 +153,8 @@ module _ {ρ : Rules} (names : List ℕ) {tree : List ℕ} {a : Alternatives} (h
   unfolding listing_at
   own_lists d = rw (h.stands, ← counted) at d
 
-pub lists_fit_lem : {ρ : Rules} {names tree : List ℕ} {a : Alternatives} → Whole ρ names tree
-    → Holds ρ tree (names_in names) a
-    → Listed names tree (take a.count a.steps) (take a.step_count a.tests)
-    (take a.test_count a.edges) (take a.test_count a.operands)
+pub lists_fit_lem : {ρ : Rules} {names tree : List ℕ} {ls : Lists} → Whole ρ names tree
+    → StandFor ρ tree (names_in names) ls → ListedOn names tree ls
 lists_fit_lem w h = record { named = w.named; short = w.accepted.tokens; shape = h.shape }
 
 -- the whole call
@@ -168,13 +168,13 @@ module _ (ρ : Rules) (names tree : List ℕ) (room : ℕ) where
   names_refused n p (inr (m, inl x)) = inr (m, inl x)
   names_refused n p (inr (m, inr (l, x))) = absurd x
 
-  comes_names : (made : ℕ → Type 0) (r : Refusal) → Comes (names_order names) made (Refused r)
-      → Comes (order ρ names tree room) done (Refused r)
+  comes_names : (made : ℕ → Type 0) (r : Refusal) → Comes (names_order names) made (Err r)
+      → Comes (order ρ names tree room) done (Err r)
   unfolding Comes
   comes_names made r x = record { by = names_refused _ _ x.by; bare = x.bare }
 
   comes_ten : Named names → (Accepted ρ (names_in names) Vector tree → ⊥)
-      → Comes (order ρ names tree room) done (Refused (refusal 10 0))
+      → Comes (order ρ names tree room) done (Err (refusal 10 0))
   unfolding Comes RefusedWith Passed order
   comes_ten h f =
       record {
@@ -185,22 +185,22 @@ module _ (ρ : Rules) (names tree : List ℕ) (room : ℕ) where
   comes_end : Named names → Accepted ρ (names_in names) Vector tree → (o : Outcome)
       → Comes (line_order (listing_at ρ names tree) room) done o → Comes (order ρ names tree room) done o
   unfolding Comes RefusedWith Passed order
-  comes_end h a (Done k) x = ((h.passed.0, (h.passed.1.0, ((λ p y. y.given a), x.0))), x.1)
-  comes_end h a (Refused q) x =
+  comes_end h a (Ok k) x = ((h.passed.0, (h.passed.1.0, ((λ p y. y.given a), x.0))), x.1)
+  comes_end h a (Err q) x =
       record {
         by = inr (h.passed.0, inr (h.passed.1.0, inr ((λ p y. y.given a), x.by)));
         bare = x.bare;
       }
 
 pub refused_names : {ρ : Rules} {names tree out : List ℕ} (made : ℕ → Type 0) {r : Refusal} {o : Outcome}
-    → Comes (names_order names) made o → o ≡ Refused r
-    → WritesAlternatives ρ names tree out out (record { written = Refused r; untold = 0 })
+    → Comes (names_order names) made o → o ≡ Err r
+    → WritesAlternatives ρ names tree out out (record { written = Err r; untold = 0 })
 unfolding after tally
 refused_names {ρ} {names} {tree} {out} made {r} x e =
     record { outcome = comes_names ρ names tree (length out) made r (rw e at x); memory = refl; untold_are = refl }
 
 pub refused_tree : {ρ : Rules} {names tree out : List ℕ} {o : Outcome} → Named names
-    → (Accepted ρ (names_in names) Vector tree → ⊥) → o ≡ Refused (refusal 10 0)
+    → (Accepted ρ (names_in names) Vector tree → ⊥) → o ≡ Err (refusal 10 0)
     → WritesAlternatives ρ names tree out out (record { written = o; untold = 0 })
 unfolding after tally
 refused_tree {ρ} {names} {tree} {out} h f e =

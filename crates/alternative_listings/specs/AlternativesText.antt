@@ -2,9 +2,9 @@
 -- text), then with 9; else their lines stand at the front of the lent buffer. 10 does not come, since a text gives the
 -- tree.
 --   RewritesText    what the call comes to
+use Rattle.std.specs.Prelude.{Err}
 use Rattle.std.specs.Prelude.{ℕ, List}
 use Rattle.basics.specs.declared.Refusal.{Refusal}
-use Rattle.basics.specs.declared.Outcome.TheVariants.{Refused}
 use Rattle.alf.specs.declared.Rules.{Rules}
 use Rattle.alf.specs.declared.Sort.TheVariants as sort
 use Rattle.alf.specs.Expressions.{Vector, vector}
@@ -22,7 +22,7 @@ use Rattle.alternative_listings.specs.Calls.{DeliversLines}
 -- alternatives of p as the rules read it (document 02, [2]): 9, or their lines
 pub data RewritesText (ρ : Rules) (names text out : List ℕ) : List ℕ → Lines → Type 0 where
   refused : {r : Refusal} → RefusedIn text (read_order ρ names text sort.Vector) r
-      → RewritesText ρ names text out out (record { written = Refused r; untold = 0 })
+      → RewritesText ρ names text out out (record { written = Err r; untold = 0 })
   rewritten : {p : Vector} {out' : List ℕ} {r : Lines} → Passed (read_order ρ names text sort.Vector)
       → Gives ρ names text sort.Vector (vector p)
       → DeliversLines (listing names (alternatives (meant ρ p))) (untold names (alternatives (meant ρ p))) out out' r

@@ -6,10 +6,10 @@
 --   order                 the refusals in their order
 --   WritesAlternatives    what the call comes to
 --   DeliversLines         the same behind the checks
+use Rattle.std.specs.Prelude.{Err, Ok}
 use Rattle.std.specs.Prelude.{ℕ, ◌≡◌, List, [], ◌∷◌, length}
 use Rattle.alf.specs.Names.{names_in}
-use Rattle.basics.specs.declared.Outcome.{Outcome}
-use Rattle.basics.specs.declared.Outcome.TheVariants.{Done, Refused}
+use Rattle.basics.specs.Refusing.{Outcome}
 use Rattle.alf.specs.declared.Rules.{Rules}
 use Rattle.alf.specs.declared.Sort.TheVariants.{Vector}
 use Rattle.alf.specs.Alternatives.{Alternative, alternatives}
@@ -42,8 +42,8 @@ order ρ names tree room =
 
 -- a count where it is done; none where it is refused
 unfoldable pub tally : ℕ → Outcome → ℕ
-tally n (Done k) = n
-tally n (Refused r) = 0
+tally n (Ok k) = n
+tally n (Err r) = 0
 
 pub record WritesAlternatives (ρ : Rules) (names tree out out' : List ℕ) (r : Lines) : Type 0 where
   pub outcome : Comes (order ρ names tree (length out)) (λ k. k ≡ length (listing_at ρ names tree)) r.written

@@ -6,21 +6,22 @@ pub mod texts;
 ghost use Rattle.std.specs.Prelude.{◌≡◌, length};
 ghost use Rattle.alf.specs.Names.{names_in};
 ghost use Rattle.basics.specs.Words.{sum_of};
-ghost use Rattle.alternatives.specs.InMemory.{alternatives_of_lem};
-ghost use Rattle.contradictions.specs.Possible.{Flagged, Reported};
+ghost use Rattle.alternatives.specs.Listed.{alternatives_listed};
+ghost use Rattle.contradictions.specs.Possible.{Flagged, ReportedOn};
 ghost use Rattle.writer.specs.Writing.{Named};
 ghost use Rattle.alternative_lines.specs.Listing.{listing};
 ghost use Rattle.alternative_texts.specs.Texts.{untold, untold_test};
 ghost use Rattle.alternative_listings.specs.Calls.{listing_at, own_at, WritesAlternatives, DeliversLines};
-ghost use Rattle.alternative_lines.specs.Inner.{AllLines, headed_lines};
-ghost use Rattle.alternative_listings.specs.Inner.{Whole, Listed};
+ghost use Rattle.alternative_lines.specs.Inner.{headed_lines};
+ghost use Rattle.alternative_listings.specs.Inner.{Whole, ListedOn, AllLinesOn};
 ghost use Rattle.alternative_texts.specs.Inner.{all_tests};
 
 use acceptance::accepting::accepts;
 use alf::{Rules, Sort};
 use alternative_lines::numbered::put_all;
 use alternative_texts::showing::count_untold;
-use basics::Outcome;
+use alternatives::lists::Lists;
+use basics::Refusal;
 use basics::refusing::refuse;
 use contradictions::possible::flag_all;
 use names::check_names;
@@ -29,120 +30,83 @@ use rewriting::lists::alternatives_of;
 // What comes of a listing, and how many tests are shown in it as `...`.
 #[derive(Clone, Copy)]
 pub struct Lines {
-    pub written: Outcome,
+    pub written: Result<usize, Refusal>,
     pub untold: usize,
 }
 
 // How long the text is: it is written where there is no room.
-fn measure(
-    names: &[u8],
-    tree: &[u8],
-    steps: &[u8],
-    tests: &[u8],
-    edges: &[u8],
-    operands: &[u16],
-    flags: &[u8; 64],
-    none: &mut [u8; 1],
-) -> usize
-    requires { AllLines names.now tree.now steps.now tests.now edges.now operands.now
+fn measure(names: &[u8], tree: &[u8], lists: &Lists, flags: &[u8; 64], none: &mut [u8; 1]) -> usize
+    requires { AllLinesOn names.now tree.now lists.now
         flags.now 0 }
     ensures { result ≡ length (headed_lines names.now flags.now
-        (alternatives_of_lem tree.now (names_in names.now) steps.now tests.now
-        edges.now operands.now)) }
+        (alternatives_listed tree.now (names_in names.now) lists.now)) }
 {
     put_all(
         names,
         tree,
-        steps,
-        tests,
-        edges,
-        operands,
+        lists.steps,
+        lists.tests,
+        lists.edges,
+        lists.operands,
         &flags[..],
         &mut none[..],
     )
 }
 
 // The text of the lists: 9, or handed over.
-fn deliver(
-    names: &[u8],
-    tree: &[u8],
-    steps: &[u8],
-    tests: &[u8],
-    edges: &[u8],
-    operands: &[u16],
-    flags: &[u8; 64],
-    out: &mut [u8],
-) -> Lines
-    requires { AllLines names.now tree.now steps.now tests.now edges.now operands.now
+fn deliver(names: &[u8], tree: &[u8], lists: &Lists, flags: &[u8; 64], out: &mut [u8]) -> Lines
+    requires { AllLinesOn names.now tree.now lists.now
         flags.now 0 }
     ensures { DeliversLines (headed_lines names.now flags.now
-        (alternatives_of_lem tree.now (names_in names.now) steps.now tests.now
-        edges.now operands.now)) (sum_of (untold_test names.now)
-        (all_tests names.now tree.now edges.now operands.now))
+        (alternatives_listed tree.now (names_in names.now) lists.now)) (sum_of (untold_test names.now)
+        (all_tests names.now tree.now lists.now.edges.now lists.now.operands.now))
         out.old out.new result }
 {
     let mut none = [0u8; 1];
-    let size = measure(names, tree, steps, tests, edges, operands, flags, &mut none);
+    let size = measure(names, tree, lists, flags, &mut none);
     if out.len() < size {
         return Lines {
             written: refuse(9, size),
             untold: 0,
         };
     }
-    let untold = count_untold(names, tree, edges, operands);
-    put_all(names, tree, steps, tests, edges, operands, &flags[..], out);
+    let untold = count_untold(names, tree, lists.edges, lists.operands);
+    put_all(
+        names,
+        tree,
+        lists.steps,
+        lists.tests,
+        lists.edges,
+        lists.operands,
+        &flags[..],
+        out,
+    );
     Lines {
-        written: Outcome::Done(size),
+        written: Ok(size),
         untold,
     }
 }
 
 // A flag for each alternative.
-fn flag_lists(
-    names: usize,
-    tree: &[u8],
-    steps: &[u8],
-    tests: &[u8],
-    edges: &[u8],
-    operands: &[u16],
-    flags: &mut [u8; 64],
-)
-    requires { Reported tree.now names steps.now tests.now edges.now operands.now flags.old }
-    ensures { Flagged names (alternatives_of_lem tree.now names steps.now
-        tests.now edges.now operands.now) flags.old
+fn flag_lists(names: usize, tree: &[u8], lists: &Lists, flags: &mut [u8; 64])
+    requires { ReportedOn tree.now names lists.now flags.old }
+    ensures { Flagged names (alternatives_listed tree.now names lists.now) flags.old
         flags.new }
 {
-    flag_all(tree, names, steps, tests, edges, operands, &mut flags[..]);
+    flag_all(tree, names, lists, &mut flags[..]);
 }
 
 // The text of the lists, with the contradictory ones noted.
-fn list_all(
-    names: &[u8],
-    tree: &[u8],
-    steps: &[u8],
-    tests: &[u8],
-    edges: &[u8],
-    operands: &[u16],
-    out: &mut [u8],
-) -> Lines
-    requires { Listed names.now tree.now steps.now tests.now edges.now operands.now }
+fn list_all(names: &[u8], tree: &[u8], lists: &Lists, out: &mut [u8]) -> Lines
+    requires { ListedOn names.now tree.now lists.now }
     ensures { DeliversLines (listing names.now
-        (alternatives_of_lem tree.now (names_in names.now) steps.now tests.now
-        edges.now operands.now)) (sum_of (untold_test names.now)
-        (all_tests names.now tree.now edges.now operands.now))
+        (alternatives_listed tree.now (names_in names.now) lists.now)) (sum_of (untold_test names.now)
+        (all_tests names.now tree.now lists.now.edges.now lists.now.operands.now))
         out.old out.new result }
 {
     let mut flags = [0u8; 64];
-    flag_lists(
-        names.len() / 32,
-        tree,
-        steps,
-        tests,
-        edges,
-        operands,
-        &mut flags,
-    );
-    deliver(names, tree, steps, tests, edges, operands, &flags, out)
+    flag_lists(names.len() / 32, tree, lists, &mut flags);
+    deliver(names, tree, lists, &flags, out)
 }
 
 // The alternatives of an accepted tree, as the rules read it.
@@ -153,22 +117,7 @@ fn list_tree(rules: Rules, names: &[u8], tree: &[u8], out: &mut [u8]) -> Lines
         out.old out.new result }
 {
     let a = alternatives_of(rules, tree, names.len() / 32);
-    let n = a.count;
-    let m = a.step_count;
-    let k = a.test_count;
-    let steps = a.steps;
-    let tests = a.tests;
-    let edges = a.edges;
-    let operands = a.operands;
-    list_all(
-        names,
-        tree,
-        &steps[..n],
-        &tests[..m],
-        &edges[..k],
-        &operands[..k],
-        out,
-    )
+    list_all(names, tree, &a.lists(), out)
 }
 
 // Where the names are checked.
@@ -194,10 +143,10 @@ pub fn write_alternatives(rules: Rules, names: &[u8], tree: &[u8], out: &mut [u8
 {
     let checked = check_names(names);
     match checked {
-        Outcome::Refused(r) => Lines {
-            written: Outcome::Refused(r),
+        Err(r) => Lines {
+            written: Err(r),
             untold: 0,
         },
-        Outcome::Done(_) => write_named(rules, names, tree, out),
+        Ok(_) => write_named(rules, names, tree, out),
     }
 }

@@ -2,6 +2,7 @@
 --   readable-yes, readable-no      the three tests by cases
 --   readable_passed, passed_readable      of an edge of an operand: readable exactly where nothing is refused
 --   told, untold      what is told where it is written, and where it is refused
+use Rattle.std.specs.Prelude.{Err, Ok}
 use Prim.Native.Nat.{ℕ, ◌≤◌}
 use native.Mathlib.Omega.{arith}
 use mathlib.Core.Path.{◌≡◌, refl, sym, ap, ◌∙◌}
@@ -12,8 +13,7 @@ use lib.ListN.{length, take}
 use lib.Seq.{take_at}
 use borrow.Author.Tests.{leb-true, leb-false}
 use Rattle.alf.specs.Names.{names_in}
-use Rattle.basics.specs.declared.Outcome.{Outcome}
-use Rattle.basics.specs.declared.Outcome.TheVariants.{Done, Refused}
+use Rattle.basics.specs.Refusing.{Outcome}
 use Rattle.basics.specs.declared.Refusal.{Refusal}
 use Rattle.alf.specs.declared.Sort.TheVariants.{Vector}
 use Rattle.basics.specs.Words.{greatest_of, sum_of}
@@ -141,7 +141,7 @@ module _ {names tree list : List ℕ} (h : Tellable names tree list) where
   one_missing e = rw (is, e) refl
 
   module _ {list' : List ℕ} {o : Outcome} (w : Writes names tree Vector list list' o) where
-    pub told : {n : ℕ} → o ≡ Done n → ShowsTest names it list' n 0
+    pub told : {n : ℕ} → o ≡ Ok n → ShowsTest names it list' n 0
     unfolding Comes Passed after order
     told {n} e =
         let u = rw e at w.outcome in
@@ -157,7 +157,7 @@ module _ {names tree list : List ℕ} (h : Tellable names tree list) where
           untold_is = sym (none_missing y);
         }
 
-    refused : {r : Refusal} → o ≡ Refused r → readable names x ≡ false
+    refused : {r : Refusal} → o ≡ Err r → readable names x ≡ false
     unfolding Comes
     refused {r} e = go (readable names x) refl
       where
@@ -166,7 +166,7 @@ module _ {names tree list : List ℕ} (h : Tellable names tree list) where
             (readable_passed d) (rw e at w.outcome).by)
         go false d = d
 
-    pub untold : {r : Refusal} {list'' : List ℕ} {n : ℕ} → o ≡ Refused r → Holds list'' n (bytes "...")
+    pub untold : {r : Refusal} {list'' : List ℕ} {n : ℕ} → o ≡ Err r → Holds list'' n (bytes "...")
         → ShowsTest names it list'' n 1
     unfolding bytes
     untold e d =

@@ -21,10 +21,8 @@ pub fn put(from: &[u8], out: &mut [u8], at: usize) -> usize
     ensures { Put out.old at from.now out.new result }
 {
     let mut p = at;
-    let mut i: usize = 0;
-    while i < from.len() {
+    for i in 0..from.len() {
         p = push(out, p, from[i]);
-        i += 1;
     }
     p
 }

@@ -14,7 +14,6 @@ ghost use Rattle.basics.specs.Words.{sum_of};
 
 use crate::puts::{push, put};
 use alf::Sort;
-use basics::Outcome;
 use trees::parts::start_of;
 use writer::write_expression;
 
@@ -63,8 +62,8 @@ fn tell(names: &[u8], tree: &[u8], text: &mut [u8]) -> Shown
 {
     let o = write_expression(names, tree, Sort::Vector, text);
     match o {
-        Outcome::Done(n) => Shown { size: n, untold: 0 },
-        Outcome::Refused(_) => Shown {
+        Ok(n) => Shown { size: n, untold: 0 },
+        Err(_) => Shown {
             size: lay_dots(text),
             untold: 1,
         },
@@ -110,10 +109,8 @@ pub fn count_untold(names: &[u8], tree: &[u8], edges: &[u8], operands: &[u16]) -
         (all_tests names.now tree.now edges.now operands.now) }
 {
     let mut n: usize = 0;
-    let mut k: usize = 0;
-    while k < edges.len() {
+    for k in 0..edges.len() {
         n += is_untold(names, tree, edges[k], operands[k] as usize);
-        k += 1;
     }
     n
 }

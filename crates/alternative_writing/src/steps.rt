@@ -50,10 +50,8 @@ fn put_tests(
         1045245 out.new result }
 {
     let mut p = at;
-    let mut i: usize = 0;
-    while i < n {
+    for i in 0..n {
         p = put_test(names, tree, edges, operands, t + i, i, out, p);
-        i += 1;
     }
     p
 }
@@ -102,12 +100,10 @@ pub fn put_steps(
 {
     let mut p = at;
     let mut u = t;
-    let mut j: usize = 0;
-    while j < n {
+    for j in 0..n {
         let many = tests[s + j] as usize;
         p = put_step(names, tree, edges, operands, u, many, j, out, p);
         u += many;
-        j += 1;
     }
     p
 }

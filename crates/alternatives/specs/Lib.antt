@@ -1,3 +1,4 @@
 -- The definitions of this crate.
 pub mod Picks
 pub mod InMemory
+pub mod Listed

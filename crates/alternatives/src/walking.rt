@@ -9,10 +9,8 @@ pub fn pass(tests: &[u8], s: usize, n: usize, t: usize) -> usize
     ensures { result ≡ t + sum (take n (drop s tests.now)) }
 {
     let mut at = t;
-    let mut i: usize = 0;
-    while i < n {
-        at += tests[s + i] as usize;
-        i += 1;
+    for many in &tests[s..s + n] {
+        at += *many as usize;
     }
     at
 }
@@ -22,10 +20,8 @@ pub fn longest(steps: &[u8]) -> u8
     ensures { result ≡ greatest_of (λ n. n) steps.now }
 {
     let mut most: u8 = 0;
-    let mut i: usize = 0;
-    while i < steps.len() {
-        most = states::edges::greater(most, steps[i]);
-        i += 1;
+    for many in steps {
+        most = most.max(*many);
     }
     most
 }

@@ -8,7 +8,7 @@ ghost use Rattle.answer_table.specs.Tables.{Rows, Column, Cell, Cells, SoFar, en
 
 use alf::Rules;
 use evaluator::values::state;
-use states::edges::{certainty_of, edge_on, lesser};
+use states::edges::{certainty_of, edge_on};
 
 // The states of the expression that ends at `end`, at the rows first to first + size.
 pub fn column(
@@ -25,10 +25,8 @@ pub fn column(
     ensures { Column rules tree.now names states.now end first size result }
 {
     let mut list = [0u8; 17];
-    let mut i = 0;
-    while i <= size {
+    for i in 0..=size {
         list[i] = state(rules, tree, end, states, names, first + i);
-        i += 1;
     }
     list
 }
@@ -50,7 +48,7 @@ pub fn held_next(low: u8, list: &[u8; 17], m: usize) -> u8
     requires { Cell list.now m }
     ensures { result ≡ min low (certainty (entry list.now m)) }
 {
-    lesser(low, certainty_of(list[m]))
+    low.min(certainty_of(list[m]))
 }
 
 // Edge k - 64 of byte `k`, or a condition where the byte is less; `low` is its answer on the window without row `b`.

@@ -4,8 +4,6 @@ ghost use Rattle.std.specs.Prelude.{◌≡◌};
 ghost use Rattle.alf.specs.Windows.{followed_by, together};
 ghost use Rattle.answer_table.specs.Tables.{Inside, Operands, OperatorByte, stored, operated};
 
-use states::edges::{greater, lesser};
-
 // The answer on the window from row `a` to row `b` of the part that starts at `base`.
 pub fn read(table: &[u8; 65536], base: usize, a: usize, b: usize) -> u8
     requires { Inside table.now base a b }
@@ -22,12 +20,10 @@ fn sequence(table: &[u8; 65536], p: usize, q: usize, a: usize, b: usize) -> u8
 {
     let n = b - (a + 1);
     let mut best: u8 = 0;
-    let mut i = 0;
-    while i < n {
+    for i in 0..n {
         let x = read(table, p, a, a + 1 + i);
         let y = read(table, q, a + 1 + i, b);
-        best = greater(best, lesser(x, y));
-        i += 1;
+        best = best.max(x.min(y));
     }
     best
 }
@@ -41,12 +37,10 @@ fn overlap(table: &[u8; 65536], p: usize, q: usize, a: usize, b: usize) -> u8
     let y = read(table, q, a, b);
     let n = b - a;
     let mut best: u8 = 0;
-    let mut i = 0;
-    while i < n {
-        let u = lesser(x, read(table, q, a + i, b));
-        let v = lesser(read(table, p, a + i, b), y);
-        best = greater(best, greater(u, v));
-        i += 1;
+    for i in 0..n {
+        let u = x.min(read(table, q, a + i, b));
+        let v = read(table, p, a + i, b).min(y);
+        best = best.max(u.max(v));
     }
     best
 }
@@ -58,10 +52,10 @@ pub fn operate(k: u8, table: &[u8; 65536], p: usize, q: usize, a: usize, b: usiz
     ensures { result ≡ operated k (stored table.now p) (stored table.now q) a b }
 {
     if 56 <= k {
-        return lesser(read(table, p, a, b), read(table, q, a, b));
+        return read(table, p, a, b).min(read(table, q, a, b));
     }
     if k == 55 {
-        return greater(read(table, p, a, b), read(table, q, a, b));
+        return read(table, p, a, b).max(read(table, q, a, b));
     }
     if k == 54 {
         return overlap(table, p, q, a, b);
@@ -71,11 +65,11 @@ pub fn operate(k: u8, table: &[u8; 65536], p: usize, q: usize, a: usize, b: usiz
         return x;
     }
     if k == 51 {
-        return greater(x, sequence(table, q, p, a, b));
+        return x.max(sequence(table, q, p, a, b));
     }
     let y = overlap(table, p, q, a, b);
     if k == 52 {
-        return greater(y, x);
+        return y.max(x);
     }
-    greater(greater(x, y), sequence(table, q, p, a, b))
+    x.max(y).max(sequence(table, q, p, a, b))
 }

@@ -13,12 +13,10 @@ fn leaf_row(k: u8, list: &[u8; 17], a: usize, size: usize, base: usize, table: &
         table.new }
 {
     let mut x = held_next(2, list, a);
-    let mut j = a;
-    while j < size {
+    for j in a..size {
         x = leaf_over(k, x, list, a, j + 1);
         let i = base + a * 16 + j;
         table[i] = x;
-        j += 1;
     }
 }
 
@@ -28,10 +26,8 @@ pub fn leaf_part(k: u8, list: &[u8; 17], size: usize, base: usize, table: &mut [
     ensures { Part (leaf_over_lem k (entry list.now)) base size size table.old
         table.new }
 {
-    let mut a = 0;
-    while a < size {
+    for a in 0..size {
         leaf_row(k, list, a, size, base, table);
-        a += 1;
     }
 }
 
@@ -49,12 +45,10 @@ fn operator_row(
     ensures { Row (operated k (stored table.old p) (stored table.old q)) base a size
         table.old table.new }
 {
-    let mut j = a;
-    while j < size {
+    for j in a..size {
         let x = operate(k, table, p, q, a, j + 1);
         let i = base + a * 16 + j;
         table[i] = x;
-        j += 1;
     }
 }
 
@@ -64,9 +58,7 @@ pub fn operator_part(k: u8, p: usize, q: usize, size: usize, base: usize, table:
     ensures { Part (operated k (stored table.old p) (stored table.old q)) base size size
         table.old table.new }
 {
-    let mut a = 0;
-    while a < size {
+    for a in 0..size {
         operator_row(k, p, q, a, size, base, table);
-        a += 1;
     }
 }

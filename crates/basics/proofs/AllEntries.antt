@@ -1,6 +1,6 @@
 -- What holds of each entry of a list: All, and how it goes through `++`, `map` and `each`.
 --   all_append, all_map, all_each, all-left, all-right, all_weaken
-use mathlib.Core.List.{List, [], ◌∷◌, ◌++◌, map}
+use mathlib.Core.List.{List, ◌++◌, map}
 pub use Rattle.basics.specs.Words.{All, none, more}
 
 module _ {A : Type 0} where

@@ -8,7 +8,7 @@
 use mathlib.Core.Path.{◌≡◌, refl}
 use mathlib.Core.List.{List, [], ◌∷◌, ◌++◌, map}
 use mathlib.Core.Logic.{◌⊎◌, inl, inr}
-use Prim.Native.Nat.{ℕ, zero, suc, ◌+◌, ◌<◌, ◌≤◌, min, max}
+use Prim.Native.Nat.{ℕ, zero, suc, ◌<◌, ◌≤◌, min, max}
 use native.Mathlib.Omega.{arith}
 use Rattle.basics.specs.Words.{greatest, least, greatest_of, least_of}
 use Rattle.basics.proofs.Bools.{equal?}

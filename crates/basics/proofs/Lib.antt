@@ -19,3 +19,4 @@ pub mod Listed
 pub mod Tables
 pub mod PartByPart
 pub mod Stages
+pub mod Walked

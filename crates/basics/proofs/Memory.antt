@@ -2,7 +2,7 @@
 use mathlib.Core.Path.{◌≡◌, sym, ap, ◌∙◌}
 use mathlib.Core.List.{List}
 use Prim.Native.Nat.{ℕ}
-use Rattle.basics.specs.declared.Outcome.{Outcome}
+use Rattle.basics.specs.Refusing.{Outcome}
 use Rattle.basics.specs.Memory.{after}
 
 pub after_unique : (made before : List ℕ) {now now' : List ℕ} {a b : Outcome} → a ≡ b → now ≡ after made before a

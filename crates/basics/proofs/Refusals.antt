@@ -1,6 +1,5 @@
 -- A refusal is its number, its place and its extent.
 --   refusal_same
-use Prim.Native.Nat.{ℕ}
 use mathlib.Core.Path.{◌≡◌}
 use Rattle.basics.specs.declared.Refusal.{Refusal}
 

@@ -2,6 +2,7 @@
 --   sets_append, sets_next                  a list behind a list, an entry behind a list
 --   sets_length                             the length stays
 --   sets_placed, sets_front, sets_whole     what stands then, from a place on, at the front, in all
+--   sets_copied                             a part of a list that is copied over
 --   front_whole                             a front as long as the list is all of it
 --   sets_before, sets_behind, sets_inside   one entry then
 --   Writing                                 of a list that is to stand in another the first entries are written
@@ -19,6 +20,9 @@ use native.Mathlib.Numerals.{add-one}
 use native.Mathlib.Omega.{arith}
 use lib.ListN.{length, get_or, set, take, drop, length-set, length-append, drop_of_length-le, get_or-append}
 use lib.Seq.{sets, sets-eq, length-sets, get_or-set_same, get_or-set_other, take-suc, take_all, take_at, length-take-le}
+use borrow.Rule.Slice.PartMut.{put_mid}
+use Rattle.std.proofs.lemmas.Slice.{put_mid-paste}
+use Rattle.std.proofs.lemmas.List.Edits.{paste_all}
 use Rattle.basics.specs.Memory.{front, placed, Room, Put}
 
 pub sets_append : (d : List ℕ) (at : ℕ) (xs ys : List ℕ)
@@ -37,6 +41,13 @@ sets_length d at w = length-sets d at w
 pub sets_placed : (d : List ℕ) (at : ℕ) (w : List ℕ) → Room d at w → sets d at w ≡ placed d at w
 unfolding placed
 sets_placed d at w h = sets-eq w d at h ∙ append_assoc (take at d) w (drop (at + length w) d)
+
+-- what stands behind `d[at..at + length w].copy_from_slice(w)`
+pub sets_copied : (d : List ℕ) (at k : ℕ) (w ys : List ℕ) → ys ≡ w → length w ≡ k → Room d at w
+    → put_mid at k d ys ≡ sets d at w
+unfolding placed
+sets_copied d at k w ys e h r =
+    put_mid-paste at k d ys w (length w) e h refl ∙ paste_all d at w _ refl ∙ sym (sets_placed d at w r)
 
 pub sets_front : (d w : List ℕ) → length w ≤ length d → sets d 0 w ≡ front w d
 sets_front d w h =

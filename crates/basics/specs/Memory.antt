@@ -5,10 +5,10 @@
 --   Room, Roomy  from a place on there is room for a list
 --   Put          a list is written from a place on, and the place behind it is told
 --   Holds        the first entries of a list are these
+use Rattle.std.specs.Prelude.{Err, Ok}
 use Rattle.std.specs.Prelude.{ℕ, ◌+◌, ◌≤◌, ◌≡◌, List, ◌++◌, length, take, drop}
 use Rattle.std.proofs.lemmas.List.Edits.{sets}
-use Rattle.basics.specs.declared.Outcome.{Outcome}
-use Rattle.basics.specs.declared.Outcome.TheVariants.{Done, Refused}
+use Rattle.basics.specs.Refusing.{Outcome}
 
 -- what is made stands at the front of a lent list, and behind it the list is as before
 abbrev pub front : List ℕ → List ℕ → List ℕ
@@ -16,8 +16,8 @@ front made before = made ++ drop (length made) before
 
 -- a lent list after a call: done, what was made of it; refused, it is as before
 unfoldable pub after : List ℕ → List ℕ → Outcome → List ℕ
-after made before (Done k) = made
-after made before (Refused r) = before
+after made before (Ok k) = made
+after made before (Err r) = before
 
 -- w stands from place `at` of d on; what is before and behind it stays
 unfoldable pub placed : List ℕ → ℕ → List ℕ → List ℕ

@@ -11,10 +11,3 @@ pub struct Refusal {
     pub place: usize,
     pub extent: usize,
 }
-
-// What a call comes to: done, with a count of what it made, or refused.
-#[derive(Clone, Copy)]
-pub enum Outcome {
-    Done(usize),
-    Refused(Refusal),
-}

@@ -16,10 +16,7 @@ pub fn put(from: &[u8], out: &mut [u8], at: usize) -> usize
     requires { Room out.old at from.now }
     ensures { Put out.old at from.now out.new result }
 {
-    let mut i: usize = 0;
-    while i < from.len() {
-        out[at + i] = from[i];
-        i += 1;
-    }
-    at + i
+    let end = at + from.len();
+    out[at..end].copy_from_slice(from);
+    end
 }

@@ -1,9 +1,8 @@
 // A refusal is made here and nowhere else.
 ghost use Rattle.std.specs.Prelude.{◌≡◌};
 ghost use Rattle.basics.specs.Refusing.{refusal, refusal_over_lem};
-ghost use Rattle.basics.specs.declared.Outcome.TheVariants.{Refused};
 
-use crate::{Outcome, Refusal};
+use crate::Refusal;
 
 // A number of document 01's table, a place, and how many bytes are refused there.
 pub fn refusal_over(number: u8, place: usize, extent: usize) -> Refusal
@@ -23,9 +22,9 @@ pub fn refusal_of(number: u8, place: usize) -> Refusal
     refusal_over(number, place, 0)
 }
 
-// As the outcome of a call.
-pub fn refuse(number: u8, place: usize) -> Outcome
-    ensures { result ≡ Refused (refusal number place) }
+// As what a call comes to, whatever it would have made.
+pub fn refuse<T>(number: u8, place: usize) -> Result<T, Refusal>
+    ensures { result ≡ Err (refusal number place) }
 {
-    Outcome::Refused(refusal_of(number, place))
+    Err(refusal_of(number, place))
 }

@@ -14,7 +14,7 @@ use Rattle.basics.specs.Text.{bytes, joined}
 use Rattle.basics.proofs.Counts.{count_same}
 use Rattle.basics.proofs.Listed.{listed_length, listed_same}
 use Rattle.basics.proofs.Tables.{listed_at}
-use Rattle.alf.specs.declared.Began.{Began}
+use Rattle.alf.specs.Beginnings.{Began}
 use Rattle.figures.specs.Numbers.{decimal}
 use Rattle.listing.specs.declared.lines.Column.TheVariants.{Answers}
 use Rattle.listing.specs.Listing.{word, word_of, line, lines, how_many, last_line, listing}

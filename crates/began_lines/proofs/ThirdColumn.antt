@@ -1,6 +1,7 @@
 -- A row's line: how long it is, and its parts.
 --   at_size, nowhere_size, at_room, at_put, nowhere_room, nowhere_put    the third column, by its kind
 --   line_size_lem, line_start                                                the line
+use Rattle.std.specs.Prelude.{None, Some}
 use Prim.Native.Nat.{ℕ, ◌+◌, ◌<◌}
 use native.Mathlib.Omega.{arith}
 use mathlib.Core.Path.{◌≡◌, refl}
@@ -9,9 +10,8 @@ use lib.ListN.{length, length-append}
 use Rattle.basics.specs.Memory.{Put, Room}
 use Rattle.basics.specs.Text.{bytes, joined}
 use Rattle.basics.proofs.PartByPart.{Going, going_start}
-use Rattle.alf.specs.declared.Began.{Began}
+use Rattle.alf.specs.Beginnings.{Began}
 use Rattle.alf.specs.declared.Stamp.{Stamp}
-use Rattle.alf.specs.declared.Began.TheVariants.{At, Nowhere}
 use Rattle.figures.specs.Numbers.{decimal}
 use Rattle.figures.specs.Inner.{Wide}
 use Rattle.figures.proofs.Digits.{decimal_length}
@@ -20,7 +20,7 @@ use Rattle.listing.specs.Inner.{Sized}
 use Rattle.began_lines.specs.BeganListing.{began_word, began_line}
 
 -- the third column, where a time is given
-module _ {b : Began} {t : Stamp} (e : b ≡ At t) where
+module _ {b : Began} {t : Stamp} (e : b ≡ Some t) where
   pub at_size : {r : ℕ} → Wide t.0 r → Sized (began_word b) 20 r
   unfolding began_word
   at_size h = rw e (record { is = omega (arith, h.is, decimal_length t.0); few = h.few })
@@ -34,7 +34,7 @@ module _ {b : Began} {t : Stamp} (e : b ≡ At t) where
   at_put h = rw e h
 
 -- and where none is
-module _ {b : Began} (e : b ≡ Nowhere) where
+module _ {b : Began} (e : b ≡ None) where
   pub nowhere_size : Sized (began_word b) 20 1
   unfolding began_word bytes
   nowhere_size = rw e (record { is = refl; few = omega arith })

@@ -4,17 +4,17 @@
 --   began_line, began_lines  a row's line, all rows' lines
 --   began_listing           the whole, of the rows' times, the number of each row's answer, and where its match began
 -- That the first two columns are those of document 01's listing is a law, of a row and of the whole.
+use Rattle.std.specs.Prelude.{None, Some}
 use Rattle.std.specs.Prelude.{ℕ, List, [], ◌∷◌, eqb, length, get_or}
 use Rattle.basics.specs.Words.{count, listed}
 use Rattle.basics.specs.Text.{bytes, joined}
-use Rattle.alf.specs.declared.Began.{Began}
-use Rattle.alf.specs.declared.Began.TheVariants.{At, Nowhere}
+use Rattle.alf.specs.Beginnings.{Began}
 use Rattle.figures.specs.Numbers.{decimal}
 use Rattle.listing.specs.Listing.{word, last_line}
 
 unfoldable pub began_word : Began → List ℕ
-began_word (At t) = decimal t.0
-began_word Nowhere = bytes "-"
+began_word (Some t) = decimal t.0
+began_word None = bytes "-"
 
 unfoldable pub began_line : ℕ → ℕ → Began → List ℕ
 began_line time answer since =

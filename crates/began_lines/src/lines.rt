@@ -4,34 +4,34 @@ ghost use Rattle.basics.specs.Memory.{Put, Room};
 ghost use Rattle.listing.specs.Inner.{Sized, Wording};
 ghost use Rattle.began_lines.specs.BeganListing.{began_word, began_line};
 
-use alf::{Began, Stamp};
+use alf::Stamp;
 use basics::puts::push;
 use figures::numbers::{put_decimal, put_decimal_then, width_of};
 use listing::lines::{put_word, word_size};
 
 // The length of the third column.
-fn began_size(b: Began) -> usize
+fn began_size(b: Option<Stamp>) -> usize
     ensures { Sized (began_word b) 20 result }
 {
     match b {
-        Began::At(t) => width_of(t.0),
-        Began::Nowhere => 1,
+        Some(t) => width_of(t.0),
+        None => 1,
     }
 }
 
 // The third column.
-fn put_began(b: Began, out: &mut [u8], at: usize) -> usize
+fn put_began(b: Option<Stamp>, out: &mut [u8], at: usize) -> usize
     requires { Room out.old at (began_word b) }
     ensures { Put out.old at (began_word b) out.new result }
 {
     match b {
-        Began::At(t) => put_decimal(t.0, out, at),
-        Began::Nowhere => push(out, at, b'-'),
+        Some(t) => put_decimal(t.0, out, at),
+        None => push(out, at, b'-'),
     }
 }
 
 // The length of a row's line.
-pub fn line_size(time: Stamp, a: u8, b: Began) -> usize
+pub fn line_size(time: Stamp, a: u8, b: Option<Stamp>) -> usize
     requires { a ≤ 3 }
     ensures { Sized (began_line time.0 a b) 50 result }
 {
@@ -40,7 +40,7 @@ pub fn line_size(time: Stamp, a: u8, b: Began) -> usize
 }
 
 // A row's line: its time, its answer, and where its match began.
-pub fn put_line(time: Stamp, a: u8, b: Began, out: &mut [u8], at: usize) -> usize
+pub fn put_line(time: Stamp, a: u8, b: Option<Stamp>, out: &mut [u8], at: usize) -> usize
     requires { Wording 3 a out.old at (began_line time.0 a b) }
     ensures { Put out.old at (began_line time.0 a b) out.new result }
 {

@@ -5,8 +5,8 @@
 use Rattle.std.specs.Prelude.{if◌then◌else◌}
 use Prim.Native.Nat.{ℕ, ◌+◌, ◌<◌, ◌≤◌}
 use native.Mathlib.Omega.{arith}
-use mathlib.Core.Path.{◌≡◌, refl, sym, ap, ◌∙◌}
-use mathlib.Core.List.{List, []}
+use mathlib.Core.Path.{◌≡◌, refl, ap, ◌∙◌}
+use mathlib.Core.List.{List}
 use lib.Dec.{eqb}
 use lib.ListN.{length, get_or}
 use Rattle.basics.specs.Memory.{Put, Room}
@@ -15,7 +15,7 @@ use Rattle.basics.specs.Words.{count, listed}
 use Rattle.basics.proofs.Counts.{count_next, count_small}
 use Rattle.alf.specs.declared.Answer.{Answer}
 use Rattle.alf.specs.declared.Answer.TheVariants.{No, Yes, Unknown, NoEvent}
-use Rattle.alf.specs.declared.Began.{Began}
+use Rattle.alf.specs.Beginnings.{Began}
 use Rattle.alf.specs.Expressions.{Boolean}
 use Rattle.alf.specs.Answers.{number_of}
 use Rattle.alf.specs.Alternatives.{Alternative, answer_of}

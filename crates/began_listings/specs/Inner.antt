@@ -4,6 +4,7 @@
 --   Adding, Adds                     one more row is measured
 --   Measured, MoreAsked              what is measured of the rows before one
 --   RowPut, RowsPut                  a row's line, all rows' lines have room
+--   DatedRowOn, .., RowsPutOn        the same of a scene and lists as code has them
 use Rattle.std.specs.Prelude.{ℕ, ◌+◌, ◌*◌, ◌<◌, ◌≤◌, ◌≡◌, List, eqb, length, get_or, if◌then◌else◌}
 use Rattle.basics.specs.Memory.{Room}
 use Rattle.basics.specs.Text.{joined}
@@ -13,7 +14,9 @@ use Rattle.alf.specs.Expressions.{Boolean}
 use Rattle.alf.specs.Values.{state_at}
 use Rattle.alf.specs.Alternatives.{Alternative, answer_of}
 use Rattle.alf.specs.Beginnings.{began}
+use Rattle.alternatives.specs.declared.lists.Lists.{Lists}
 use Rattle.alternatives.specs.InMemory.{alternatives_of_lem}
+use Rattle.matcher.specs.declared.scenes.Scene.{Scene}
 use Rattle.matcher.specs.Answers.{RowAsked}
 use Rattle.matcher.specs.Tables.{RowsAsked}
 use Rattle.began_lines.specs.BeganListing.{began_line, began_lines, answering, began_listing}
@@ -80,3 +83,24 @@ pub record RowsPut (ρ : Rules) (tree : List ℕ) (names : ℕ) (states steps te
   pub rows : DatedRows tree names states steps tests edges operands times
   pub room :
       Room out at (rows_text (state_at ρ names states) times (alternatives_of_lem tree names steps tests edges operands))
+
+-- the same of a scene and lists
+abbrev pub DatedRowOn : Scene → Lists → List ℕ → ℕ → Type 0
+DatedRowOn x l times row =
+    DatedRow x.tree.now x.names x.states.now l.steps.now l.tests.now l.edges.now l.operands.now times row
+
+abbrev pub DatedRowsOn : Scene → Lists → List ℕ → Type 0
+DatedRowsOn x l times =
+    DatedRows x.tree.now x.names x.states.now l.steps.now l.tests.now l.edges.now l.operands.now times
+
+abbrev pub MoreAskedOn : Scene → Lists → List ℕ → ℕ → Sums → Type 0
+MoreAskedOn x l times row m =
+    MoreAsked x.rules x.tree.now x.names x.states.now l.steps.now l.tests.now l.edges.now l.operands.now times row m
+
+abbrev pub RowPutOn : Scene → Lists → List ℕ → ℕ → List ℕ → ℕ → Type 0
+RowPutOn x l times row out at =
+    RowPut x.rules x.tree.now x.names x.states.now l.steps.now l.tests.now l.edges.now l.operands.now times row out at
+
+abbrev pub RowsPutOn : Scene → Lists → List ℕ → List ℕ → ℕ → Type 0
+RowsPutOn x l times out at =
+    RowsPut x.rules x.tree.now x.names x.states.now l.steps.now l.tests.now l.edges.now l.operands.now times out at

@@ -2,18 +2,19 @@
 // more where it is written: so no list of answers is kept.
 ghost use Rattle.std.specs.Prelude.{◌+◌, length};
 ghost use Rattle.basics.specs.Memory.{Put};
-ghost use Rattle.alf.specs.Values.{state_at};
-ghost use Rattle.alternatives.specs.InMemory.{alternatives_of_lem};
 ghost use Rattle.beginnings.specs.Dated.{Dates};
-ghost use Rattle.began_listings.specs.Inner.{DatedRow, DatedRows, MoreAsked, Measured, Adding, Adds};
-ghost use Rattle.began_listings.specs.Inner.{RowPut, RowsPut, row_text, rows_text};
+ghost use Rattle.matcher.specs.Scenes.{state_on, alternatives_on};
+ghost use Rattle.began_listings.specs.Inner.{DatedRowOn, DatedRowsOn, MoreAskedOn, Measured, Adding, Adds};
+ghost use Rattle.began_listings.specs.Inner.{RowPutOn, RowsPutOn, row_text, rows_text};
 
-use alf::{RowNo, Rules};
+use alf::RowNo;
+use alternatives::lists::Lists;
 use began_lines::lines::{line_size, put_line};
 use beginnings::times::{Dated, date};
 use column_listings::totals::same;
 use listing::lines::stamp_of;
 use matcher::answers::match_row;
+use matcher::scenes::Scene;
 use matcher::tables::number_of;
 
 // How many bytes the lines of some rows have, and how many of these rows answer yes, no and unknown.
@@ -26,28 +27,14 @@ pub struct Sums {
 }
 
 // What a row is told.
-fn find(
-    rules: Rules,
-    tree: &[u8],
-    names: usize,
-    states: &[u8],
-    steps: &[u8],
-    tests: &[u8],
-    edges: &[u8],
-    operands: &[u16],
-    times: &[u64],
-    row: usize,
-) -> Dated
-    requires { DatedRow tree.now names states.now steps.now tests.now edges.now operands.now times.now
+fn find(scene: &Scene, lists: &Lists, times: &[u64], row: usize) -> Dated
+    requires { DatedRowOn scene.now lists.now times.now
         row }
-    ensures { Dates (state_at rules names states.now) times.now
-        (alternatives_of_lem tree.now names steps.now tests.now edges.now
-        operands.now) row result.answer result.tries result.began }
+    ensures { Dates (state_on scene.now) times.now
+        (alternatives_on scene.now lists.now) row result.answer result.tries result.began }
 {
-    let found = match_row(
-        rules, tree, names, states, steps, tests, edges, operands, row,
-    );
-    date(times, steps, row, found)
+    let found = match_row(scene, lists, row);
+    date(times, lists.steps, row, found)
 }
 
 // One more row, with the number of its answer and the length of its line.
@@ -64,28 +51,13 @@ fn add(m: Sums, a: u8, size: usize) -> Sums
 }
 
 // What is measured of the rows before one, and then of that row too.
-fn measure_row(
-    rules: Rules,
-    tree: &[u8],
-    names: usize,
-    states: &[u8],
-    steps: &[u8],
-    tests: &[u8],
-    edges: &[u8],
-    operands: &[u16],
-    times: &[u64],
-    row: usize,
-    m: Sums,
-) -> Sums
-    requires { MoreAsked rules tree.now names states.now steps.now tests.now edges.now operands.now
+fn measure_row(scene: &Scene, lists: &Lists, times: &[u64], row: usize, m: Sums) -> Sums
+    requires { MoreAskedOn scene.now lists.now
         times.now row m }
-    ensures { Measured (state_at rules names states.now) times.now
-        (alternatives_of_lem tree.now names steps.now tests.now edges.now
-        operands.now) result (row + 1) }
+    ensures { Measured (state_on scene.now) times.now
+        (alternatives_on scene.now lists.now) result (row + 1) }
 {
-    let told = find(
-        rules, tree, names, states, steps, tests, edges, operands, times, row,
-    );
+    let told = find(scene, lists, times, row);
     let answer = told.answer;
     let began = told.began;
     let a = number_of(answer);
@@ -97,22 +69,11 @@ fn measure_row(
 }
 
 // All rows.
-pub fn measure(
-    rules: Rules,
-    tree: &[u8],
-    names: usize,
-    states: &[u8],
-    steps: &[u8],
-    tests: &[u8],
-    edges: &[u8],
-    operands: &[u16],
-    times: &[u64],
-) -> Sums
-    requires { DatedRows tree.now names states.now steps.now tests.now edges.now operands.now
+pub fn measure(scene: &Scene, lists: &Lists, times: &[u64]) -> Sums
+    requires { DatedRowsOn scene.now lists.now
         times.now }
-    ensures { Measured (state_at rules names states.now) times.now
-        (alternatives_of_lem tree.now names steps.now tests.now edges.now
-        operands.now) result (length times.now) }
+    ensures { Measured (state_on scene.now) times.now
+        (alternatives_on scene.now lists.now) result (length times.now) }
 {
     let mut m = Sums {
         size: 0,
@@ -120,40 +81,27 @@ pub fn measure(
         no: 0,
         unknown: 0,
     };
-    let mut i: usize = 0;
-    while i < times.len() {
-        m = measure_row(
-            rules, tree, names, states, steps, tests, edges, operands, times, i, m,
-        );
-        i += 1;
+    for i in 0..times.len() {
+        m = measure_row(scene, lists, times, i, m);
     }
     m
 }
 
 // The line of a row.
 fn put_row(
-    rules: Rules,
-    tree: &[u8],
-    names: usize,
-    states: &[u8],
-    steps: &[u8],
-    tests: &[u8],
-    edges: &[u8],
-    operands: &[u16],
+    scene: &Scene,
+    lists: &Lists,
     times: &[u64],
     row: usize,
     out: &mut [u8],
     at: usize,
 ) -> usize
-    requires { RowPut rules tree.now names states.now steps.now tests.now edges.now operands.now
+    requires { RowPutOn scene.now lists.now
         times.now row out.old at }
-    ensures { Put out.old at (row_text (state_at rules names states.now)
-        times.now (alternatives_of_lem tree.now names steps.now tests.now
-        edges.now operands.now) row) out.new result }
+    ensures { Put out.old at (row_text (state_on scene.now)
+        times.now (alternatives_on scene.now lists.now) row) out.new result }
 {
-    let told = find(
-        rules, tree, names, states, steps, tests, edges, operands, times, row,
-    );
+    let told = find(scene, lists, times, row);
     let answer = told.answer;
     let began = told.began;
     let a = number_of(answer);
@@ -161,32 +109,15 @@ fn put_row(
 }
 
 // The lines of all rows.
-pub fn put_rows(
-    rules: Rules,
-    tree: &[u8],
-    names: usize,
-    states: &[u8],
-    steps: &[u8],
-    tests: &[u8],
-    edges: &[u8],
-    operands: &[u16],
-    times: &[u64],
-    out: &mut [u8],
-    at: usize,
-) -> usize
-    requires { RowsPut rules tree.now names states.now steps.now tests.now edges.now operands.now
+pub fn put_rows(scene: &Scene, lists: &Lists, times: &[u64], out: &mut [u8], at: usize) -> usize
+    requires { RowsPutOn scene.now lists.now
         times.now out.old at }
-    ensures { Put out.old at (rows_text (state_at rules names states.now)
-        times.now (alternatives_of_lem tree.now names steps.now tests.now
-        edges.now operands.now)) out.new result }
+    ensures { Put out.old at (rows_text (state_on scene.now)
+        times.now (alternatives_on scene.now lists.now)) out.new result }
 {
     let mut p = at;
-    let mut i: usize = 0;
-    while i < times.len() {
-        p = put_row(
-            rules, tree, names, states, steps, tests, edges, operands, times, i, out, p,
-        );
-        i += 1;
+    for i in 0..times.len() {
+        p = put_row(scene, lists, times, i, out, p);
     }
     p
 }

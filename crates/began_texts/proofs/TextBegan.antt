@@ -1,15 +1,14 @@
 -- From a text to the listing of the pattern that it gives.
 --   began_refused   a text that is refused
 --   began_lists     any other: the listing of the tree that is read is that of the pattern given
+use Rattle.std.specs.Prelude.{Err, Ok}
 use Prim.Native.Nat.{ℕ, ◌/◌}
-use mathlib.Core.Path.{◌≡◌, refl, ap, ◌∙◌}
-use mathlib.Core.Bool.{true}
+use mathlib.Core.Path.{◌≡◌, refl, ap}
 use mathlib.Core.Logic.{inl, inr}
 use mathlib.Core.List.{List, [], ◌∷◌}
 use lib.ListN.{length, take}
 use Rattle.basics.specs.declared.Refusal.{Refusal}
-use Rattle.basics.specs.declared.Outcome.{Outcome}
-use Rattle.basics.specs.declared.Outcome.TheVariants.{Done, Refused}
+use Rattle.basics.specs.Refusing.{Outcome}
 use Rattle.basics.specs.Words.{all}
 use Rattle.basics.specs.Memory.{after, front}
 use Rattle.alf.specs.declared.Rules.{Rules}
@@ -37,9 +36,9 @@ module _ (ρ : Rules) (names times states text : List ℕ) where
   abbrev k : ℕ
   k = length names / 32
 
-  pub began_refused : {r : Read} {out : List ℕ} → ReadsText ρ names text sort.Vector r → r.refused ≡ true
-      → ListsBeganText ρ names times states text out out (Refused r.refusal)
-  began_refused h e = refuses (in_first text (read_order ρ names text sort.Vector) _ (read_refused h e)) refl
+  pub began_refused : {r : Refusal} {out : List ℕ} → ReadsText ρ names text sort.Vector (Err r)
+      → ListsBeganText ρ names times states text out out (Err r)
+  began_refused h = refuses (in_first text (read_order ρ names text sort.Vector) _ (read_refused h)) refl
 
   -- 9 of the pattern that the text gives
   module _ (x : Vector) (g : Gives ρ names text sort.Vector (vector x)) where
@@ -82,9 +81,9 @@ module _ (ρ : Rules) (names times states text : List ℕ) where
         → out' ≡ after (front (shown ρ names times states x) out) out r
         → ListsBeganText ρ names times states text out out' r
     unfolding Comes after
-    comes_listed out out' p (Done m) h e =
+    comes_listed out out' p (Ok m) h e =
         lists x (passed_both (read_order ρ names text sort.Vector) _ p (room_passed (length out) h.0)) g h.1 e
-    comes_listed out out' p (Refused r) h e =
+    comes_listed out out' p (Err r) h e =
         refuses (in_then text (read_order ρ names text sort.Vector) _ p (rows_shown (length out) h)) e
 
   -- the tree that is read is the pattern

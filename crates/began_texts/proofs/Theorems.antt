@@ -1,13 +1,13 @@
 -- What the listing of a text comes to.
 --   began_text_unique   result and buffer afterwards follow from the input
 --   began_text_stays    refused, the buffer is as before
+use Rattle.std.specs.Prelude.{Err, Ok}
 use Prim.Native.Nat.{ℕ, ◌/◌}
 use mathlib.Core.Path.{◌≡◌, ap, sym, ◌∙◌}
-use mathlib.Core.List.{List, [], ◌∷◌, ◌++◌}
+use mathlib.Core.List.{List, [], ◌∷◌}
 use lib.ListN.{length}
 use Rattle.basics.specs.declared.Refusal.{Refusal}
-use Rattle.basics.specs.declared.Outcome.{Outcome}
-use Rattle.basics.specs.declared.Outcome.TheVariants.{Done, Refused}
+use Rattle.basics.specs.Refusing.{Outcome}
 use Rattle.basics.specs.Memory.{after, front}
 use Rattle.alf.specs.declared.Rules.{Rules}
 use Rattle.alf.specs.declared.Sort.TheVariants as sort
@@ -49,15 +49,15 @@ module _ (ρ : Rules) (names times states text : List ℕ) where
   unfolding after
   began_text_unique {out} (lists a p g k h) (lists b q j l i) =
       let e = given_one_lem g j in (
-        ap Done (k ∙ ap (λ (z : Vector). length (shown ρ names times states z)) e ∙ sym l),
+        ap Ok (k ∙ ap (λ (z : Vector). length (shown ρ names times states z)) e ∙ sym l),
         h ∙ ap (λ (z : Vector). front (shown ρ names times states z) out) e ∙ sym i,
       )
   began_text_unique (lists a p g k h) (refuses b i) = absurd (refused_passed _ _ _ p b.by)
   began_text_unique (refuses a h) (lists b q j l i) = absurd (refused_passed _ _ _ q a.by)
   began_text_unique {out} (refuses a h) (refuses b i) =
-      (ap Refused (refused_in_unique text _ (order_sole (length out)) a b), h ∙ sym i)
+      (ap Err (refused_in_unique text _ (order_sole (length out)) a b), h ∙ sym i)
 
   pub began_text_stays : {out out' : List ℕ} {r : Refusal}
-      → ListsBeganText ρ names times states text out out' (Refused r)
+      → ListsBeganText ρ names times states text out out' (Err r)
       → out' ≡ out
   began_text_stays (refuses h e) = e

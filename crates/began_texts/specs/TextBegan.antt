@@ -4,10 +4,10 @@
 --   timed_trace, text_order     the refusals in their order
 --   ListsBeganText   what the call comes to
 -- That result and buffer follow from the input is a law.
+use Rattle.std.specs.Prelude.{Err, Ok}
 use Rattle.std.specs.Prelude.{ℕ, ◌/◌, ◌≡◌, List, [], ◌∷◌, ◌++◌, length}
 use Rattle.basics.specs.declared.Refusal.{Refusal}
-use Rattle.basics.specs.declared.Outcome.{Outcome}
-use Rattle.basics.specs.declared.Outcome.TheVariants.{Done, Refused}
+use Rattle.basics.specs.Refusing.{Outcome}
 use Rattle.basics.specs.Memory.{after, front}
 use Rattle.alf.specs.declared.Rules.{Rules}
 use Rattle.alf.specs.declared.Sort.TheVariants as sort
@@ -46,10 +46,10 @@ pub data ListsBeganText (ρ : Rules) (names times states text out out' : List �
       Passed (text_order ρ names times states text (length out)) →
       Gives ρ names text sort.Vector (vector p) →
       m ≡ length (shown ρ names times states p) →
-      out' ≡ after (front (shown ρ names times states p) out) out (Done m) →
-      ListsBeganText ρ names times states text out out' (Done m)
+      out' ≡ after (front (shown ρ names times states p) out) out (Ok m) →
+      ListsBeganText ρ names times states text out out' (Ok m)
   refuses :
       {r : Refusal} →
       RefusedIn text (text_order ρ names times states text (length out)) r →
       out' ≡ out →
-      ListsBeganText ρ names times states text out out' (Refused r)
+      ListsBeganText ρ names times states text out out' (Err r)

@@ -2,7 +2,7 @@
 ghost use Rattle.began_texts.specs.TextBegan.{ListsBeganText};
 
 use alf::{Rules, Sort};
-use basics::Outcome;
+use basics::Refusal;
 use began_listings::listings::list_began;
 use reader::read_expression;
 
@@ -14,16 +14,11 @@ pub fn list_began_text(
     states: &[u8],
     text: &[u8],
     out: &mut [u8],
-) -> Outcome
+) -> Result<usize, Refusal>
     ensures { ListsBeganText rules names.now times.now states.now
         text.now out.old out.new result }
 {
-    let read = read_expression(rules, names, text, Sort::Vector);
-    let no = read.refused;
-    if no {
-        let refusal = read.refusal;
-        return Outcome::Refused(refusal);
-    }
+    let read = read_expression(rules, names, text, Sort::Vector)?;
     let tree = read.tree;
     let len = read.len;
     list_began(

@@ -18,7 +18,7 @@ use Rattle.basics.specs.Words.{listed}
 use Rattle.basics.proofs.Bools.{equal?}
 use Rattle.basics.proofs.Listed.{listed_at, listed_same}
 use Rattle.alf.specs.declared.Answer.{Answer}
-use Rattle.alf.specs.declared.Began.{Began}
+use Rattle.alf.specs.Beginnings.{Began}
 use Rattle.alf.specs.Expressions.{Boolean}
 use Rattle.alf.specs.Answers.{number_of}
 use Rattle.alf.specs.Alternatives.{Alternative, answer_of, tries}

@@ -3,6 +3,7 @@
 --   row_asked, found_asked                 what is asked of a row
 --   Marking, marking_first, -next, -end    all rows
 --   given_length, began_length
+use Rattle.std.specs.Prelude.{None, Some}
 use Prim.Native.Nat.{ℕ, ◌+◌, ◌<◌, ◌≤◌}
 use native.Mathlib.Omega.{arith}
 use mathlib.Core.Path.{◌≡◌, refl, ap, sym, ◌∙◌}
@@ -16,8 +17,7 @@ use Rattle.basics.proofs.Stores.{Writing, writing_first, writing_length}
 use Rattle.basics.proofs.Listed.{ruling_next_front, ruling_front, listed_whole}
 use Rattle.alf.specs.declared.Answer.{Answer}
 use Rattle.alf.specs.declared.Stamp.{Stamp}
-use Rattle.alf.specs.declared.Began.{Began}
-use Rattle.alf.specs.declared.Began.TheVariants.{At, Nowhere}
+use Rattle.alf.specs.Beginnings.{Began}
 use Rattle.alf.specs.Answers.{number_of}
 use Rattle.alf.specs.Beginnings.{is_given, time_of_lem}
 use Rattle.beginnings.specs.Times.{time_from, TimeAsked, began_by, BeganAsked, DateAsked}
@@ -25,7 +25,7 @@ use Rattle.beginnings.specs.Times.{began_of, MarksAsked, Marks}
 
 -- a row, by whether it answers yes
 module _ {times steps : List ℕ} {row : ℕ} {said : Bool} {tried : ℕ} (a : BeganAsked times steps row said tried) where
-  pub turned_down : said ≡ false → Nowhere ≡ began_by times steps row said tried
+  pub turned_down : said ≡ false → None ≡ began_by times steps row said tried
   unfolding began_by
   turned_down e = rw e refl
 
@@ -35,9 +35,9 @@ module _ {times steps : List ℕ} {row : ℕ} {said : Bool} {tried : ℕ} (a : B
       record { there = a.there; some = t.some; alternative = t.there; room = t.room }
 
   pub told : {t : Stamp} → said ≡ true → t.0 ≡ time_from times steps row tried
-      → At t ≡ began_by times steps row said tried
+      → Some t ≡ began_by times steps row said tried
   unfolding began_by
-  told e f = rw e (λ i. At (record { 0 = f i }))
+  told e f = rw e (λ i. Some (record { 0 = f i }))
 
 pub found_asked : {times steps : List ℕ} {row : ℕ} {a : Answer} {tried v : ℕ} → DateAsked times steps row a tried
     → v ≡ number_of a → BeganAsked times steps row (eqb v 1) tried

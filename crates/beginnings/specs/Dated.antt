@@ -3,7 +3,7 @@
 --   flags_on, times_on     the flag and the time at each row, as lists have them
 use Rattle.std.specs.Prelude.{ℕ, ◌≡◌, List}
 use Rattle.alf.specs.declared.Answer.{Answer}
-use Rattle.alf.specs.declared.Began.{Began}
+use Rattle.alf.specs.Beginnings.{Began}
 use Rattle.alf.specs.Expressions.{Boolean}
 use Rattle.alf.specs.Alternatives.{Alternative}
 use Rattle.alf.specs.Beginnings as beginnings

@@ -4,11 +4,11 @@
 --   Took                           there is such an alternative, and there are as many rows
 --   TimeAsked, BeganAsked, DateAsked, Dating     a row
 --   began_of, MarksAsked, Marks     all rows, from the lists of answers and numbers tried
+use Rattle.std.specs.Prelude.{None, Some}
 use Rattle.std.specs.Prelude.{ℕ, ◌-◌, ◌<◌, ◌≤◌, ◌≡◌, Bool, true, List, eqb, length, get_or, if◌then◌else◌}
 use Rattle.basics.specs.Words.{listed}
 use Rattle.alf.specs.declared.Answer.{Answer}
-use Rattle.alf.specs.declared.Began.{Began}
-use Rattle.alf.specs.declared.Began.TheVariants.{At, Nowhere}
+use Rattle.alf.specs.Beginnings.{Began}
 use Rattle.alf.specs.Answers.{number_of}
 use Rattle.alf.specs.Beginnings.{is_given, time_of_lem}
 
@@ -16,7 +16,7 @@ abbrev pub time_from : List ℕ → List ℕ → ℕ → ℕ → ℕ
 time_from times steps row tried = get_or times (row - get_or steps (tried - 1) 0) 0
 
 unfoldable pub began_by : List ℕ → List ℕ → ℕ → Bool → ℕ → Began
-began_by times steps row said tried = if said then At (record { 0 = time_from times steps row tried }) else Nowhere
+began_by times steps row said tried = if said then Some (record { 0 = time_from times steps row tried }) else None
 
 pub record Took (steps : List ℕ) (row tried : ℕ) : Type 0 where
   pub some : 0 < tried

@@ -5,7 +5,7 @@ ghost use Rattle.alf.specs.Beginnings.{is_given, time_of_lem};
 ghost use Rattle.beginnings.specs.Times.{time_from, TimeAsked, began_by, BeganAsked, DateAsked, Dating};
 ghost use Rattle.beginnings.specs.Times.{MarksAsked, Marks};
 
-use alf::{Answer, Began, Stamp};
+use alf::{Answer, Stamp};
 use matcher::answers::Matched;
 use matcher::tables::number_of;
 
@@ -14,7 +14,7 @@ use matcher::tables::number_of;
 pub struct Dated {
     pub answer: Answer,
     pub tries: u32,
-    pub began: Began,
+    pub began: Option<Stamp>,
 }
 
 // The time of the row where the window of the alternative tried last begins.
@@ -27,14 +27,14 @@ fn time_from(times: &[u64], steps: &[u8], row: usize, tries: u32) -> Stamp
 }
 
 // At a row, from whether it answers yes and the number tried.
-fn began_at(times: &[u64], steps: &[u8], row: usize, said: bool, tries: u32) -> Began
+fn began_at(times: &[u64], steps: &[u8], row: usize, said: bool, tries: u32) -> Option<Stamp>
     requires { BeganAsked times.now steps.now row said tries }
     ensures { result ≡ began_by times.now steps.now row said tries }
 {
     if !said {
-        return Began::Nowhere;
+        return None;
     }
-    Began::At(time_from(times, steps, row, tries))
+    Some(time_from(times, steps, row, tries))
 }
 
 // What was found at a row, with the time.
@@ -54,21 +54,21 @@ pub fn date(times: &[u64], steps: &[u8], row: usize, found: Matched) -> Dated
 }
 
 // The flag and the time, as lists have them.
-pub fn given_of(b: Began) -> u8
+pub fn given_of(b: Option<Stamp>) -> u8
     ensures { result ≡ is_given b }
 {
     match b {
-        Began::At(_) => 1,
-        Began::Nowhere => 0,
+        Some(_) => 1,
+        None => 0,
     }
 }
 
-pub fn time_of(b: Began) -> u64
+pub fn time_of(b: Option<Stamp>) -> u64
     ensures { result ≡ time_of_lem b }
 {
     match b {
-        Began::At(t) => t.0,
-        Began::Nowhere => 0,
+        Some(t) => t.0,
+        None => 0,
     }
 }
 
@@ -86,11 +86,9 @@ pub fn mark(
     ensures { Marks times.now steps.now n answers.now tried.now
         given.new began.new }
 {
-    let mut r: usize = 0;
-    while r < n {
+    for r in 0..n {
         let b = began_at(times, steps, r, answers[r] == 1, tried[r]);
         given[r] = given_of(b);
         began[r] = time_of(b);
-        r += 1;
     }
 }

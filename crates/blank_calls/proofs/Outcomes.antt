@@ -2,6 +2,7 @@
 --   lists_good, lists_bad              what the test of the lists says
 --   blank_18, blank_15, blank_done     refused with 18, with 15; done
 --   blank_unique                       any two results, and the memory at exit, coincide
+use Rattle.std.specs.Prelude.{Err, Ok}
 use Prim.Native.Nat.{ℕ}
 use mathlib.Core.Path.{◌≡◌, refl, sym, ◌∙◌}
 use mathlib.Core.Bool.{true}
@@ -12,15 +13,13 @@ use lib.ListN.{length}
 use borrow.Author.Tests.{eq-eqb, eqb-true}
 use Rattle.basics.specs.Refusing.{refusal}
 use Rattle.basics.specs.declared.Refusal.{Refusal}
-use Rattle.basics.specs.declared.Outcome.{Outcome}
-use Rattle.basics.specs.declared.Outcome.TheVariants as outcome
+use Rattle.basics.specs.Refusing.{Outcome}
 use Rattle.basics.specs.Memory.{after}
 use Rattle.basics.proofs.Memory.{after_unique}
 use Rattle.alf.specs.Refusals.{RefusedWith, Passed, Comes}
 use Rattle.alf.proofs.Outcomes.{at_fixed, first_fixed, comes_unique}
 use Rattle.states.specs.FirstBadCode.{Codes}
-use Rattle.judging.specs.declared.checks.Verdict.{Verdict}
-use Rattle.judging.specs.declared.checks.Verdict.TheVariants.{Good, Refused}
+use Rattle.judging.specs.Orders.{Verdict}
 use Rattle.judging.specs.Orders.{Rows, codes, Judged}
 use Rattle.judging.proofs.Verdicts.{judged_good, judged_not}
 use Rattle.blank_calls.specs.Blanking.{blank_order, Blanks, RowsAsked, BlanksRows}
@@ -35,7 +34,7 @@ module _ (k n states kept : ℕ) where
 
 module _ {k n : ℕ} {states kept : List ℕ} where
   pub blank_18 : {r : Outcome} → ((length kept ≡ k) × Rows k n (length states) → ⊥)
-      → r ≡ outcome.Refused (refusal 18 0) → Blanks k n states kept states r
+      → r ≡ Err (refusal 18 0) → Blanks k n states kept states r
   unfolding Comes RefusedWith after
   blank_18 h e =
       rw e
@@ -46,14 +45,14 @@ module _ {k n : ℕ} {states kept : List ℕ} where
     rows_asked = record { all = rw f.0 f.1.all }
 
     module _ {v : Verdict} (j : Judged (codes states) (Codes states) v) where
-      pub blank_15 : {r : Refusal} → v ≡ Refused r → Blanks k n states kept states (outcome.Refused r)
+      pub blank_15 : {r : Refusal} → v ≡ Err r → Blanks k n states kept states (Err r)
       unfolding Comes RefusedWith after
       blank_15 e =
           let h = judged_not j e in
           record { comes = record { by = inr (λ p a. a.given f, h.by); bare = h.bare }; memory = refl }
 
-      pub blank_done : {states' : List ℕ} → v ≡ Good → BlanksRows n states kept states'
-          → Blanks k n states kept states' (outcome.Done n)
+      pub blank_done : {states' : List ℕ} → v ≡ (Ok tt) → BlanksRows n states kept states'
+          → Blanks k n states kept states' (Ok n)
       unfolding Comes Passed after
       blank_done e b =
           record {

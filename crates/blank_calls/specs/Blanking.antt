@@ -5,7 +5,7 @@
 --   state_kept, BlanksRow, RowsAsked, BlanksRows     what the functions inside ask and give
 use Rattle.std.specs.Prelude.{ℕ, ◌+◌, ◌*◌, ◌≡◌, List, ◌∷◌, eqb, length, get_or, if◌then◌else◌}
 use Rattle.std.proofs.lemmas.List.Edits.{sets}
-use Rattle.basics.specs.declared.Outcome.{Outcome}
+use Rattle.basics.specs.Refusing.{Outcome}
 use Rattle.basics.specs.Memory.{after}
 use Rattle.basics.specs.Words.{listed}
 use Rattle.alf.specs.Refusals.{Order, check, bad_lists, Comes}

@@ -2,9 +2,9 @@
 ghost use Rattle.std.specs.Prelude.{◌≡◌, ◌+◌, ◌≤◌, length};
 ghost use Rattle.blank_calls.specs.Blanking.{state_kept, BlanksRow, RowsAsked, BlanksRows, Blanks};
 
-use basics::Outcome;
+use basics::Refusal;
 use basics::refusing::refuse;
-use judging::checks::{Verdict, judge_codes, lists_fit};
+use judging::checks::{judge_codes, lists_fit};
 
 // The state of a pin that is kept; X for another.
 fn state_kept(kept: u8, state: u8) -> u8
@@ -21,11 +21,9 @@ fn blank_row(states: &mut [u8], at: usize, kept: &[u8])
     requires { at + length kept.now ≤ length states.old }
     ensures { BlanksRow states.old at kept.now states.new }
 {
-    let mut i: usize = 0;
-    while i < kept.len() {
+    for i in 0..kept.len() {
         let state = states[at + i];
         states[at + i] = state_kept(kept[i], state);
-        i += 1;
     }
 }
 
@@ -35,28 +33,21 @@ fn blank_rows(n: usize, states: &mut [u8], kept: &[u8])
     ensures { BlanksRows n states.old kept.now states.new }
 {
     let mut at: usize = 0;
-    let mut r: usize = 0;
-    while r < n {
+    for r in 0..n {
         blank_row(states, at, kept);
         at += kept.len();
-        r += 1;
     }
 }
 
 // The trace of so many names and n rows, in which every pin is X that the table does not keep; n. Refused: 18, 15.
-pub fn blank(names: usize, n: usize, states: &mut [u8], kept: &[u8]) -> Outcome
+pub fn blank(names: usize, n: usize, states: &mut [u8], kept: &[u8]) -> Result<usize, Refusal>
     ensures { Blanks names n states.old kept.now states.new result }
 {
     let fits = lists_fit(names, n, kept.len() == names, states.len());
     if !fits {
         return refuse(18, 0);
     }
-    let v = judge_codes(states);
-    match v {
-        Verdict::Refused(r) => Outcome::Refused(r),
-        Verdict::Good => {
-            blank_rows(n, states, kept);
-            Outcome::Done(n)
-        }
-    }
+    judge_codes(states)?;
+    blank_rows(n, states, kept);
+    Ok(n)
 }

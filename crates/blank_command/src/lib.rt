@@ -8,7 +8,7 @@ mod pins;
 
 use crate::pins::tell_pins;
 use alf::Rules;
-use basics::Outcome;
+use basics::Refusal;
 use blank_calls::blanking::blank as overwrite;
 use complaints::refused;
 use console::output::Console;
@@ -25,14 +25,14 @@ fn finish<R: Env + Files>(
     times: &[u64],
     states: &[u8],
     kept: &[u8],
-    o: Outcome,
+    o: Result<usize, Refusal>,
 ) {
     match o {
-        Outcome::Done(_) => {
+        Ok(_) => {
             tell_pins(rt, console, out, names, kept);
             write_to(rt, console, out, names, times, states);
         }
-        Outcome::Refused(r) => refused(console, b"trace", r),
+        Err(r) => refused(console, b"trace", r),
     }
 }
 
@@ -53,46 +53,8 @@ fn blank_by<R: Env + Files + Input>(
     }
 }
 
-// The table has an entry for each name.
-fn blank_front<R: Env + Files + Input>(
-    rt: &R,
-    console: &Console,
-    rules: Rules,
-    out: usize,
-    names: &[u8],
-    times: &[u64],
-    states: &mut [u8],
-    kept: &mut [u8],
-) {
-    let k = names.len() / 32;
-    if k <= kept.len() {
-        blank_by(
-            rt,
-            console,
-            rules,
-            out,
-            names,
-            times,
-            states,
-            &mut kept[0..k],
-        );
-    }
-}
-
-fn blank_lent<R: Env + Files + Input>(
-    rt: &R,
-    console: &Console,
-    rules: Rules,
-    out: usize,
-    names: &[u8],
-    times: &[u64],
-    states: &mut [u8],
-    kept: &mut [u8; 32],
-) {
-    blank_front(rt, console, rules, out, names, times, states, kept);
-}
-
-// Argument `out` names the file to write, and the words behind it are patterns, `-f` FILE, and `--keep` PIN...
+// Argument `out` names the file to write, and the words behind it are patterns, `-f` FILE, and `--keep` PIN... The
+// table of the pins has an entry for each name.
 pub fn blank<R: Env + Files + Input>(
     rt: &R,
     console: &Console,
@@ -103,5 +65,7 @@ pub fn blank<R: Env + Files + Input>(
     states: &mut [u8],
 ) {
     let mut kept = [0u8; 32];
-    blank_lent(rt, console, rules, out, names, times, states, &mut kept);
+    if let Some(kept) = kept.get_mut(..names.len() / 32) {
+        blank_by(rt, console, rules, out, names, times, states, kept);
+    }
 }

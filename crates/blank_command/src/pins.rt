@@ -14,14 +14,6 @@ fn tell(console: &Console, aside: bool, text: &[u8]) {
     }
 }
 
-// Slot i of a list of names, or nothing.
-fn slot(names: &[u8], i: usize) -> &[u8] {
-    if i < names.len() / 32 {
-        return &names[i * 32..i * 32 + 32];
-    }
-    &names[0..0]
-}
-
 fn tell_name(console: &Console, aside: bool, slot: &[u8]) {
     tell(console, aside, b"\t");
     tell(console, aside, front(slot, name_len(slot)));
@@ -29,13 +21,10 @@ fn tell_name(console: &Console, aside: bool, slot: &[u8]) {
 
 // The pins whose entries are 0, or the others.
 fn tell_names(console: &Console, aside: bool, names: &[u8], kept: &[u8], zero: bool) {
-    let mut i: usize = 0;
-    while i < kept.len() {
-        let entry = kept[i];
-        if (entry == 0) == zero {
-            tell_name(console, aside, slot(names, i));
+    for (slot, entry) in names.chunks_exact(32).zip(kept) {
+        if (*entry == 0) == zero {
+            tell_name(console, aside, slot);
         }
-        i += 1;
     }
 }
 
@@ -49,7 +38,7 @@ fn tell_line(console: &Console, aside: bool, word: &[u8], names: &[u8], kept: &[
 fn is_dash<R: Env>(rt: &R, i: usize) -> bool {
     let mut word = [0u8; 4096];
     let n = arg(rt, i, &mut word);
-    check::same(&word[..n], b"-")
+    &word[..n] == b"-".as_slice()
 }
 
 // Argument `out` names the file of the trace.

@@ -5,6 +5,7 @@
 --   rest_carried, rest_passed           an order that ends with 15 of the trace
 --   totals_kept, totals_same            the totals by a tree
 --   listed_totals_kept, listed_totals_same     by alternatives handed in
+use Rattle.std.specs.Prelude.{Err, Ok}
 use Rattle.std.specs.Prelude.{if◌then◌else◌}
 use Prim.Native.Nat.{ℕ, ◌+◌, ◌*◌, ◌<◌, ◌≤◌}
 use native.Mathlib.Nat.{zero-add, suc-mul, mul-le-mul_right}
@@ -15,7 +16,6 @@ use mathlib.Core.Logic.{◌⊎◌, inl, inr}
 use mathlib.Core.List.{List}
 use lib.ListN.{length, get_or, get_or-eq_default}
 use borrow.Author.Tests.{eq-eqb}
-use Rattle.basics.specs.declared.Outcome.TheVariants.{Done}
 use Rattle.basics.specs.Memory.{after}
 use Rattle.basics.proofs.Bools.{never, below?}
 use Rattle.basics.proofs.Choices.{if_all}
@@ -30,8 +30,7 @@ use Rattle.states.specs.FirstBadCode.{Codes}
 use Rattle.trees.specs.Parts.{vector_at}
 use Rattle.alternatives.specs.InMemory.{alternatives_of_lem, longest_of}
 use Rattle.judging.specs.Orders.{Rows, order, codes}
-use Rattle.matching_calls.specs.declared.matching.Counting.{Counting}
-use Rattle.matching_calls.specs.declared.matching.Counting.TheVariants.{Counted, Refused}
+use Rattle.matching_calls.specs.Matching.{Counting}
 use Rattle.matching_calls.specs.Matching.{Counts, RowTotals}
 use Rattle.call_laws.proofs.Passing.{codes_never}
 use Rattle.call_laws.proofs.Routes.{fed_codes}
@@ -67,7 +66,7 @@ row_codes pins k n states all good r l i h =
     (if_all (λ (c : ℕ). c < 8) (pins i)
     (λ p. good (r * k + i) (omega (arith, inside, all, mul-le-mul_right k l, suc-mul r k))) (λ p. omega arith))
 
-module _ {k n : ℕ} {states kept states' : List ℕ} {m : ℕ} (b : Blanks k n states kept states' (Done m)) where
+module _ {k n : ℕ} {states kept states' : List ℕ} {m : ℕ} (b : Blanks k n states kept states' (Ok m)) where
   pub blank_lists : (length kept ≡ k) × Rows k n (length states)
   unfolding Comes Passed
   blank_lists =
@@ -125,8 +124,8 @@ module _ {k n : ℕ} {states kept states' : List ℕ} {m : ℕ} (b : Blanks k n 
       → Counts (order (Rows k n (length states)) Q (codes states)) R r
       → Counts (order (Rows k n (length states')) Q (codes states')) R' r
   unfolding Counts
-  counts_carried Q R R' f (Counted t) (p, x) = (order_passed Q p, f p _ _ _ x)
-  counts_carried Q R R' f (Refused q) h = record { by = order_carried Q _ _ h.by; bare = h.bare }
+  counts_carried Q R R' f (Ok t) (p, x) = (order_passed Q p, f p _ _ _ x)
+  counts_carried Q R R' f (Err q) h = record { by = order_carried Q _ _ h.by; bare = h.bare }
 
   module _ {ρ : Rules} {tree : List ℕ}
       (named : (i : ℕ) → names_in (vector_at tree k (length tree)) i ≡ true → keeps kept i ≡ true) where

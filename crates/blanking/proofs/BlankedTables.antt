@@ -5,6 +5,7 @@
 --   still_kept, kept_named      a pin that is kept stays so; the pins that a text names are kept
 --   patterns_kept               the pins of all patterns are
 --   table_same                  each line of the table
+use Rattle.std.specs.Prelude.{Err, Ok}
 use Prim.Native.Nat.{ℕ, ◌<◌}
 use native.Mathlib.Omega.{arith}
 use mathlib.Core.Path.{◌≡◌, refl, sym, ◌∙◌}
@@ -13,8 +14,7 @@ use mathlib.Core.Logic.{◌⊎◌, inl, inr}
 use mathlib.Core.List.{List, ◌++◌}
 use lib.Dec.{eqb}
 use lib.ListN.{length}
-use Rattle.basics.specs.declared.Outcome.{Outcome}
-use Rattle.basics.specs.declared.Outcome.TheVariants.{Done}
+use Rattle.basics.specs.Refusing.{Outcome}
 use Rattle.basics.specs.Words.{All}
 use Rattle.basics.specs.Words as words
 use Rattle.basics.proofs.Choices.{if_all}
@@ -33,8 +33,7 @@ use Rattle.reader.specs.Reading.{read_order, Gives}
 use Rattle.tokens.proofs.TextLaws.{reads_unique}
 use Rattle.grammar.proofs.Unique.{parses_unique}
 use Rattle.text_laws.proofs.GivenAccepted.{gives_decodes}
-use Rattle.matching_calls.specs.declared.matching.Counting.{Counting}
-use Rattle.matching_calls.specs.declared.matching.Counting.TheVariants.{Counted, Refused}
+use Rattle.matching_calls.specs.Matching.{Counting}
 use Rattle.named_pins.specs.Pins.{names_in, named}
 use Rattle.named_pins.specs.Tables.{keeps, joined}
 use Rattle.named_pins.proofs.Joined.{joined_at}
@@ -56,7 +55,7 @@ Covers ρ names kept text =
     (p : Vector) → Gives ρ names text sort.Vector (vector p) → (i : ℕ) → names_in p i ≡ true → keeps kept i ≡ true
 
 module _ {ρ : Rules} {names : List ℕ} {n : ℕ} {states kept states' : List ℕ} {m : ℕ} {text : List ℕ}
-    (b : Blanks (slots.names_in names) n states kept states' (Done m)) (covers : Covers ρ names kept text) where
+    (b : Blanks (slots.names_in names) n states kept states' (Ok m)) (covers : Covers ρ names kept text) where
   abbrev checks : List ℕ → Order
   checks = trace_checks (slots.names_in names) n
 
@@ -101,12 +100,12 @@ module _ {ρ : Rules} {names : List ℕ} {n : ℕ} {states kept states' : List �
   counted_in : (c : Counting) → CountsIn text (count_order ρ names n states text) (TotalsText ρ names n states text) c
       → CountsIn text (count_order ρ names n states' text) (TotalsText ρ names n states' text) c
   unfolding CountsIn
-  counted_in (Counted t) (p, x) = (
+  counted_in (Ok t) (p, x) = (
     passed_both reading (checks states') (passed_left reading (checks states) p)
         (trace_passed (passed_right reading (checks states) p)),
     totals_text x,
   )
-  counted_in (Refused r) h = record { by = all_refused _ _ h.by; shows = h.shows }
+  counted_in (Err r) h = record { by = all_refused _ _ h.by; shows = h.shows }
 
   pub text_kept : {c : Counting} → CountsText ρ names n states text c → CountsText ρ names n states' text c
   text_kept {c} h = record { comes = counted_in c h.comes }
@@ -157,7 +156,7 @@ module _ (ρ : Rules) (names text kept : List ℕ) where
       let decodes = gives_decodes (passed_left (names_order names) _ good) g in
       omega (arith, full a, named_below k p (decode_over k (bytes_of (vector p)) (vector p) decodes) i h)
 
-  given_named : (ρ' : Rules) {kept' : List ℕ} {r : ℕ} → KeepsText ρ names text sort.Vector kept kept' (Done r)
+  given_named : (ρ' : Rules) {kept' : List ℕ} {r : ℕ} → KeepsText ρ names text sort.Vector kept kept' (Ok r)
       → Covers ρ' names kept' text
   unfolding named
   given_named ρ' (keeping.keeps x a g e is) p q i h =
@@ -166,7 +165,7 @@ module _ (ρ : Rules) (names text kept : List ℕ) where
       rw (is, sym same) (marked (named (vector p)) kept i (over p a given i h) h)
 
 pub kept_named : {ρ ρ' : Rules} {names text kept kept' : List ℕ} {r : ℕ}
-    → KeepsText ρ names text sort.Vector kept kept' (Done r) → Covers ρ' names kept' text
+    → KeepsText ρ names text sort.Vector kept kept' (Ok r) → Covers ρ' names kept' text
 kept_named {ρ} {ρ'} {names} {text} {kept} k = given_named ρ names text kept ρ' k
 
 pub patterns_kept : {ρ : Rules} {names last kept : List ℕ} {texts : List (List ℕ)} → Kept ρ names last kept texts
@@ -188,7 +187,7 @@ SameLine ρ names n states states' text =
     → (r ≡ s) × (x ≡ y)
 
 module _ {names : List ℕ} {n : ℕ} {states kept states' : List ℕ} {m : ℕ}
-    (b : Blanks (slots.names_in names) n states kept states' (Done m)) (ρ : Rules) where
+    (b : Blanks (slots.names_in names) n states kept states' (Ok m)) (ρ : Rules) where
   each_same : {texts : List (List ℕ)} → All (Covers ρ names kept) texts
       → All (SameLine ρ names n states states') texts
   each_same words.none = words.none

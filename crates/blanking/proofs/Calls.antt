@@ -5,13 +5,13 @@
 --   totals                                     the totals of a trace and of the overwritten one
 --   sent_row                                   a row of a trace, and the last row of what is sent for it
 --   listed_match_row, listed_match_all, listed_totals, listed_push     by alternatives handed in
+use Rattle.std.specs.Prelude.{Ok}
 use Prim.Native.Nat.{ℕ, ◌<◌, min}
 use native.Mathlib.Nat.{zero-add}
 use mathlib.Core.Path.{◌≡◌, ap, sym, ◌∙◌}
 use mathlib.Core.Bool.{Bool, true}
 use mathlib.Core.List.{List}
 use lib.ListN.{length, get_or}
-use Rattle.basics.specs.declared.Outcome.TheVariants.{Done}
 use Rattle.basics.specs.Memory.{after}
 use Rattle.alf.specs.Refusals.{Comes}
 use Rattle.basics.specs.Words as listed_words
@@ -25,12 +25,9 @@ use Rattle.alternatives.specs.InMemory.{alternatives_of_lem, longest_of}
 use Rattle.beginnings.specs.declared.times.Dated.{Dated}
 use Rattle.queue.specs.Queues.{trace_of}
 use Rattle.timed_queue.specs.declared.queues.Queue.{Queue}
-use Rattle.row_calls.specs.declared.written.Told.TheVariants.{Answered}
 use Rattle.row_calls.specs.Written.{Tells, RowAnswer}
-use Rattle.matching_calls.specs.declared.matching.Matching.TheVariants.{Found}
 use Rattle.matching_calls.specs.Matching.{expression, answers_on, tries_on, Finds, RowMatch, AllMatched}
 use Rattle.matching_calls.specs.Matching.{Counts, RowTotals}
-use Rattle.matching_calls.specs.declared.matching.Counting.TheVariants.{Counted}
 use Rattle.matcher.specs.declared.tables.Total.{Total}
 use Rattle.trees.specs.Parts.{vector_at}
 use Rattle.queue_calls.specs.Pushing.{Takes, Push}
@@ -64,13 +61,13 @@ module _ (ρ : Rules) (k : ℕ) (tree : List ℕ) where
     counts : tries_on ρ k tree states i ≡ tries_on ρ k tree states' j
     counts = pins_tries ρ k states states' i j (expression ρ tree k) read_alike
 
-    pub row_answer_lem : {n n' : ℕ} {a b : Answer} → RowAnswer ρ k n tree states i (Answered a)
-        → RowAnswer ρ k n' tree states' j (Answered b) → a ≡ b
+    pub row_answer_lem : {n n' : ℕ} {a b : Answer} → RowAnswer ρ k n tree states i (Ok a)
+        → RowAnswer ρ k n' tree states' j (Ok b) → a ≡ b
     unfolding Tells
     row_answer_lem {a = a} {b = b} x y = number_same a b (x.comes.1 ∙ answers ∙ sym y.comes.1)
 
-    pub match_row_lem : {n n' : ℕ} {times times' : List ℕ} {m m' : Dated} → RowMatch ρ k n tree times states i (Found m)
-        → RowMatch ρ k n' tree times' states' j (Found m')
+    pub match_row_lem : {n n' : ℕ} {times times' : List ℕ} {m m' : Dated} → RowMatch ρ k n tree times states i (Ok m)
+        → RowMatch ρ k n' tree times' states' j (Ok m')
         → (m.answer ≡ m'.answer) × (m.tries ≡ m'.tries)
     unfolding Finds
     match_row_lem x y = (
@@ -80,8 +77,8 @@ module _ (ρ : Rules) (k : ℕ) (tree : List ℕ) where
 
     -- entry i of one pair of lists, entry j of the other
     module _ {n n' : ℕ} (l : i < n) (l' : j < n') {times a t g b a₁ t₁ g₁ b₁ times' a' t' g' b' a₂ t₂ g₂ b₂ : List ℕ}
-        {m m' : ℕ} (x : AllMatched ρ k n tree times states a t g b a₁ t₁ g₁ b₁ (Done m))
-        (y : AllMatched ρ k n' tree times' states' a' t' g' b' a₂ t₂ g₂ b₂ (Done m')) where
+        {m m' : ℕ} (x : AllMatched ρ k n tree times states a t g b a₁ t₁ g₁ b₁ (Ok m))
+        (y : AllMatched ρ k n' tree times' states' a' t' g' b' a₂ t₂ g₂ b₂ (Ok m')) where
       pub match_all : (get_or a₁ i 0 ≡ get_or a₂ j 0) × (get_or t₁ i 0 ≡ get_or t₂ j 0)
       unfolding after
       match_all = (
@@ -96,8 +93,8 @@ module _ (ρ : Rules) (k : ℕ) (tree : List ℕ) where
   -- what two queues keep, with the rows that are pushed
   module _ {q q' : Queue} {row row' : List ℕ}
       (s : Alike (trace_of k q.rows row) (trace_of k q'.rows row') q.rows.kept.0 q'.rows.kept.0) where
-    pub push : {time time' : ℕ} {p p' : Queue} {m m' : Dated} → Push ρ k tree q time row (Found m) p
-        → Push ρ k tree q' time' row' (Found m') p'
+    pub push : {time time' : ℕ} {p p' : Queue} {m m' : Dated} → Push ρ k tree q time row (Ok m) p
+        → Push ρ k tree q' time' row' (Ok m') p'
         → (m.answer ≡ m'.answer) × (m.tries ≡ m'.tries)
     unfolding Takes
     push x y = (
@@ -108,8 +105,8 @@ module _ (ρ : Rules) (k : ℕ) (tree : List ℕ) where
   -- the totals, so the line of the table, of a trace and of the trace in which every pin outside some is overwritten
   module _ (pins : ℕ → Bool) (named : (n : ℕ) → names_in (vector_at tree k (length tree)) n ≡ true → pins n ≡ true)
       (below : (n : ℕ) → pins n ≡ true → n < k) (other : ℕ → ℕ → ℕ) where
-    pub totals : {n : ℕ} {states : List ℕ} {t t' : Total} → RowTotals ρ k n tree states (Counted t)
-        → RowTotals ρ k n tree (blanked pins other k n states) (Counted t')
+    pub totals : {n : ℕ} {states : List ℕ} {t t' : Total} → RowTotals ρ k n tree states (Ok t)
+        → RowTotals ρ k n tree (blanked pins other k n states) (Ok t')
         → (t.yes ≡ t'.yes) × (t.no ≡ t'.no) × (t.unknown ≡ t'.unknown)
     unfolding Counts
     totals {n} {states} x y =
@@ -121,9 +118,9 @@ module _ (ρ : Rules) (k : ℕ) (tree : List ℕ) where
 
     -- row i of a trace, and the last row of what is sent for it
     pub sent_row : {n n' i : ℕ} {times times' states : List ℕ} {m m' : Dated}
-        → RowMatch ρ k n tree times states i (Found m)
+        → RowMatch ρ k n tree times states i (Ok m)
         → RowMatch ρ k n' tree times' (sent pins other (steps_of (expression ρ tree k)) k i states)
-        (min i (steps_of (expression ρ tree k))) (Found m')
+        (min i (steps_of (expression ρ tree k))) (Ok m')
         → (m.answer ≡ m'.answer) × (m.tries ≡ m'.tries)
     sent_row {i = i} {states = states} x y =
         match_row_lem (fewer_pins named (sent_same pins other k states below (steps_of (expression ρ tree k)) i)) x y
@@ -137,8 +134,8 @@ module _ (ρ : Rules) (k : ℕ) (tree steps tests edges operands : List ℕ) whe
 
   pub listed_match_row : {states states' : List ℕ} {i j : ℕ} → ListsAlike states states' i j
       → {n n' : ℕ} {times times' : List ℕ} {m m' : Dated}
-      → ListedMatch ρ k n tree steps tests edges operands states times i (Found m)
-      → ListedMatch ρ k n' tree steps tests edges operands states' times' j (Found m')
+      → ListedMatch ρ k n tree steps tests edges operands states times i (Ok m)
+      → ListedMatch ρ k n' tree steps tests edges operands states' times' j (Ok m')
       → (m.answer ≡ m'.answer) × (m.tries ≡ m'.tries)
   unfolding Finds
   listed_match_row {states} {states'} {i} {j} s x y =
@@ -155,8 +152,8 @@ module _ (ρ : Rules) (k : ℕ) (tree steps tests edges operands : List ℕ) whe
   pub listed_match_all : {states states' : List ℕ} {i j : ℕ} → ListsAlike states states' i j
       → {n n' : ℕ} → i < n → j < n'
       → {times a t g b a₁ t₁ g₁ b₁ times' a' t' g' b' a₂ t₂ g₂ b₂ : List ℕ} {m m' : ℕ}
-      → ListedAll ρ k n tree steps tests edges operands states times a t g b a₁ t₁ g₁ b₁ (Done m)
-      → ListedAll ρ k n' tree steps tests edges operands states' times' a' t' g' b' a₂ t₂ g₂ b₂ (Done m')
+      → ListedAll ρ k n tree steps tests edges operands states times a t g b a₁ t₁ g₁ b₁ (Ok m)
+      → ListedAll ρ k n' tree steps tests edges operands states' times' a' t' g' b' a₂ t₂ g₂ b₂ (Ok m')
       → (get_or a₁ i 0 ≡ get_or a₂ j 0) × (get_or t₁ i 0 ≡ get_or t₂ j 0)
   unfolding after Comes
   listed_match_all {states} {states'} {i} {j} s {n} {n'} l l' x y =
@@ -176,8 +173,8 @@ module _ (ρ : Rules) (k : ℕ) (tree steps tests edges operands : List ℕ) whe
   pub listed_totals : (pins : ℕ → Bool)
       → ((n : ℕ) → names_of (alternatives_of_lem tree k steps tests edges operands) n ≡ true → pins n ≡ true)
       → ((n : ℕ) → pins n ≡ true → n < k) → (other : ℕ → ℕ → ℕ) {n : ℕ} {states : List ℕ} {t t' : Total}
-      → ListedTotals ρ k n tree steps tests edges operands states (Counted t)
-      → ListedTotals ρ k n tree steps tests edges operands (blanked pins other k n states) (Counted t')
+      → ListedTotals ρ k n tree steps tests edges operands states (Ok t)
+      → ListedTotals ρ k n tree steps tests edges operands (blanked pins other k n states) (Ok t')
       → (t.yes ≡ t'.yes) × (t.no ≡ t'.no) × (t.unknown ≡ t'.unknown)
   unfolding Counts
   listed_totals pins named below other {n} {states} x y =
@@ -192,8 +189,8 @@ module _ (ρ : Rules) (k : ℕ) (tree steps tests edges operands : List ℕ) whe
   pub listed_push : {q q' : Queue} {row row' : List ℕ}
       → ListsAlike (trace_of k q.rows row) (trace_of k q'.rows row') q.rows.kept.0 q'.rows.kept.0
       → {time time' : ℕ} {p p' : Queue} {m m' : Dated}
-      → ListedPush ρ k tree steps tests edges operands q time row (Found m) p
-      → ListedPush ρ k tree steps tests edges operands q' time' row' (Found m') p'
+      → ListedPush ρ k tree steps tests edges operands q time row (Ok m) p
+      → ListedPush ρ k tree steps tests edges operands q' time' row' (Ok m') p'
       → (m.answer ≡ m'.answer) × (m.tries ≡ m'.tries)
   unfolding listed.Takes
   listed_push {q} {q'} {row} {row'} s x y =

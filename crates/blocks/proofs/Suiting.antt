@@ -1,23 +1,18 @@
 -- Laws of lists that columns suit.
---   suits_not, suits-if       the test for it
+--   suited                    what the test for it asks
 --   prepare_asked             their tests may be numbered
 --   blocks_asked_lem              prepared columns are ready for all rows
 use mathlib.Core.Path.{◌≡◌}
-use mathlib.Core.Bool.{false}
 use mathlib.Core.List.{List, [], ◌∷◌}
 use Prim.Native.Nat.{ℕ, zero, suc, ◌≤◌}
 use native.Mathlib.Omega.{arith}
 use lib.ListN.{length, get_or}
 use Rattle.basics.specs.Words.{greatest_of}
-use Rattle.basics.proofs.Bools.{never}
 use Rattle.trees.specs.Parts.{EndsBoolean}
 use Rattle.evaluator.proofs.Booleans.{some_bytes}
 use Rattle.alternatives.specs.InMemory.{Shape}
 use Rattle.blocks.specs.Numbering.{OperandAt}
-use Rattle.blocks.specs.Rows.{Suited, Suits, Scratch, PrepareAsked, PreparedOr, BlocksAsked}
-
-pub suits_not : {steps edges : List ℕ} {n : ℕ} → Suits steps edges n false
-suits_not = record { is = λ e. never e }
+use Rattle.blocks.specs.Rows.{Suited, Scratch, PrepareAsked, PreparedOr, BlocksAsked}
 
 -- no entry is above the greatest
 entry_small : (l : List ℕ) (k : ℕ) → get_or l k 0 ≤ greatest_of (λ n. n) l

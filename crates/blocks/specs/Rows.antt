@@ -5,14 +5,18 @@
 --   Block, AnswerAsked, Answered     the m rows of a block: their best answers, and how many are tried
 --   BlocksAsked                  all rows, with memory that is prepared
 --   Suited, Suits, Scratch       when columns suit; memory for them
+--   BlockOn, AnswerAskedOn, AnsweredOn, BlocksAskedOn     the same of a scene, lists and columns as code has them
 use Rattle.std.specs.Prelude.{ℕ, ◌+◌, ◌*◌, ◌<◌, ◌≤◌, ◌≡◌, Bool, true, List, map, length, get_or}
 use Rattle.alf.specs.declared.Rules.{Rules}
 use Rattle.alf.specs.Expressions.{Boolean}
 use Rattle.alf.specs.Values.{state_at}
 use Rattle.alf.specs.Alternatives.{test_at, at_row, best_of, tried}
 use Rattle.trees.specs.Parts.{EndsBoolean, boolean_at}
+use Rattle.alternatives.specs.declared.lists.Lists.{Lists}
 use Rattle.alternatives.specs.InMemory.{sum, test_of, Tests, alternatives_of_lem}
+use Rattle.matcher.specs.declared.scenes.Scene.{Scene}
 use Rattle.matcher.specs.Tables.{Rows}
+use Rattle.blocks.specs.declared.rows.Columns.{Columns}
 use Rattle.blocks.specs.Numbering.{NumberAsked}
 use Rattle.blocks.specs.Meeting.{Blank}
 
@@ -103,3 +107,23 @@ pub record Scratch (kinds ends slots tables cols : List ℕ) : Type 0 where
   pub slots_room : 4096 ≤ length slots
   pub tables_room : 4096 ≤ length tables
   pub cols_room : 66560 ≤ length cols
+
+-- the same of a scene, lists and columns
+abbrev pub BlockOn : Scene → Lists → Columns → ℕ → ℕ → List ℕ → Type 0
+BlockOn x l k from m cols =
+    Block x.tree.now x.names x.states.now l.steps.now l.tests.now k.ends.now k.slots.now k.many k.tables.now from m cols
+
+abbrev pub AnswerAskedOn : Scene → Lists → Columns → ℕ → ℕ → List ℕ → List ℕ → List ℕ → Type 0
+AnswerAskedOn x l k from m cols best tries =
+    AnswerAsked x.tree.now x.names x.states.now l.steps.now l.tests.now k.ends.now k.slots.now k.many k.tables.now from m
+    cols best tries
+
+abbrev pub AnsweredOn : Scene → Lists → Columns → ℕ → ℕ → List ℕ → List ℕ → Type 0
+AnsweredOn x l k from m best tries =
+    Answered x.rules x.tree.now x.names x.states.now l.steps.now l.tests.now k.ends.now k.slots.now k.many k.tables.now
+    from m best tries
+
+abbrev pub BlocksAskedOn : Scene → Lists → ℕ → Columns → List ℕ → Type 0
+BlocksAskedOn x l n k cols =
+    BlocksAsked x.tree.now x.names l.steps.now l.tests.now l.edges.now l.operands.now n k.ends.now k.slots.now k.many
+    k.tables.now cols

@@ -3,6 +3,7 @@
 ghost use Rattle.blocks.specs.Meeting.{StepAsked, StepMet, AlternativeAsked, AlternativeMet};
 ghost use Rattle.blocks.specs.Meeting.{TakeAsked, Taken, BlockAsked, BlockMatched};
 
+use alternatives::lists::Lists;
 use alternatives::walking::pass;
 use columns::passes::{join, meet, put, try_open};
 
@@ -11,11 +12,9 @@ fn meet_step(slots: &[u8], t: usize, q: usize, cols: &[u8], d: usize, m: usize, 
     requires { StepAsked slots.now t q cols.now d m acc.old }
     ensures { StepMet slots.now t q cols.now d m acc.old acc.new }
 {
-    let mut i: usize = 0;
-    while i < q {
+    for i in 0..q {
         let slot = slots[t + i] as usize;
         meet(acc, m, cols, slot * 1040 + d);
-        i += 1;
     }
 }
 
@@ -36,12 +35,10 @@ fn meet_steps(
 {
     put(acc, m, 2);
     let mut at = t;
-    let mut j: usize = 0;
-    while j < n {
+    for j in 0..n {
         let q = tests[s + j] as usize;
         meet_step(slots, at, q, cols, 16 - n + j, m, acc);
         at += q;
-        j += 1;
     }
 }
 
@@ -58,8 +55,7 @@ fn take(m: usize, acc: &[u8], best: &mut [u8], tries: &mut [u8])
 
 // All alternatives: the best of their answers, and how many are tried. Both lists have zeros at first.
 pub fn match_block(
-    steps: &[u8],
-    tests: &[u8],
+    lists: &Lists,
     slots: &[u8],
     cols: &[u8],
     m: usize,
@@ -67,19 +63,17 @@ pub fn match_block(
     best: &mut [u8],
     tries: &mut [u8],
 )
-    requires { BlockAsked steps.now tests.now slots.now cols.now m acc.old best.old tries.old }
-    ensures { BlockMatched steps.now tests.now slots.now cols.now m
+    requires { BlockAsked lists.now.steps.now lists.now.tests.now slots.now cols.now m acc.old best.old tries.old }
+    ensures { BlockMatched lists.now.steps.now lists.now.tests.now slots.now cols.now m
         best.new tries.new }
 {
     let mut s: usize = 0;
     let mut t: usize = 0;
-    let mut k: usize = 0;
-    while k < steps.len() {
-        let n = steps[k] as usize;
-        meet_steps(tests, slots, s, n, t, cols, m, acc);
+    for k in 0..lists.steps.len() {
+        let n = lists.steps[k] as usize;
+        meet_steps(lists.tests, slots, s, n, t, cols, m, acc);
         take(m, acc, best, tries);
-        t = pass(tests, s, n, t);
+        t = pass(lists.tests, s, n, t);
         s += n;
-        k += 1;
     }
 }

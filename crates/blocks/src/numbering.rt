@@ -3,6 +3,8 @@ ghost use Rattle.std.specs.Prelude.{◌≡◌};
 ghost use Rattle.blocks.specs.Numbering.{OperandAt, Same, FindAsked, Found, AddAsked, Added};
 ghost use Rattle.blocks.specs.Numbering.{NumberAsked, Numbered};
 
+use alternatives::lists::Lists;
+
 // Whether the operands that end at x and y are seen to be the same: one place, or one name at two.
 fn same_operand(tree: &[u8], x: usize, y: usize) -> bool
     requires { OperandAt tree.now x × OperandAt tree.now y }
@@ -23,14 +25,12 @@ fn find(tree: &[u8], kinds: &[u8], ends: &[u16], many: usize, k: u8, end: usize)
     requires { FindAsked tree.now kinds.now ends.now many end }
     ensures { Found tree.now kinds.now ends.now many k end result }
 {
-    let mut c: usize = 0;
-    while c < many {
+    for c in 0..many {
         if kinds[c] == k {
             if same_operand(tree, ends[c] as usize, end) {
                 return c;
             }
         }
-        c += 1;
     }
     many
 }
@@ -53,28 +53,25 @@ fn add(kinds: &mut [u8], ends: &mut [u16], many: usize, c: usize, k: u8, end: u1
 // how many there are; 65 if 64 are not enough.
 pub fn number(
     tree: &[u8],
-    edges: &[u8],
-    operands: &[u16],
+    lists: &Lists,
     kinds: &mut [u8],
     ends: &mut [u16],
     slots: &mut [u8],
 ) -> usize
-    requires { NumberAsked tree.now edges.now operands.now kinds.old ends.old slots.old }
-    ensures { Numbered tree.now edges.now operands.now kinds.new
+    requires { NumberAsked tree.now lists.now.edges.now lists.now.operands.now kinds.old ends.old slots.old }
+    ensures { Numbered tree.now lists.now.edges.now lists.now.operands.now kinds.new
         ends.new slots.new result }
 {
     let mut many: usize = 0;
-    let mut t: usize = 0;
-    while t < edges.len() {
-        let k = edges[t];
-        let end = operands[t];
+    for t in 0..lists.edges.len() {
+        let k = lists.edges[t];
+        let end = lists.operands[t];
         let c = find(tree, kinds, ends, many, k, end as usize);
         if c == 64 {
             return 65;
         }
         many = add(kinds, ends, many, c, k, end);
         slots[t] = c as u8;
-        t += 1;
     }
     many
 }

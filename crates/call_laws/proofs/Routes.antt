@@ -7,6 +7,8 @@
 --   fed_codes                     rows of codes, one after the other, are codes
 --   never_refused                 so no push of a good row is refused, for a feed of any length
 --   pushed_found, three_routes
+use Rattle.std.specs.Prelude.{Err, Ok}
+use Rattle.std.specs.Prelude.{None}
 use mathlib.Core.Path.{◌≡◌, refl, ap, sym, ◌∙◌, subst}
 use mathlib.Core.List.{List}
 use Prim.Native.Nat.{ℕ, zero, suc, ◌+◌, ◌-◌, ◌*◌, ◌<◌, ◌≤◌}
@@ -21,8 +23,7 @@ use Rattle.basics.proofs.Stable.{le_stable}
 use Rattle.alf.specs.declared.Rules.{Rules}
 use Rattle.alf.specs.declared.Answer.{Answer}
 use Rattle.alf.specs.declared.Answer.TheVariants.{NoEvent}
-use Rattle.alf.specs.declared.Began.{Began}
-use Rattle.alf.specs.declared.Began.TheVariants.{Nowhere}
+use Rattle.alf.specs.Beginnings.{Began}
 use Rattle.alf.specs.declared.Sort.TheVariants.{Vector}
 use Rattle.alf.specs.Alternatives.{alternatives, steps_of}
 use Rattle.alf.specs.Refusals.{NameCount, RowCount, Rising}
@@ -39,10 +40,8 @@ use Rattle.alternatives.specs.InMemory.{longest_of}
 use Rattle.queue.specs.Queues.{held_of, trace_of, last_rows, fed}
 use Rattle.states.proofs.CodeLists.{codes_append, codes_drop}
 use Rattle.queue.proofs.LastRows.{fed_length, last_length, held_stored}
-use Rattle.row_calls.specs.declared.written.Told.{Told}
-use Rattle.row_calls.specs.declared.written.Told.TheVariants as told
-use Rattle.matching_calls.specs.declared.matching.Matching.{Matching}
-use Rattle.matching_calls.specs.declared.matching.Matching.TheVariants.{Found, Refused}
+use Rattle.row_calls.specs.Written.{Answering}
+use Rattle.matching_calls.specs.Matching.{Matching}
 use Rattle.judging.specs.Orders.{Rows}
 use Rattle.row_calls.specs.Written.{Tells, AnsweredAs, RowAnswer}
 use Rattle.matching_calls.specs.Matching.{expression, answers_on, tries_on, began_on, Finds, FoundAs, RowMatch}
@@ -59,33 +58,33 @@ FoundAt ρ names tree times states row =
 
 module _ {ρ : Rules} {names n : ℕ} {tree states : List ℕ} {row : ℕ} (l : Rows names n (length states))
     (a : Accepted ρ names Vector tree) (s : Codes states) (h : row < n) where
-  pub answered : (x : Told) → RowAnswer ρ names n tree states row x
+  pub answered : (x : Answering) → RowAnswer ρ names n tree states row x
       → AnsweredAs (answers_on ρ names tree states row) x
   unfolding Tells
-  answered (told.Answered b) w = record { answer = b; is = refl; numbered = w.comes.1 }
-  answered (told.Refused r) w = absurd (refused_passed _ _ _ (row_passed states n row l a s h) w.comes.by)
+  answered (Ok b) w = record { answer = b; is = refl; numbered = w.comes.1 }
+  answered (Err r) w = absurd (refused_passed _ _ _ (row_passed states n row l a s h) w.comes.by)
 
   pub matched : {times : List ℕ} → length times ≡ n → Rising times → (y : Matching)
       → RowMatch ρ names n tree times states row y
       → FoundAt ρ names tree times states row y
   unfolding Finds
-  matched m t (Found f) w =
+  matched m t (Ok f) w =
       let d = w.comes.1 in
       record {
         answer = f.answer;
-        is = λ i. Found (record { answer = f.answer; tries = d.count i; began = d.start i });
+        is = λ i. Ok (record { answer = f.answer; tries = d.count i; began = d.start i });
         numbered = d.is;
       }
-  matched {times} m t (Refused r) w =
+  matched {times} m t (Err r) w =
       absurd (refused_passed _ _ _ (timed_row_passed states times n row (m, l) a s t h) w.comes.by)
 
 taken : {ρ : Rules} {names : ℕ} {tree : List ℕ} {q : Queue} {time : ℕ} {row : List ℕ} {q' : Queue}
     → Handed ρ names tree q → RowFits names (length row) → Codes row → (Early q time → ⊥) → (z : Matching)
     → Push ρ names tree q time row z q'
-    → (m : Dated) × ((z ≡ Found m) × PushesTree ρ names tree q time row m.answer m.tries m.began q')
+    → (m : Dated) × ((z ≡ Ok m) × PushesTree ρ names tree q time row m.answer m.tries m.began q')
 unfolding Takes
-taken h f s t (Found m) w = (m, (refl, w.comes.1))
-taken {ρ} {names} {tree} {q} {time} {row} h f s t (Refused r) w =
+taken h f s t (Ok m) w = (m, (refl, w.comes.1))
+taken {ρ} {names} {tree} {q} {time} {row} h f s t (Err r) w =
     absurd (refused_passed (push_order ρ names tree q time row) _ _ (push_passed q time row f h s t) w.comes.0.by)
 
 -- K: the steps of the longest alternative
@@ -158,8 +157,8 @@ module _ {names : ℕ} (tree : List ℕ) {q : Queue} {time : ℕ} {row : List �
 
 -- what a call told, where it was not refused
 pub told_by : Matching → Dated
-told_by (Found m) = m
-told_by (Refused r) = record { answer = NoEvent; tries = 0; began = Nowhere }
+told_by (Ok m) = m
+told_by (Err r) = record { answer = NoEvent; tries = 0; began = None }
 
 pub fed_codes : (rows : ℕ → List ℕ) (n : ℕ) → ((i : ℕ) → i < n → Codes (rows i)) → Codes (fed rows n)
 unfolding fed
@@ -188,7 +187,7 @@ module _ {ρ : Rules} {names n : ℕ} {tree : List ℕ} {rows : ℕ → List ℕ
 
   goes_on : (i : ℕ) (l : i < n) → Ready i
       → (m : Dated)
-      × ((results i ≡ Found m)
+      × ((results i ≡ Ok m)
       × PushesTree ρ names tree (queues i) (times i) (rows i) m.answer m.tries m.began (queues (suc i)))
   goes_on i l (h, e) =
       taken (handed (queues i) h) (record { name_count_lem = some; full = full i l }) (good i l) (e l) (results i)
@@ -204,13 +203,13 @@ module _ {ρ : Rules} {names n : ℕ} {tree : List ℕ} {rows : ℕ → List ℕ
       )
 
   -- no push is refused
-  pub never_refused : (i : ℕ) → i < n → results i ≡ Found (told_by (results i))
+  pub never_refused : (i : ℕ) → i < n → results i ≡ Ok (told_by (results i))
   unfolding told_by
   never_refused i l =
-      let e = (goes_on i l (ready i (omega arith))).1.0 in e ∙ sym (ap (λ (z : Matching). Found (told_by z)) e)
+      let e = (goes_on i l (ready i (omega arith))).1.0 in e ∙ sym (ap (λ (z : Matching). Ok (told_by z)) e)
 
   taken_pushes : (i : ℕ) → i < n
-      → Push ρ names tree (queues i) (times i) (rows i) (Found (told_by (results i))) (queues (suc i))
+      → Push ρ names tree (queues i) (times i) (rows i) (Ok (told_by (results i))) (queues (suc i))
   taken_pushes i l =
       subst (λ (z : Matching). Push ρ names tree (queues i) (times i) (rows i) z (queues (suc i))) (never_refused i l)
       (pushed i l)
@@ -224,7 +223,7 @@ module _ {ρ : Rules} {names n : ℕ} {tree : List ℕ} {rows : ℕ → List ℕ
       let since = r.start in
       record {
         answer = answer;
-        is = never_refused i l ∙ (λ j. Found (record { answer = answer; tries = tried j; began = since j }));
+        is = never_refused i l ∙ (λ j. Ok (record { answer = answer; tries = tried j; began = since j }));
         numbered = r.is;
       }
 
@@ -232,7 +231,7 @@ module _ {ρ : Rules} {names n : ℕ} {tree : List ℕ} {rows : ℕ → List ℕ
     fits : Rows names n (length (fed rows n))
     fits = record { name_count_lem = some; row_count = enough; all = fed_length names rows n full }
 
-    pub three_routes : (x : Told) → RowAnswer ρ names n tree (fed rows n) i x
+    pub three_routes : (x : Answering) → RowAnswer ρ names n tree (fed rows n) i x
         → (y : Matching) → RowMatch ρ names n tree (listed 0 n times) (fed rows n) i y
         → AnsweredAs (answers_on ρ names tree (fed rows n) i) x
         × FoundAt ρ names tree (listed 0 n times) (fed rows n) i y

@@ -4,6 +4,7 @@
 --   correction_reaches, correction_stays    what is rewritten is right, whatever stood there; the rest stays
 --   totals_together              yes, no and unknown together are n-1
 --   rows_stable                  lists of which it cannot be that they do not fit
+use Rattle.std.specs.Prelude.{Ok}
 use mathlib.Core.Path.{◌≡◌, refl, ap, sym, ◌∙◌}
 use mathlib.Core.Bool.{Bool, true, false}
 use mathlib.Core.Logic.{◌⊎◌, inl, inr}
@@ -17,7 +18,6 @@ use Rattle.alf.specs.declared.Rules.{Rules}
 use Rattle.alf.specs.declared.Answer.{Answer}
 use Rattle.alf.specs.declared.Sort.{Sort}
 use Rattle.alf.specs.declared.Sort.TheVariants as sort
-use Rattle.basics.specs.declared.Outcome.TheVariants as outcome
 use Rattle.alf.specs.Expressions.{Expression, boolean, vector, Over, VectorOver, ExpressionOver}
 use Rattle.alf.specs.Decoder.{Decodes, top_vector}
 use Rattle.alf.specs.Values.{state_at}
@@ -45,9 +45,6 @@ use Rattle.alternatives.specs.InMemory.{longest_of}
 use Rattle.queue.specs.Queues.{fed}
 use Rattle.timed_queue.specs.TimedQueues.{Feed}
 use Rattle.call_laws.proofs.ThreeRoutes.{row_so_far}
-use Rattle.row_calls.specs.declared.written.Told.TheVariants.{Answered}
-use Rattle.matching_calls.specs.declared.matching.Matching.TheVariants.{Found}
-use Rattle.matching_calls.specs.declared.matching.Counting.TheVariants.{Counted}
 use Rattle.judging.specs.Orders.{Rows}
 use Rattle.row_calls.specs.Written.{Tells, RowAnswer}
 use Rattle.basics.specs.Memory.{after}
@@ -98,7 +95,7 @@ module _ {ρ : Rules} {names n : ℕ} {tree : List ℕ} {rows : ℕ → List ℕ
     {told : ℕ → Dated}
     (accepted : Accepted ρ names sort.Vector tree) (first : (queues 0).rows.kept.0 ≡ 0)
     (full : (i : ℕ) → i < n → length (rows i) ≡ names)
-    (pushed : (i : ℕ) → i < n → Push ρ names tree (queues i) (times i) (rows i) (Found (told i)) (queues (suc i)))
+    (pushed : (i : ℕ) → i < n → Push ρ names tree (queues i) (times i) (rows i) (Ok (told i)) (queues (suc i)))
   where
     feed : Feed ρ names (alternatives (expression ρ tree names)) n rows times queues (λ i. (told i).answer)
         (λ i. (told i).tries) (λ i. (told i).began)
@@ -123,8 +120,8 @@ module _ {ρ : Rules} {names n : ℕ} {tree : List ℕ} {rows : ℕ → List ℕ
         }
 
     pub routes_taken : (i : ℕ) → i < n → {a : Answer} {m : Dated}
-        → RowAnswer ρ names n tree (fed rows n) i (Answered a)
-        → RowMatch ρ names n tree (listed 0 n times) (fed rows n) i (Found m)
+        → RowAnswer ρ names n tree (fed rows n) i (Ok a)
+        → RowMatch ρ names n tree (listed 0 n times) (fed rows n) i (Ok m)
         → (m.answer ≡ a) × ((told i).answer ≡ a) × ((told i).tries ≡ m.tries) × ((told i).began ≡ m.began)
     unfolding Tells Finds
     routes_taken i l w k =
@@ -138,7 +135,7 @@ module _ {ρ : Rules} {names n : ℕ} {tree : List ℕ} {rows : ℕ → List ℕ
 -- The correction.
 module _ {ρ : Rules} {names n : ℕ} {tree states answers : List ℕ} {r : ℕ} {new states' answers' : List ℕ} {k : ℕ}
     (accepted : Accepted ρ names sort.Vector tree)
-    (c : Correction ρ names n tree states answers r new states' answers' (outcome.Done k)) where
+    (c : Correction ρ names n tree states answers r new states' answers' (Ok k)) where
   passed : Passed (correction_order ρ names n tree states answers r new)
   unfolding Comes
   passed = c.comes.0
@@ -217,7 +214,7 @@ module _ {ρ : Rules} {names n : ℕ} {tree states answers : List ℕ} {r : ℕ}
 
 -- The totals.
 pub totals_together : {ρ : Rules} {names n : ℕ} {tree states : List ℕ} {t : Total}
-    → RowTotals ρ names n tree states (Counted t)
+    → RowTotals ρ names n tree states (Ok t)
     → t.yes + t.no + t.unknown ≡ n - 1
 unfolding Counts Passed
 totals_together {ρ} {names} {n} {tree} {states} w =

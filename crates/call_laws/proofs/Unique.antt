@@ -6,27 +6,24 @@
 --   codes_fixed, row_fixed, timed_fixed, timed_row_fixed, push_fixed, correction_fixed     each row of an order fixes
 --   its place
 --   outcome_unique, after_unique, finds_unique, counts_unique     the laws behind them
+use Rattle.std.specs.Prelude.{Err, Ok}
 use mathlib.Core.Path.{◌≡◌, refl, ap, sym, ◌∙◌}
 use mathlib.Core.List.{List}
 use Prim.Native.Nat.{ℕ}
 use Rattle.alf.specs.declared.Rules.{Rules}
 use Rattle.alf.specs.declared.Answer.{Answer}
-use Rattle.alf.specs.declared.Began.{Began}
-use Rattle.basics.specs.declared.Outcome.{Outcome}
+use Rattle.alf.specs.Beginnings.{Began}
+use Rattle.basics.specs.Refusing.{Outcome}
 use Rattle.alf.specs.Refusals.{Order, Comes}
 use Rattle.alf.proofs.Answers.{number_same}
 use Rattle.queue_calls.proofs.ByAlternatives.{tree_pushed}
 use Rattle.alf.proofs.Outcomes.{AllFixed, at_fixed, first_fixed, refused_passed, refused_by_unique, comes_unique}
 use Rattle.timed_queue.specs.declared.queues.Queue.{Queue}
 use Rattle.timed_queue.proofs.Unique.{pushes_unique}
-use Rattle.judging.specs.declared.checks.Verdict.{Verdict}
-use Rattle.judging.specs.declared.checks.Verdict.TheVariants as verdict
-use Rattle.row_calls.specs.declared.written.Told.{Told}
-use Rattle.row_calls.specs.declared.written.Told.TheVariants as told
-use Rattle.matching_calls.specs.declared.matching.Matching.{Matching}
-use Rattle.matching_calls.specs.declared.matching.Matching.TheVariants.{Found, Refused}
-use Rattle.matching_calls.specs.declared.matching.Counting.{Counting}
-use Rattle.matching_calls.specs.declared.matching.Counting.TheVariants as counting
+use Rattle.judging.specs.Orders.{Verdict}
+use Rattle.row_calls.specs.Written.{Answering}
+use Rattle.matching_calls.specs.Matching.{Matching}
+use Rattle.matching_calls.specs.Matching.{Counting}
 use Rattle.judging.specs.Orders.{order, codes, codes_row, codes_correction, Judged, passes, refuses}
 use Rattle.judging.specs.TimedOrders.{timed_codes, timed_codes_row}
 use Rattle.row_calls.specs.Written.{RowState, RowValue, AllValues, Tells, RowAnswer}
@@ -35,7 +32,6 @@ use Rattle.update_calls.specs.Correcting.{Correction}
 use Rattle.queue_calls.specs.Pushing.{row_and_time, push_order, Takes, Push}
 use Prim.Native.Nat.{ℕ, max}
 use mathlib.Core.Path.{◌≡◌}
-use Rattle.judging.specs.declared.checks.Verdict.TheVariants.{Refused}
 use Rattle.row_calls.specs.Written.{Tells}
 use Rattle.row_calls.specs.Windows.{WindowAnswer}
 use Rattle.basics.proofs.Memory.{after_unique}
@@ -77,7 +73,7 @@ verdict_unique o f (passes p x) (passes q y) = refl
 verdict_unique o f (passes p x) (refuses s) = absurd (refused_passed o _ _ p s.by)
 verdict_unique o f (refuses r) (passes q y) = absurd (refused_passed o _ _ q r.by)
 verdict_unique o f (refuses r) (refuses s) =
-    ap verdict.Refused (refused_by_unique o f r s)
+    ap Err (refused_by_unique o f r s)
 
 module _ {names n : ℕ} {tree states : List ℕ} where
   pub state_unique : {ρ : Rules} {row : ℕ} {a b : Outcome} → RowState ρ names n tree states row a
@@ -98,41 +94,41 @@ module _ {names n : ℕ} {tree states : List ℕ} where
       let e = outcome_unique _ _ (codes_fixed _ _ states) _ _ x.comes y.comes in
       (e, after_unique _ out e x.memory y.memory)
 
-pub tells_unique : (o : Order) (a : ℕ) → AllFixed o → (x y : Told) → Tells o a x → Tells o a y → x ≡ y
+pub tells_unique : (o : Order) (a : ℕ) → AllFixed o → (x y : Answering) → Tells o a x → Tells o a y → x ≡ y
 unfolding Tells
-tells_unique o a f (told.Answered b) (told.Answered c) x y =
-    ap told.Answered (number_same b c (x.1 ∙ sym y.1))
-tells_unique o a f (told.Answered b) (told.Refused s) x y = absurd (refused_passed o _ _ x.0 y.by)
-tells_unique o a f (told.Refused r) (told.Answered c) x y = absurd (refused_passed o _ _ y.0 x.by)
-tells_unique o a f (told.Refused r) (told.Refused s) x y =
-    ap told.Refused (refused_by_unique o f x y)
+tells_unique o a f (Ok b) (Ok c) x y =
+    ap Ok (number_same b c (x.1 ∙ sym y.1))
+tells_unique o a f (Ok b) (Err s) x y = absurd (refused_passed o _ _ x.0 y.by)
+tells_unique o a f (Err r) (Ok c) x y = absurd (refused_passed o _ _ y.0 x.by)
+tells_unique o a f (Err r) (Err s) x y =
+    ap Err (refused_by_unique o f x y)
 
 pub finds_unique : (o : Order) (right : Answer → ℕ → Began → Type 0) → AllFixed o
     → ((a b : Answer) (t u : ℕ) (c d : Began) → right a t c → right b u d → (a ≡ b) × (t ≡ u) × (c ≡ d))
     → (x y : Matching) → Finds o right x → Finds o right y → x ≡ y
 unfolding Finds
-finds_unique o right f one (Found m) (Found k) x y =
+finds_unique o right f one (Ok m) (Ok k) x y =
     let e = one _ _ _ _ _ _ x.1 y.1 in
-    λ i. Found (record { answer = e.0 i; tries = e.1 i; began = e.2 i })
-finds_unique o right f one (Found m) (Refused s) x y = absurd (refused_passed o _ _ x.0 y.by)
-finds_unique o right f one (Refused r) (Found k) x y = absurd (refused_passed o _ _ y.0 x.by)
-finds_unique o right f one (Refused r) (Refused s) x y =
-    ap Refused (refused_by_unique o f x y)
+    λ i. Ok (record { answer = e.0 i; tries = e.1 i; began = e.2 i })
+finds_unique o right f one (Ok m) (Err s) x y = absurd (refused_passed o _ _ x.0 y.by)
+finds_unique o right f one (Err r) (Ok k) x y = absurd (refused_passed o _ _ y.0 x.by)
+finds_unique o right f one (Err r) (Err s) x y =
+    ap Err (refused_by_unique o f x y)
 
 pub counts_unique : (o : Order) (right : ℕ → ℕ → ℕ → Type 0) → AllFixed o
     → ((a b c x y z : ℕ) → right a b c → right x y z → (a ≡ x) × (b ≡ y) × (c ≡ z))
     → (x y : Counting) → Counts o right x → Counts o right y → x ≡ y
 unfolding Counts
-counts_unique o right f one (counting.Counted t) (counting.Counted u) x y =
+counts_unique o right f one (Ok t) (Ok u) x y =
     let e = one _ _ _ _ _ _ x.1 y.1 in
-    λ i. counting.Counted (record { yes = e.0 i; no = e.1 i; unknown = e.2 i })
-counts_unique o right f one (counting.Counted t) (counting.Refused s) x y = absurd (refused_passed o _ _ x.0 y.by)
-counts_unique o right f one (counting.Refused r) (counting.Counted u) x y = absurd (refused_passed o _ _ y.0 x.by)
-counts_unique o right f one (counting.Refused r) (counting.Refused s) x y =
-    ap counting.Refused (refused_by_unique o f x y)
+    λ i. Ok (record { yes = e.0 i; no = e.1 i; unknown = e.2 i })
+counts_unique o right f one (Ok t) (Err s) x y = absurd (refused_passed o _ _ x.0 y.by)
+counts_unique o right f one (Err r) (Ok u) x y = absurd (refused_passed o _ _ y.0 x.by)
+counts_unique o right f one (Err r) (Err s) x y =
+    ap Err (refused_by_unique o f x y)
 
 module _ {names n : ℕ} {tree states : List ℕ} where
-  pub answer_unique : {ρ : Rules} {row : ℕ} {a b : Told} → RowAnswer ρ names n tree states row a
+  pub answer_unique : {ρ : Rules} {row : ℕ} {a b : Answering} → RowAnswer ρ names n tree states row a
       → RowAnswer ρ names n tree states row b
       → a ≡ b
   answer_unique {ρ} {row} x y =
@@ -184,22 +180,22 @@ module _ {names n : ℕ} {tree states : List ℕ} where
 takes_unique : (ρ : Rules) (names : ℕ) (tree : List ℕ) (q : Queue) (time : ℕ) (row : List ℕ) (x y : Matching)
     (p r : Queue) → Takes ρ names tree q time row x p → Takes ρ names tree q time row y r → (x ≡ y) × (p ≡ r)
 unfolding Takes
-takes_unique ρ names tree q time row (Found m) (Found k) p r a b =
+takes_unique ρ names tree q time row (Ok m) (Ok k) p r a b =
     let e = pushes_unique (tree_pushed a.1) (tree_pushed b.1) in
-    (λ i. Found (record { answer = e.0 i; tries = e.1 i; began = e.2 i }), e.3)
-takes_unique ρ names tree q time row (Found m) (Refused s) p r a b =
+    (λ i. Ok (record { answer = e.0 i; tries = e.1 i; began = e.2 i }), e.3)
+takes_unique ρ names tree q time row (Ok m) (Err s) p r a b =
     absurd (refused_passed (push_order ρ names tree q time row) _ _ a.0 b.0.by)
-takes_unique ρ names tree q time row (Refused s) (Found k) p r a b =
+takes_unique ρ names tree q time row (Err s) (Ok k) p r a b =
     absurd (refused_passed (push_order ρ names tree q time row) _ _ b.0 a.0.by)
-takes_unique ρ names tree q time row (Refused s) (Refused t) p r a b =
+takes_unique ρ names tree q time row (Err s) (Err t) p r a b =
     let e = refused_by_unique (push_order ρ names tree q time row) (push_fixed _ _ q time row) a.0 b.0 in
-    (ap Refused e, a.1 ∙ sym b.1)
+    (ap Err e, a.1 ∙ sym b.1)
 
 pub push_unique : {ρ : Rules} {names : ℕ} {tree : List ℕ} {q : Queue} {time : ℕ} {row : List ℕ} {x y : Matching}
     {p r : Queue} → Push ρ names tree q time row x p → Push ρ names tree q time row y r → (x ≡ y) × (p ≡ r)
 push_unique a b = takes_unique _ _ _ _ _ _ _ _ _ _ a.comes b.comes
 
-pub window_unique : {ρ : Rules} {names n : ℕ} {tree states : List ℕ} {a b : ℕ} {x y : Told}
+pub window_unique : {ρ : Rules} {names n : ℕ} {tree states : List ℕ} {a b : ℕ} {x y : Answering}
     → WindowAnswer ρ names n tree states a b x → WindowAnswer ρ names n tree states a b y → x ≡ y
 window_unique {ρ} {n = n} {states = states} {a = a} {b = b} p q =
     tells_unique _ _ (row_fixed _ _ states n (max a b)) _ _ p.comes q.comes

@@ -4,12 +4,17 @@
 --   RowSet, RowChanged    the set of changed variables, and what the call comes to
 --   Inside           the row stands in the states
 -- The set and its size are alf's change_mask and change_count.
+use Rattle.std.specs.Prelude.{Err, Ok, Result}
+use Rattle.states.specs.declared.changes.Changes.{Changes}
+use Rattle.basics.specs.declared.Refusal.{Refusal}
 use Rattle.std.specs.Prelude.{ℕ, ◌+◌, ◌*◌, ◌<◌, ◌≤◌, ◌≡◌, List, [], ◌∷◌, length}
 use Rattle.alf.specs.Refusals.{Order, check, bad_lists, bad_code, no_such_row, NameCount, RowCount}
 use Rattle.alf.specs.Refusals.{RefusedBy, Passed}
 use Rattle.alf.specs.Traces.{change_mask, change_count}
-use Rattle.changes.specs.declared.RowChanges.{RowChanges}
-use Rattle.changes.specs.declared.RowChanges.TheVariants.{Changed, Refused}
+
+-- the changes of a row, or a refusal
+abbrev pub RowChanges : Type 0
+RowChanges = Result Changes Refusal
 
 -- 1 to 32 names, 1 to 65,535 rows, and a state for each name of each row
 pub record Lists (names n states : ℕ) : Type 0 where
@@ -31,9 +36,9 @@ pub record RowSet (names : ℕ) (states : List ℕ) (row set many : ℕ) : Type 
   pub number : many ≡ change_count names states row
 
 unfoldable pub RowChanged : ℕ → ℕ → List ℕ → ℕ → RowChanges → Type 0
-RowChanged names n states row (Changed c) =
+RowChanged names n states row (Ok c) =
     Passed (order names n states row) × RowSet names states row c.mask c.many
-RowChanged names n states row (Refused r) = RefusedBy (order names n states row) r
+RowChanged names n states row (Err r) = RefusedBy (order names n states row) r
 
 -- for the functions inside: the row stands in the states, of 1 to 32 names
 pub record Inside (names : ℕ) (states : List ℕ) (row : ℕ) : Type 0 where

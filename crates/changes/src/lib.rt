@@ -6,16 +6,9 @@ ghost use Rattle.changes.specs.Call.{Lists, Inside, RowSet, RowChanged};
 
 use alf::RowNo;
 use basics::Refusal;
-use basics::refusing::refusal_of;
+use basics::refusing::refuse;
 use states::changes::{Changes, changes_of};
 use states::codes::first_bad_code;
-
-// The changes of a row, or a refusal.
-#[derive(Clone, Copy)]
-pub enum RowChanges {
-    Changed(Changes),
-    Refused(Refusal),
-}
 
 // Whether there are 1 to 32 names, 1 to 65,535 rows, and a state for each name of each row.
 fn lists_fit(names: usize, n: usize, len: usize) -> bool
@@ -54,19 +47,19 @@ pub fn of_row(names: usize, states: &[u8], row: usize) -> Changes
 }
 
 // Bit i of the mask says whether name i changed at the row.
-pub fn changes_at(names: usize, n: usize, states: &[u8], row: RowNo) -> RowChanges
+pub fn changes_at(names: usize, n: usize, states: &[u8], row: RowNo) -> Result<Changes, Refusal>
     ensures { RowChanged names n states.now row.0 result }
 {
     let at = row.0 as usize;
     if !lists_fit(names, n, states.len()) {
-        return RowChanges::Refused(refusal_of(18, 0));
+        return refuse(18, 0);
     }
     let bad = first_bad_code(states);
     if bad < states.len() {
-        return RowChanges::Refused(refusal_of(15, bad));
+        return refuse(15, bad);
     }
     if n <= at {
-        return RowChanges::Refused(refusal_of(19, 0));
+        return refuse(19, 0);
     }
-    RowChanges::Changed(of_row(names, states, at))
+    Ok(of_row(names, states, at))
 }

@@ -1,16 +1,17 @@
 -- The last line of a listing: answers counted, its length, its parts.
---   Counting, counting_first, counting_small, counting_next, counting_end    of the first answers so many are counted
+--   how_many_is     how many answers are left where those with a number are filtered
 --   last_size_lem, last_start
 use Rattle.std.specs.Prelude.{if◌then◌else◌}
-use Prim.Native.Nat.{ℕ, ◌+◌, ◌<◌, ◌≤◌}
+use Rattle.std.specs.List.{filter}
+use Prim.Native.Nat.{ℕ, zero, suc, ◌+◌}
 use native.Mathlib.Omega.{arith}
-use mathlib.Core.Path.{◌≡◌, refl}
+use mathlib.Core.Path.{◌≡◌, refl, sym, ◌∙◌}
+use mathlib.Core.Bool.{Bool, true, false}
 use mathlib.Core.List.{List, [], ◌∷◌, ◌++◌}
 use lib.Dec.{eqb}
 use lib.ListN.{length, get_or, length-append}
 use Rattle.basics.specs.Words.{count}
 use Rattle.basics.specs.Memory.{Room}
-use Rattle.basics.proofs.Counts.{count_next, count_small}
 use Rattle.basics.proofs.PartByPart.{Going, going_start}
 use Rattle.basics.specs.Text.{bytes, joined}
 use Rattle.figures.specs.Numbers.{decimal}
@@ -19,30 +20,25 @@ use Rattle.figures.proofs.Digits.{decimal_length}
 use Rattle.listing.specs.Listing.{how_many, last_line}
 use Rattle.listing.specs.Inner.{Sized}
 
--- of the first i answers, k have the number a
-pub record Counting (answers : List ℕ) (a k i : ℕ) : Type 0 where
-  pub within : i ≤ length answers
-  pub is : k ≡ count i (λ j. eqb (get_or answers j 0) a)
-
-pub counting_first : {answers : List ℕ} {a : ℕ} → Counting answers a 0 0
+-- the first number apart
+count_first : (n : ℕ) (p : ℕ → Bool) → count (suc n) p ≡ (if p 0 then 1 else 0) + count n (λ i. p (suc i))
 unfolding count
-counting_first = record { within = omega arith; is = refl }
+count_first zero p = omega arith
+count_first (suc n) p = let h = count_first n p in omega (arith, h)
 
-pub counting_small : {answers : List ℕ} {a k i : ℕ} → Counting answers a k i → k ≤ i
-counting_small {answers} {a} {k} {i} g = omega (arith, g.is, count_small i (λ j. eqb (get_or answers j 0) a))
-
-pub counting_next : {answers : List ℕ} {a k i r : ℕ} → Counting answers a k i → i < length answers
-    → r ≡ (if eqb (get_or answers i 0) a then 1 else 0) → Counting answers a (k + r) (i + 1)
-counting_next {answers} {a} {k} {i} {r} g l e =
-    record {
-      within = omega arith;
-      is = omega (arith, g.is, e, count_next i (λ j. eqb (get_or answers j 0) a));
-    }
-
-pub counting_end : {answers : List ℕ} {a k i : ℕ} → Counting answers a k i → length answers ≤ i
-    → k ≡ how_many answers a
-unfolding how_many
-counting_end {answers} {i = i} g l = let e : i ≡ length answers = omega (arith, g.within) in rw e at g.is
+-- so many answers have the number a
+pub how_many_is : (answers : List ℕ) (a : ℕ) → length (filter (λ x. eqb x a) answers) ≡ how_many answers a
+unfolding how_many count
+how_many_is [] a = refl
+how_many_is (x ∷ xs) a =
+    go (eqb x a) refl (how_many_is xs a) ∙ sym (count_first (length xs) (λ i. eqb (get_or (x ∷ xs) i 0) a))
+  where
+    go : (b : Bool) → eqb x a ≡ b
+        → length (filter (λ y. eqb y a) xs) ≡ count (length xs) (λ i. eqb (get_or xs i 0) a)
+        → length (filter (λ y. eqb y a) (x ∷ xs))
+        ≡ (if eqb x a then 1 else 0) + count (length xs) (λ i. eqb (get_or xs i 0) a)
+    go true e rest = rw e (omega (arith, rest))
+    go false e rest = rw e (omega (arith, rest))
 
 pub last_size_lem : {yeses noes unknowns a b c : ℕ} → Wide yeses a → Wide noes b → Wide unknowns c
     → Sized (last_line yeses noes unknowns) 78 (a + b + c + 18)

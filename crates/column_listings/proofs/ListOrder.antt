@@ -2,14 +2,14 @@
 --   listable                  values that pass 18 and 15
 --   refused_18, refused_15    the first two
 --   listed                    where both are passed, what is left
+use Rattle.std.specs.Prelude.{Err, Ok}
 use Prim.Native.Nat.{ℕ, ◌<◌, ◌≤◌}
 use native.Mathlib.Omega.{arith}
 use mathlib.Core.Path.{◌≡◌, refl}
 use mathlib.Core.Logic.{inl, inr}
 use mathlib.Core.List.{List}
 use lib.ListN.{length}
-use Rattle.basics.specs.declared.Outcome.{Outcome}
-use Rattle.basics.specs.declared.Outcome.TheVariants.{Done, Refused}
+use Rattle.basics.specs.Refusing.{Outcome}
 use Rattle.basics.specs.Refusing.{refusal}
 use Rattle.basics.specs.Memory.{after}
 use Rattle.alf.specs.Refusals.{RefusedWith, Passed, Comes}
@@ -30,7 +30,7 @@ listable l c h = record { lists = l; good = λ i k. omega (arith, c.before i (om
 -- 18, 15, or what is left
 module _ {times values : List ℕ} where
   pub refused_18 : {out : List ℕ} {r : Outcome} → (Lists (length times) (length values) → ⊥)
-      → r ≡ Refused (refusal 18 0) → ValuesText times values out out r
+      → r ≡ Err (refusal 18 0) → ValuesText times values out out r
   unfolding Comes RefusedWith after
   refused_18 h e =
       rw e
@@ -42,7 +42,7 @@ module _ {times values : List ℕ} where
   pub refused_15 : {out : List ℕ} {bad : ℕ} {r : Outcome} → Lists (length times) (length values)
       → FirstBad values bad
       → bad < length values
-      → r ≡ Refused (refusal 15 bad)
+      → r ≡ Err (refusal 15 bad)
       → ValuesText times values out out r
   unfolding Comes RefusedWith after
   refused_15 l c h e =
@@ -58,11 +58,11 @@ module _ (times values : List ℕ) (g : Listable 7 times values) where
       → Comes (line_order (values_listing times values) room) (λ k. k ≡ length (values_listing times values)) o
       → Comes (list_order times values room) (λ k. k ≡ length (values_listing times values)) o
   unfolding Comes RefusedWith Passed
-  comes room (Done k) x = (
+  comes room (Ok k) x = (
     (λ p a. a.given g.lists, (λ p a. omega (arith, g.good p a.given.0, a.given.1), x.0)),
     x.1,
   )
-  comes room (Refused q) x =
+  comes room (Err q) x =
       record {
         by = inr (λ p a. a.given g.lists, inr (λ p a. omega (arith, g.good p a.given.0, a.given.1), x.by));
         bare = x.bare;

@@ -3,7 +3,7 @@
 --   list_order     the refusals, in their order
 --   ValuesText    of an expression's values: outcome and memory
 use Rattle.std.specs.Prelude.{ℕ, ◌≡◌, List, ◌∷◌, length}
-use Rattle.basics.specs.declared.Outcome.{Outcome}
+use Rattle.basics.specs.Refusing.{Outcome}
 use Rattle.basics.specs.Memory.{after, front}
 use Rattle.alf.specs.Refusals.{Order, check, bad_lists, bad_code, Comes}
 use Rattle.figures.specs.Delivering.{line_order}

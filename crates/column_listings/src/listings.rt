@@ -6,7 +6,7 @@ ghost use Rattle.column_listings.specs.Calls.{ValuesText};
 ghost use Rattle.listing.specs.Inner.{Listable};
 
 use crate::totals::{count_answers, last_size, put_last};
-use basics::Outcome;
+use basics::Refusal;
 use basics::puts::put;
 use basics::refusing::refuse;
 use listing::lines::{Column, lines_size, put_lines};
@@ -30,7 +30,7 @@ fn lists_fit(times: usize, codes: usize) -> bool
 
 // The listing of answers that are known to be good, a line for each row with its time and its answer; refused with 9.
 // No public call of the library: the answers handed in are those that a call has found (tree_listings).
-pub fn write_listing(times: &[u64], answers: &[u8], out: &mut [u8]) -> Outcome
+pub fn write_listing(times: &[u64], answers: &[u8], out: &mut [u8]) -> Result<usize, Refusal>
     requires { Listable 3 times.now answers.now }
     ensures { Delivers (listing times.now answers.now) out.old
         out.new result }
@@ -43,11 +43,11 @@ pub fn write_listing(times: &[u64], answers: &[u8], out: &mut [u8]) -> Outcome
     let p = put(b"time answer\n", out, 0);
     let q = put_lines(Column::Answers, times, answers, out, p);
     put_last(tally, out, q);
-    Outcome::Done(size)
+    Ok(size)
 }
 
 // The listing of values that are known to be good; refused with 9.
-fn write_values(times: &[u64], values: &[u8], out: &mut [u8]) -> Outcome
+fn write_values(times: &[u64], values: &[u8], out: &mut [u8]) -> Result<usize, Refusal>
     requires { Listable 7 times.now values.now }
     ensures { Delivers (values_listing times.now values.now) out.old
         out.new result }
@@ -58,12 +58,12 @@ fn write_values(times: &[u64], values: &[u8], out: &mut [u8]) -> Outcome
     }
     let p = put(b"time value\n", out, 0);
     put_lines(Column::Values, times, values, out, p);
-    Outcome::Done(size)
+    Ok(size)
 }
 
 // A line for each row with its time and the letter of a value, given as document 01's code; the length of all. Refused
 // with 18, 15 or 9.
-pub fn list_values(times: &[u64], values: &[u8], out: &mut [u8]) -> Outcome
+pub fn list_values(times: &[u64], values: &[u8], out: &mut [u8]) -> Result<usize, Refusal>
     ensures { ValuesText times.now values.now out.old
         out.new result }
 {

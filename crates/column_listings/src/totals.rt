@@ -1,5 +1,5 @@
 // How many answers are yes, no and unknown, and the last line, which tells it.
-ghost use Rattle.std.specs.Prelude.{◌≡◌, ◌≤◌, eqb, length, if◌then◌else◌};
+ghost use Rattle.std.specs.Prelude.{◌≡◌, eqb, if◌then◌else◌};
 ghost use Rattle.basics.specs.Memory.{Put, Room};
 ghost use Rattle.listing.specs.Listing.{how_many, last_line};
 ghost use Rattle.listing.specs.Inner.{Sized};
@@ -20,31 +20,24 @@ pub struct Tally {
 pub fn same(x: u8, y: u8) -> u64
     ensures { result ≡ (if eqb x y then 1 else 0) }
 {
-    if x == y { 1 } else { 0 }
+    u64::from(x == y)
 }
 
 // How many answers have a number.
 fn count_of(answers: &[u8], a: u8) -> u64
-    requires { length answers.now ≤ 65535 }
     ensures { result ≡ how_many answers.now a }
 {
-    let mut k: u64 = 0;
-    let mut i: usize = 0;
-    while i < answers.len() {
-        k += same(answers[i], a);
-        i += 1;
-    }
-    k
+    answers.iter().filter(|b| **b == a).count() as u64
 }
 
 pub fn count_answers(answers: &[u8]) -> Tally
-    requires { length answers.now ≤ 65535 }
     ensures { Tallied answers.now result }
 {
-    let yes = count_of(answers, 1);
-    let no = count_of(answers, 0);
-    let unknown = count_of(answers, 2);
-    Tally { yes, no, unknown }
+    Tally {
+        yes: count_of(answers, 1),
+        no: count_of(answers, 0),
+        unknown: count_of(answers, 2),
+    }
 }
 
 // The length of the last line.

@@ -12,7 +12,7 @@ use Rattle.basics.proofs.Stores.{Writing}
 use Rattle.columns.specs.Passes.{Counted}
 use Rattle.state_columns.proofs.Overs.{front_ahead}
 pub use Rattle.state_columns.proofs.Overs.{writing_ahead, front_ahead, over_length, over_inside, over_before}
-pub use Rattle.state_columns.proofs.Overs.{over_behind, front_inside, over_end}
+pub use Rattle.state_columns.proofs.Overs.{over_behind, front_inside, over_end, over_filled}
 
 -- one more try fits an entry
 pub tried_fits : {tries₀ : List ℕ} {n : ℕ} {best w tries : List ℕ} {i : ℕ} → Writing tries₀ 0 w tries i

@@ -4,18 +4,12 @@ ghost use Rattle.basics.specs.Words.{count};
 ghost use Rattle.alf.specs.Windows.{numbered};
 ghost use Rattle.columns.specs.Passes.{Over, Pass, PassTo, PassFrom, TriesTo, Counted};
 
-use states::edges::{greater, lesser};
-
 // The first n entries become v.
 pub fn put(a: &mut [u8], n: usize, v: u8)
     requires { n ≤ length a.old }
     ensures { Over a.old 0 n (λ i. v) a.new }
 {
-    let mut i: usize = 0;
-    while i < n {
-        a[i] = v;
-        i += 1;
-    }
+    a[..n].fill(v);
 }
 
 // The first n entries become the lesser of themselves and of those of a column, which starts at o.
@@ -24,10 +18,8 @@ pub fn meet(acc: &mut [u8], n: usize, cols: &[u8], o: usize)
     ensures { Over acc.old 0 n
         (λ i. min (get_or acc.old i 0) (get_or cols.now (o + i) 0)) acc.new }
 {
-    let mut i: usize = 0;
-    while i < n {
-        acc[i] = lesser(acc[i], cols[o + i]);
-        i += 1;
+    for i in 0..n {
+        acc[i] = acc[i].min(cols[o + i]);
     }
 }
 
@@ -37,10 +29,8 @@ pub fn join(best: &mut [u8], n: usize, acc: &[u8])
     ensures { Over best.old 0 n
         (λ i. max (get_or best.old i 0) (get_or acc.now i 0)) best.new }
 {
-    let mut i: usize = 0;
-    while i < n {
-        best[i] = greater(best[i], acc[i]);
-        i += 1;
+    for i in 0..n {
+        best[i] = best[i].max(acc[i]);
     }
 }
 
@@ -58,10 +48,8 @@ pub fn try_open(tries: &mut [u8], n: usize, best: &[u8])
         (λ i. get_or tries.old i 0 + (if eqb (get_or best.now i 0) 2 then 0 else 1))
         tries.new }
 {
-    let mut i: usize = 0;
-    while i < n {
+    for i in 0..n {
         tries[i] += open(best[i]);
-        i += 1;
     }
 }
 
@@ -72,25 +60,16 @@ fn same(x: u8, y: u8) -> u8
     if x == y { 1 } else { 0 }
 }
 
-// How many of the n entries from `from` on are v: few enough for a byte, so that many are compared at once.
-fn tally_few(a: &[u8; 1024], from: usize, n: usize, v: u8) -> u8
-    requires { (n ≤ 128) × (from + n ≤ 1024) }
-    ensures { result ≡ count n (λ i. eqb (get_or a.now (from + i) 0) v) }
+// How many entries are v: few enough for a byte, so that many are compared at once.
+fn tally_few(a: &[u8], v: u8) -> u8
+    requires { length a.now ≤ 128 }
+    ensures { result ≡ count (length a.now) (λ i. eqb (get_or a.now i 0) v) }
 {
     let mut c: u8 = 0;
-    let mut i: usize = 0;
-    while i < n {
-        c += same(a[from + i], v);
-        i += 1;
+    for x in a {
+        c += same(*x, v);
     }
     c
-}
-
-// The next part of n entries: 128 of them, or all.
-fn next_part(n: usize) -> usize
-    ensures { result ≡ min n 128 }
-{
-    if n < 128 { n } else { 128 }
 }
 
 // How many of the first n entries are v.
@@ -99,11 +78,8 @@ pub fn tally(a: &[u8; 1024], n: usize, v: u8) -> u32
     ensures { result ≡ count n (λ i. eqb (get_or a.now i 0) v) }
 {
     let mut c: u32 = 0;
-    let mut i: usize = 0;
-    while i < n {
-        let m = next_part(n - i);
-        c += tally_few(a, i, m, v) as u32;
-        i += m;
+    for part in a[..n].chunks(128) {
+        c += tally_few(part, v) as u32;
     }
     c
 }
@@ -125,10 +101,8 @@ pub fn put_numbers(best: &[u8; 1024], n: usize, answers: &mut [u8], at: usize)
     ensures { Over answers.old at n (λ i. numbered (get_or best.now i 0))
         answers.new }
 {
-    let mut i: usize = 0;
-    while i < n {
+    for i in 0..n {
         answers[at + i] = number(best[i]);
-        i += 1;
     }
 }
 
@@ -138,9 +112,7 @@ pub fn put_tries(tries: &[u8; 1024], n: usize, tried: &mut [u32], at: usize)
     ensures { Over tried.old at n (λ i. get_or tries.now i 0)
         tried.new }
 {
-    let mut i: usize = 0;
-    while i < n {
+    for i in 0..n {
         tried[at + i] = tries[i] as u32;
-        i += 1;
     }
 }

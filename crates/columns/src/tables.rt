@@ -10,12 +10,10 @@ fn put_table(k: u8, tables: &mut [u8], base: usize)
     requires { base + 64 ≤ length tables.old }
     ensures { Over tables.old base 64 (table_at k) tables.new }
 {
-    let mut q: usize = 0;
-    while q < 64 {
+    for q in 0..64 {
         let x = (q / 8) as u8;
         let y = (q % 8) as u8;
         tables[base + q] = edge_on(k, x, y);
-        q += 1;
     }
 }
 
@@ -24,9 +22,7 @@ pub fn put_tables(edges: &[u8], n: usize, tables: &mut [u8])
     requires { TablesAsked edges.now n tables.old }
     ensures { Tables edges.now n tables.new }
 {
-    let mut c: usize = 0;
-    while c < n {
+    for c in 0..n {
         put_table(edges[c], tables, c * 64);
-        c += 1;
     }
 }

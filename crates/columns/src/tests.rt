@@ -24,13 +24,11 @@ fn ask_name(
 {
     let mut p = at;
     let mut before = states[at] as usize;
-    let mut i: usize = 0;
-    while i < n {
+    for i in 0..n {
         p += names;
         let after = states[p] as usize;
         cols[o + i] = tables[base + (8 * before + after)];
         before = after;
-        i += 1;
     }
 }
 
@@ -41,12 +39,10 @@ fn ask_spelt(tables: &[u8], base: usize, spelt: &[u8; 5205], n: usize, cols: &mu
         (looked_at tables.now base (λ i. get_or spelt.now i 0)) cols.new }
 {
     let mut before = spelt[0] as usize;
-    let mut i: usize = 0;
-    while i < n {
+    for i in 0..n {
         let after = spelt[i + 1] as usize;
         cols[o + i] = tables[base + (8 * before + after)];
         before = after;
-        i += 1;
     }
 }
 
@@ -119,8 +115,7 @@ pub fn put_columns(
     ensures { Columns rules tree.now names states.now ends.now many lo n
         tables.now cols.new }
 {
-    let mut c: usize = 0;
-    while c < many {
+    for c in 0..many {
         let end = ends[c] as usize;
         put_column(
             rules,
@@ -135,6 +130,5 @@ pub fn put_columns(
             cols,
             c * 1040,
         );
-        c += 1;
     }
 }

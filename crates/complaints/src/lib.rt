@@ -9,11 +9,6 @@ use basics::Refusal;
 use console::output::{Console, complain, note, note_number};
 use text_parts::parts::part;
 
-// Line k of a table of words.
-fn note_line(console: &Console, words: &[u8], k: usize) {
-    note(console, part(words, k, b'\n'));
-}
-
 // What a number of document 01's table says; line 0 is for a number that is none of them.
 fn reason(console: &Console, number: u8) {
     let words = b"refused
@@ -37,11 +32,8 @@ bytes after the end
 lists that do not fit each other, or too few or too many names or rows
 no such row
 ";
-    if number < 20 {
-        note_line(console, words, number as usize);
-    } else {
-        note_line(console, words, 0);
-    }
+    let line = if number < 20 { number } else { 0 };
+    note(console, part(words, line as usize, b'\n'));
 }
 
 fn begin_refused(console: &Console, what: &[u8]) {
@@ -78,23 +70,14 @@ fn note_byte(console: &Console, b: u8) {
 
 // A byte in a line: a control byte is a space, but for a tab where tabs stay.
 fn note_shown(console: &Console, b: u8, tabs: bool) {
-    if tabs {
-        if b == b'\t' {
-            return note_byte(console, b);
-        }
-    }
-    if b < b' ' {
-        return note_byte(console, b' ');
-    }
-    note_byte(console, b);
+    let stays = b' ' <= b || tabs && b == b'\t';
+    note_byte(console, if stays { b } else { b' ' });
 }
 
 // Below a byte: a tab below a tab, and nothing below a byte that goes on a character; else the mark.
 fn note_below(console: &Console, b: u8, mark: u8) {
-    if b == b'\t' {
-        return note_byte(console, b);
-    }
     match b {
+        b'\t' => note_byte(console, b),
         128..=191 => {}
         _ => note_byte(console, mark),
     }
@@ -102,38 +85,31 @@ fn note_below(console: &Console, b: u8, mark: u8) {
 
 // A text in one line.
 fn note_text(console: &Console, text: &[u8], tabs: bool) {
-    let mut i: usize = 0;
-    while i < text.len() {
-        note_shown(console, text[i], tabs);
-        i += 1;
+    for b in text {
+        note_shown(console, *b, tabs);
     }
 }
 
 // The same mark below each character of a text.
 fn mark_below(console: &Console, text: &[u8], mark: u8) {
-    let mut i: usize = 0;
-    while i < text.len() {
-        note_below(console, text[i], mark);
-        i += 1;
+    for b in text {
+        note_below(console, *b, mark);
     }
 }
 
 // Below the bytes refused, the first of which has its caret already.
 fn mark_rest(console: &Console, behind: &[u8], extent: usize) {
-    if extent == 0 {
-        return;
-    }
-    if extent <= behind.len() {
-        mark_below(console, &behind[1..extent], b'~');
+    if let Some(rest) = behind.get(1..extent) {
+        mark_below(console, rest, b'~');
     }
 }
 
 // A caret below a byte of the text, or behind its end, and the bytes refused underlined.
 fn note_caret(console: &Console, text: &[u8], place: usize, extent: usize) {
-    if place <= text.len() {
-        mark_below(console, &text[0..place], b' ');
+    if let Some((before, behind)) = text.split_at_checked(place) {
+        mark_below(console, before, b' ');
         note(console, b"^");
-        mark_rest(console, &text[place..], extent);
+        mark_rest(console, behind, extent);
     }
 }
 
@@ -166,11 +142,11 @@ pub fn unknown(console: &Console, word: &[u8]) {
     see_help(console);
 }
 
-// A command with other words than it expects, which are line k of a table.
-pub fn unfit(console: &Console, name: &[u8], words: &[u8], k: usize) {
+// A command with other words than it expects.
+pub fn unfit(console: &Console, name: &[u8], expected: &[u8]) {
     complain(console);
     note(console, name);
     note(console, b": expects ");
-    note_line(console, words, k);
+    note(console, expected);
     see_help(console);
 }

@@ -3,7 +3,8 @@ use std::cell::Cell;
 use std::fmt;
 use std::fmt::Write;
 use std::io::{Error, ErrorKind, Stderr, Stdout};
-use text_parts::parts::{find, front};
+use text_parts::parts::front;
+use text_parts::puts::put;
 
 // EBADF: the descriptor is closed.
 pub const CLOSED: i32 = 9;
@@ -41,7 +42,7 @@ impl Console {
         if self.unread.get() {
             return UNREAD;
         }
-        if self.complained.get() { 1 } else { 0 }
+        u8::from(self.complained.get())
     }
 
     // Whether standard output or error is a pipe that nobody reads. The program is at its end then: nothing more is
@@ -69,9 +70,8 @@ pub fn say(console: &Console, text: &[u8]) {
     if console.lost.get() {
         return;
     }
-    match console.out.write_all(text) {
-        Ok(()) => {}
-        Err(e) => lost(console, &e),
+    if let Err(e) = console.out.write_all(text) {
+        lost(console, &e);
     }
 }
 
@@ -89,19 +89,15 @@ fn lost(console: &Console, e: &Error) {
 
 // Whether an error says that the descriptor is closed.
 pub fn is_of_closed(e: &Error) -> bool {
-    match e.raw_os_error() {
-        Some(code) => code == CLOSED,
-        None => false,
-    }
+    e.raw_os_error() == Some(CLOSED)
 }
 
 pub fn note(console: &Console, text: &[u8]) {
     if console.is_unread() {
         return;
     }
-    match console.err.write_all(text) {
-        Ok(()) => {}
-        Err(e) => untold(console, &e),
+    if let Err(e) = console.err.write_all(text) {
+        untold(console, &e);
     }
 }
 
@@ -109,9 +105,8 @@ pub fn note_number(console: &Console, n: usize) {
     if console.is_unread() {
         return;
     }
-    match console.err.print(n) {
-        Ok(()) => {}
-        Err(e) => untold(console, &e),
+    if let Err(e) = console.err.print(n) {
+        untold(console, &e);
     }
 }
 
@@ -141,35 +136,19 @@ struct Message {
     length: usize,
 }
 
-impl Message {
-    fn push(&mut self, b: u8) {
-        let at = self.length;
-        if at < 256 {
-            self.bytes[at] = b;
-            self.length = at + 1;
-        }
-    }
-}
-
 impl fmt::Write for Message {
     fn write_str(&mut self, s: &str) -> fmt::Result {
-        let bytes = s.as_bytes().iter();
-        for b in bytes {
-            self.push(*b);
-        }
+        self.length = put(&mut self.bytes, self.length, s.as_bytes());
         Ok(())
     }
 }
 
 // The system's words, without the number that stands in brackets behind them.
 fn words_of(message: &[u8]) -> &[u8] {
-    let end = find(message, 0, b'(');
-    if end < message.len() {
-        if 0 < end {
-            return &message[0..end - 1];
-        }
+    match message.iter().position(|b| *b == b'(') {
+        Some(end) if 0 < end => &message[..end - 1],
+        _ => message,
     }
-    message
 }
 
 fn note_error(console: &Console, e: &Error) {
@@ -205,9 +184,8 @@ pub fn short(console: &Console) {
 
 // The first n bytes.
 pub fn say_front(console: &Console, text: &[u8], n: usize) {
-    if text.len() < n {
-        short(console);
-        return;
+    match text.get(..n) {
+        Some(first) => say(console, first),
+        None => short(console),
     }
-    say(console, &text[0..n]);
 }

@@ -30,13 +30,12 @@ fn fill<R: Files>(
 
 fn save_as<R: Files>(rt: &R, console: &Console, path: &str, part: &str, data: &[u8]) {
     match create(rt, part) {
-        Ok(file) => match fill(rt, path, part, file, data) {
-            Ok(()) => {}
-            Err(e) => {
+        Ok(file) => {
+            if let Err(e) = fill(rt, path, part, file, data) {
                 failed(console, path.as_bytes(), &e);
                 let _ = fs::remove_file(rt, part);
             }
-        },
+        }
         Err(e) => failed(console, part.as_bytes(), &e),
     }
 }
@@ -50,30 +49,20 @@ fn save_in<R: Files>(rt: &R, console: &Console, path: &[u8], part: &[u8], data: 
 }
 
 // The name beside it: `.part` behind the name.
-fn save_beside<R: Files>(rt: &R, console: &Console, path: &[u8], name: &mut [u8], data: &[u8]) {
-    let p = put(name, 0, path);
-    let n = put(name, p, b".part");
-    save_in(rt, console, path, front(name, n), data);
-}
-
-fn save_named<R: Files>(
-    rt: &R,
-    console: &Console,
-    path: &[u8],
-    name: &mut [u8; 4096],
-    data: &[u8],
-) {
-    save_beside(rt, console, path, name, data);
+fn save_beside<R: Files>(rt: &R, console: &Console, path: &[u8], data: &[u8]) {
+    let mut name = [0u8; 4096];
+    let p = put(&mut name, 0, path);
+    let n = put(&mut name, p, b".part");
+    save_in(rt, console, path, front(&name, n), data);
 }
 
 // `-` is standard output.
 fn save<R: Files>(rt: &R, console: &Console, path: &[u8], data: &[u8]) {
-    if check::same(path, b"-") {
+    if path == b"-".as_slice() {
         say(console, data);
         return;
     }
-    let mut name = [0u8; 4096];
-    save_named(rt, console, path, &mut name, data);
+    save_beside(rt, console, path, data);
 }
 
 // The first n bytes.
@@ -81,9 +70,8 @@ pub fn save_front<R: Files>(rt: &R, console: &Console, path: &[u8], data: &[u8],
     if console.is_unread() {
         return;
     }
-    if data.len() < n {
-        short(console);
-        return;
+    match data.get(..n) {
+        Some(first) => save(rt, console, path, first),
+        None => short(console),
     }
-    save(rt, console, path, &data[0..n]);
 }

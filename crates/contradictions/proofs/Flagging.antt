@@ -1,15 +1,20 @@
 -- The flags of all alternatives, quantifier by quantifier.
 --   row_no, row_both                     the literals of a row, by the step that leads to it and the one that leads on
+--   any_below                            `any` over the numbers below n
 --   possible_is, contradictory_is        as `some` of a test
+--   flag_from                            `u8::from` of a bool is its flag
 --   Flagging, flagging_first, -rows, -next, -end     the flags, one alternative after the other
-use Prim.Native.Nat.{ℕ, suc, ◌+◌, ◌<◌, ◌≤◌}
+use Prim.Native.Nat.{ℕ, zero, suc, ◌+◌, ◌<◌, ◌≤◌}
 use native.Mathlib.Omega.{arith}
+use native.Mathlib.Nat.{add-zero}
 use native.Mathlib.Numerals.{add-one}
-use mathlib.Core.Path.{◌≡◌, refl, ap, sym, ◌∙◌}
-use mathlib.Core.Bool.{Bool, true, false, not, ◌&&◌}
+use mathlib.Core.Path.{◌≡◌, refl, ap, sym, ◌∙◌, fun_ext}
+use mathlib.Core.Bool.{Bool, true, false, not, ◌&&◌, ◌||◌}
 use mathlib.Core.List.{List, [], ◌∷◌, map}
 use lib.ListN.{length, get_or, take, drop, set, length-map}
 use lib.Seq.{drop-cons}
+use mir.Val.{bool_byte}
+use Rattle.std.specs.List.{list_any, range_with_len}
 use Rattle.basics.specs.Words.{some}
 use Rattle.alf.specs.Expressions.{Half}
 use Rattle.alf.specs.Alternatives.{Test, Alternative, halves, first, second, possible, contradictory}
@@ -49,6 +54,38 @@ module _ (all : List Test) (t b n name s : ℕ) {r : Bool}
       go true d f = k ∙ sym (both ∙ rw (sym d) refl)
       go false d f = never (sym f)
 
+-- `any` over the numbers below n
+or_no : (p : Bool) → (false || p) ≡ (p || false)
+or_no true = refl
+or_no false = refl
+
+or_assoc : (p q r : Bool) → ((p || q) || r) ≡ (p || (q || r))
+or_assoc true q r = refl
+or_assoc false q r = refl
+
+from_zero : (i : ℕ) → 0 + i ≡ i
+from_zero i = omega arith
+
+next_below : (a i : ℕ) → a + 1 + i ≡ a + suc i
+next_below a i = omega arith
+
+some_head : (n : ℕ) (p : ℕ → Bool) → some (suc n) p ≡ (p 0 || some n (λ i. p (suc i)))
+unfolding some
+some_head zero p = or_no (p 0)
+some_head (suc n) p =
+    ap (λ (b : Bool). b || p (suc n)) (some_head n p) ∙ or_assoc (p 0) (some n (λ i. p (suc i))) (p (suc n))
+
+any_from : (p : ℕ → Bool) (a n : ℕ) → list_any p (range_with_len a n) ≡ some n (λ i. p (a + i))
+unfolding some
+any_from p a zero = refl
+any_from p a (suc n) =
+    ap (λ (b : Bool). p a || b)
+    (any_from p (a + 1) n ∙ ap (some n) (fun_ext (λ i. ap p (next_below a i))))
+    ∙ sym (some_head n (λ i. p (a + i)) ∙ ap (λ (k : ℕ). p k || some n (λ i. p (a + suc i))) (add-zero a))
+
+pub any_below : (p : ℕ → Bool) (n : ℕ) → list_any p (range_with_len 0 n) ≡ some n p
+any_below p n = any_from p 0 n ∙ ap (some n) (fun_ext (λ i. ap p (from_zero i)))
+
 pub possible_is : (hs : List Half) → some 8 (allowed hs) ≡ possible hs
 unfolding possible allowed
 possible_is hs = refl
@@ -56,6 +93,11 @@ possible_is hs = refl
 pub contradictory_is : (names : ℕ) (x : Alternative) → some names (impossible x) ≡ contradictory names x
 unfolding contradictory impossible
 contradictory_is names x = refl
+
+pub flag_from : (b : Bool) → bool_byte b ≡ flag_of b
+unfolding flag_of
+flag_from true = refl
+flag_from false = refl
 
 -- the flags
 abbrev flag_for : ℕ → Alternative → ℕ

@@ -1,15 +1,13 @@
 -- The report of contradictory alternatives as a call: 18, 10, 9, or a flag for each alternative.
 --   own_at, flag_order     the alternatives of a tree's expression; 9 for a short list of flags
---   Contradicts, Reports, Flaggable     the call, its end for an accepted tree, what setting the flags asks
-use Rattle.std.specs.Prelude.{ℕ, ◌≤◌, ◌≡◌, List, [], ◌∷◌, length}
-use Rattle.basics.specs.declared.Outcome.{Outcome}
+--   Contradicts, Reports     the call, its end for an accepted tree
+use Rattle.std.specs.Prelude.{ℕ, ◌≡◌, List, [], ◌∷◌, length}
+use Rattle.basics.specs.Refusing.{Outcome}
 use Rattle.alf.specs.Alternatives.{Alternative, alternatives}
 use Rattle.alf.specs.Steady.{meant}
 use Rattle.alf.specs.declared.Rules.{Rules}
 use Rattle.alf.specs.Refusals.{Order, check, no_room, Comes}
 use Rattle.trees.specs.Parts.{vector_at}
-use Rattle.rewriting.specs.declared.lists.Alternatives.{Alternatives}
-use Rattle.rewriting.specs.Lists.{Holds}
 use Rattle.contradictions.specs.Possible.{flag_list}
 use Rattle.rewriting_calls.specs.Calls.{tree_order}
 use Rattle.basics.specs.Memory.{after, front}
@@ -29,9 +27,3 @@ pub record Contradicts (ρ : Rules) (names : ℕ) (tree flags flags' : List ℕ)
   pub outcome : Comes (tree_order ρ names tree (flag_order names (own_at ρ tree names) flags))
       (λ k. k ≡ length (own_at ρ tree names)) r
   pub memory : flags' ≡ after (front (flag_list names (own_at ρ tree names)) flags) flags r
-
--- what is asked where the flags are set: the lists of the tree, over at most 32 names, and room
-pub record Flaggable (ρ : Rules) (names : ℕ) (tree : List ℕ) (a : Alternatives) (flags : List ℕ) : Type 0 where
-  pub holds : Holds ρ tree names a
-  pub few : names ≤ 32
-  pub room : a.count ≤ length flags

@@ -4,12 +4,14 @@
 --   side_of, allowed, row_literals, impossible    the literals of a row, and whether some state allows them
 --   flag_of, flag_list, Flagged                   the flags of all alternatives
 --   Plain, Literals, Row, Rows, Reported        what the functions ask, from one test to all alternatives
+--   LiteralsOn, RowOn, RowsOn, ReportedOn       the same of lists as code has them
 use Rattle.std.specs.Prelude.{ℕ, ◌+◌, ◌<◌, ◌≤◌, ◌≡◌, Bool, true, false, not, List, ◌++◌, map, eqb, length, drop}
 use Rattle.basics.specs.Words.{some, all}
 use Rattle.alf.specs.Expressions.{Half}
 use Rattle.alf.specs.Windows.{YES, asked}
 use Rattle.alf.specs.Alternatives.{Test, Alternative, first, second, literals_at, possible, contradictory}
 use Rattle.trees.specs.Parts.{EndsBoolean}
+use Rattle.alternatives.specs.declared.lists.Lists.{Lists}
 use Rattle.alternatives.specs.InMemory.{sum, Tests, Shape, step_in}
 use Rattle.basics.specs.Memory.{front}
 
@@ -69,3 +71,17 @@ pub record Reported (tree : List ℕ) (names : ℕ) (steps tests edges operands 
   pub shape : Shape tree names steps tests edges operands
   pub few : names ≤ 32
   pub room : length steps ≤ length flags
+
+-- the same of lists as code has them
+abbrev pub LiteralsOn : List ℕ → ℕ → Lists → ℕ → ℕ → ℕ → ℕ → Type 0
+LiteralsOn tree names l t n name s = Literals tree names l.edges.now l.operands.now t n name s
+
+abbrev pub RowOn : List ℕ → ℕ → Lists → ℕ → ℕ → ℕ → ℕ → Type 0
+RowOn tree names l t b n name = Row tree names l.edges.now l.operands.now t b n name
+
+abbrev pub RowsOn : List ℕ → ℕ → Lists → ℕ → ℕ → ℕ → Type 0
+RowsOn tree names l s n t = Rows tree names l.tests.now l.edges.now l.operands.now s n t
+
+abbrev pub ReportedOn : List ℕ → ℕ → Lists → List ℕ → Type 0
+ReportedOn tree names l flags =
+    Reported tree names l.steps.now l.tests.now l.edges.now l.operands.now flags

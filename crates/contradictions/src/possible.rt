@@ -2,10 +2,12 @@
 // literals asked there of the name itself. A function for each quantifier: tests, states, rows, names, alternatives.
 ghost use Rattle.std.specs.Prelude.{◌≡◌, [], ◌∷◌, ◌<◌, ◌≤◌};
 ghost use Rattle.alf.specs.Alternatives.{halves, possible, contradictory};
-ghost use Rattle.alternatives.specs.InMemory.{test_of, tests_of, step_in, alternative_in, alternatives_of_lem};
-ghost use Rattle.contradictions.specs.Possible.{side_of, allowed, row_literals, impossible, flag_of};
-ghost use Rattle.contradictions.specs.Possible.{Plain, Literals, Row, Rows, Reported, Flagged};
+ghost use Rattle.alternatives.specs.InMemory.{test_of, step_in, alternative_in};
+ghost use Rattle.alternatives.specs.Listed.{tests_listed, alternatives_listed};
+ghost use Rattle.contradictions.specs.Possible.{side_of, allowed, row_literals, impossible};
+ghost use Rattle.contradictions.specs.Possible.{Plain, LiteralsOn, RowOn, RowsOn, ReportedOn, Flagged};
 
+use alternatives::lists::Lists;
 use alternatives::walking::pass;
 use states::edges::ask;
 
@@ -42,26 +44,23 @@ fn test_allows(
 fn step_allows(
     tree: &[u8],
     names: usize,
-    edges: &[u8],
-    operands: &[u16],
+    lists: &Lists,
     t: usize,
     n: usize,
     later: bool,
     name: usize,
     s: u8,
 ) -> bool
-    requires { Literals tree.now names edges.now operands.now t n name s }
+    requires { LiteralsOn tree.now names lists.now t n name s }
     ensures { result ≡ allowed (halves (side_of later) name
-        (step_in (tests_of tree.now names edges.now operands.now) t n)) s }
+        (step_in (tests_listed tree.now names lists.now) t n)) s }
 {
-    let mut i: usize = 0;
-    while i < n {
-        let k = edges[t + i];
-        let end = operands[t + i] as usize;
+    for i in 0..n {
+        let k = lists.edges[t + i];
+        let end = lists.operands[t + i] as usize;
         if !test_allows(tree, names, k, end, later, name, s) {
             return false;
         }
-        i += 1;
     }
     true
 }
@@ -71,134 +70,85 @@ fn step_allows(
 fn row_allows(
     tree: &[u8],
     names: usize,
-    edges: &[u8],
-    operands: &[u16],
+    lists: &Lists,
     t: usize,
     b: usize,
     n: usize,
     name: usize,
     s: u8,
 ) -> bool
-    requires { Row tree.now names edges.now operands.now t b n name × (s < 8) }
+    requires { RowOn tree.now names lists.now t b n name × (s < 8) }
     ensures { result ≡ allowed (row_literals
-        (tests_of tree.now names edges.now operands.now) t b n name) s }
+        (tests_listed tree.now names lists.now) t b n name) s }
 {
-    if !step_allows(tree, names, edges, operands, t, b, true, name, s) {
-        return false;
-    }
-    step_allows(tree, names, edges, operands, t + b, n, false, name, s)
+    step_allows(tree, names, lists, t, b, true, name, s)
+        && step_allows(tree, names, lists, t + b, n, false, name, s)
 }
 
 // Whether some state does.
 fn row_possible(
     tree: &[u8],
     names: usize,
-    edges: &[u8],
-    operands: &[u16],
+    lists: &Lists,
     t: usize,
     b: usize,
     n: usize,
     name: usize,
 ) -> bool
-    requires { Row tree.now names edges.now operands.now t b n name }
+    requires { RowOn tree.now names lists.now t b n name }
     ensures { result ≡ possible (row_literals
-        (tests_of tree.now names edges.now operands.now) t b n name) }
+        (tests_listed tree.now names lists.now) t b n name) }
 {
-    let mut s: u8 = 0;
-    while s < 8 {
-        if row_allows(tree, names, edges, operands, t, b, n, name, s) {
-            return true;
-        }
-        s += 1;
-    }
-    false
+    (0..8).any(|s| row_allows(tree, names, lists, t, b, n, name, s))
 }
 
 // Whether a name has no possible state at some row of the n steps from step s on, whose tests start at t.
 fn name_impossible(
     tree: &[u8],
     names: usize,
-    tests: &[u8],
-    edges: &[u8],
-    operands: &[u16],
+    lists: &Lists,
     s: usize,
     n: usize,
     t: usize,
     name: usize,
 ) -> bool
-    requires { Rows tree.now names tests.now edges.now operands.now s n t × (name < 32) }
-    ensures { result ≡ impossible (alternative_in tests.now
-        (tests_of tree.now names edges.now operands.now) s t n) name }
+    requires { RowsOn tree.now names lists.now s n t × (name < 32) }
+    ensures { result ≡ impossible (alternative_in lists.now.tests.now
+        (tests_listed tree.now names lists.now) s t n) name }
 {
     let mut at = t;
     let mut before: usize = 0;
-    let mut j: usize = 0;
-    while j < n {
-        let many = tests[s + j] as usize;
-        if !row_possible(tree, names, edges, operands, at, before, many, name) {
+    for j in 0..n {
+        let many = lists.tests[s + j] as usize;
+        if !row_possible(tree, names, lists, at, before, many, name) {
             return true;
         }
         at += before;
         before = many;
-        j += 1;
     }
-    !row_possible(tree, names, edges, operands, at, before, 0, name)
+    !row_possible(tree, names, lists, at, before, 0, name)
 }
 
 // Whether these steps are contradictory.
-fn contradicts(
-    tree: &[u8],
-    names: usize,
-    tests: &[u8],
-    edges: &[u8],
-    operands: &[u16],
-    s: usize,
-    n: usize,
-    t: usize,
-) -> bool
-    requires { Rows tree.now names tests.now edges.now operands.now s n t × (names ≤ 32) }
-    ensures { result ≡ contradictory names (alternative_in tests.now
-        (tests_of tree.now names edges.now operands.now) s t n) }
+fn contradicts(tree: &[u8], names: usize, lists: &Lists, s: usize, n: usize, t: usize) -> bool
+    requires { RowsOn tree.now names lists.now s n t × (names ≤ 32) }
+    ensures { result ≡ contradictory names (alternative_in lists.now.tests.now
+        (tests_listed tree.now names lists.now) s t n) }
 {
-    let mut name: usize = 0;
-    while name < names {
-        if name_impossible(tree, names, tests, edges, operands, s, n, t, name) {
-            return true;
-        }
-        name += 1;
-    }
-    false
-}
-
-fn flag(b: bool) -> u8
-    ensures { result ≡ flag_of b }
-{
-    if b { 1 } else { 0 }
+    (0..names).any(|name| name_impossible(tree, names, lists, s, n, t, name))
 }
 
 // A flag for each alternative: 1 where it is contradictory, else 0.
-pub fn flag_all(
-    tree: &[u8],
-    names: usize,
-    steps: &[u8],
-    tests: &[u8],
-    edges: &[u8],
-    operands: &[u16],
-    flags: &mut [u8],
-)
-    requires { Reported tree.now names steps.now tests.now edges.now operands.now flags.old }
-    ensures { Flagged names (alternatives_of_lem tree.now names steps.now
-        tests.now
-        edges.now operands.now) flags.old flags.new }
+pub fn flag_all(tree: &[u8], names: usize, lists: &Lists, flags: &mut [u8])
+    requires { ReportedOn tree.now names lists.now flags.old }
+    ensures { Flagged names (alternatives_listed tree.now names lists.now) flags.old flags.new }
 {
     let mut s: usize = 0;
     let mut t: usize = 0;
-    let mut k: usize = 0;
-    while k < steps.len() {
-        let n = steps[k] as usize;
-        flags[k] = flag(contradicts(tree, names, tests, edges, operands, s, n, t));
-        t = pass(tests, s, n, t);
+    for k in 0..lists.steps.len() {
+        let n = lists.steps[k] as usize;
+        flags[k] = u8::from(contradicts(tree, names, lists, s, n, t));
+        t = pass(lists.tests, s, n, t);
         s += n;
-        k += 1;
     }
 }

@@ -3,7 +3,7 @@
 #![tactic(auto)]
 
 use alf::RowNo;
-use basics::{Outcome, Refusal};
+use basics::Refusal;
 use complaints::{refused, refused_for};
 use console::output::Console;
 use letter_corrections::correcting::{correct_letters, row_number};
@@ -16,10 +16,7 @@ fn asked_row<R: Env>(rt: &R) -> RowNo {
     let mut word = [0u8; 4096];
     let n = arg(rt, 3, &mut word);
     let r = row_number(&word[..n]);
-    if r < 65536 {
-        return RowNo(r as u32);
-    }
-    RowNo(65536)
+    RowNo(r.min(65536) as u32)
 }
 
 // What came of it: the corrected trace is written, or it is said why not.
@@ -29,11 +26,11 @@ fn finish<R: Env + Files>(
     names: &[u8],
     times: &[u64],
     states: &[u8],
-    o: Outcome,
+    o: Result<usize, Refusal>,
 ) {
     match o {
-        Outcome::Done(_) => write_to(rt, console, 5, names, times, states),
-        Outcome::Refused(r) => complain_of(console, r),
+        Ok(_) => write_to(rt, console, 5, names, times, states),
+        Err(r) => complain_of(console, r),
     }
 }
 

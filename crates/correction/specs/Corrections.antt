@@ -1,12 +1,15 @@
 -- Document 01, "A correction stores the new states as row r": what is asked and promised.
 --   RewriteAsked, CorrectionAsked, Reaching     what is asked
 --   Corrects                                    what is promised
+--   RewriteAskedOn, CorrectionAskedOn           what is asked of lists as code has them
 use Rattle.std.specs.Prelude.{ℕ, ◌+◌, ◌-◌, ◌<◌, ◌≤◌, ◌≡◌, List, length}
 use Rattle.alf.specs.declared.Rules.{Rules}
 use Rattle.alf.specs.Values.{state_at}
 use Rattle.alf.specs.Alternatives.{Alternative, answer_of}
 use Rattle.alf.specs.Traces.{corrected, last_rewritten}
 use Rattle.states.specs.FirstBadCode.{Codes}
+use Rattle.alternatives.specs.declared.lists.Lists.{Lists}
+use Rattle.matcher.specs.declared.scenes.Scene.{Scene}
 use Rattle.matcher.specs.Tables.{RowsAsked}
 use Rattle.basics.specs.Words.{listed}
 use Rattle.basics.specs.Memory.{placed}
@@ -42,3 +45,12 @@ pub record Corrects (ρ : Rules) (names : ℕ) (xs : List Alternative) (n r : �
   pub rewritten : answers'
       ≡ placed answers r (listed r (last_rewritten (longest_of xs) n r + 1 - r)
       (answer_of (state_at ρ names (corrected names states r new)) xs))
+
+-- what is asked of a scene and lists
+abbrev pub RewriteAskedOn : Scene → Lists → ℕ → ℕ → ℕ → List ℕ → Type 0
+RewriteAskedOn x l n r m answers =
+    RewriteAsked x.tree.now x.names x.states.now l.steps.now l.tests.now l.edges.now l.operands.now n r m answers
+
+abbrev pub CorrectionAskedOn : List ℕ → ℕ → List ℕ → Lists → ℕ → ℕ → List ℕ → List ℕ → Type 0
+CorrectionAskedOn tree names states l n r answers new =
+    CorrectionAsked tree names states l.steps.now l.tests.now l.edges.now l.operands.now n r answers new

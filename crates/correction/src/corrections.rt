@@ -1,54 +1,30 @@
 // The correction of one row: the new states are stored, and the answers that depend on them are rewritten.
 ghost use Rattle.std.specs.Prelude.{◌≡◌, ◌+◌, ◌-◌};
 ghost use Rattle.alf.specs.Alternatives.{answer_of};
-ghost use Rattle.alf.specs.Values.{state_at};
 ghost use Rattle.alf.specs.Traces.{last_rewritten};
-ghost use Rattle.alternatives.specs.InMemory.{alternatives_of_lem};
+ghost use Rattle.alternatives.specs.Listed.{alternatives_listed};
 ghost use Rattle.basics.specs.Words.{listed};
+ghost use Rattle.matcher.specs.Scenes.{state_on, alternatives_on};
 ghost use Rattle.basics.specs.Memory.{placed};
-ghost use Rattle.correction.specs.Corrections.{Reaching, RewriteAsked, CorrectionAsked, Corrects};
+ghost use Rattle.correction.specs.Corrections.{Reaching, RewriteAskedOn, CorrectionAskedOn, Corrects};
 
 use alf::{RowNo, Rules};
+use alternatives::lists::Lists;
 use alternatives::walking::longest;
 use basics::puts::put;
+use matcher::scenes::Scene;
 use matcher::tables::number_at;
 
 // The answers of the m rows from r on.
-pub fn rewrite(
-    rules: Rules,
-    tree: &[u8],
-    names: usize,
-    states: &[u8],
-    steps: &[u8],
-    tests: &[u8],
-    edges: &[u8],
-    operands: &[u16],
-    n: usize,
-    r: usize,
-    m: usize,
-    answers: &mut [u8],
-)
-    requires { RewriteAsked tree.now names states.now steps.now tests.now edges.now operands.now n r m
+pub fn rewrite(scene: &Scene, lists: &Lists, n: usize, r: usize, m: usize, answers: &mut [u8])
+    requires { RewriteAskedOn scene.now lists.now n r m
         answers.old }
     ensures { answers.new ≡ placed answers.old r (listed r m
-        (answer_of (state_at rules names states.now)
-        (alternatives_of_lem tree.now names steps.now tests.now edges.now
-        operands.now))) }
+        (answer_of (state_on scene.now)
+        (alternatives_on scene.now lists.now))) }
 {
-    let mut i: usize = 0;
-    while i < m {
-        answers[r + i] = number_at(
-            rules,
-            tree,
-            names,
-            states,
-            steps,
-            tests,
-            edges,
-            operands,
-            r + i,
-        );
-        i += 1;
+    for i in 0..m {
+        answers[r + i] = number_at(scene, lists, r + i);
     }
 }
 
@@ -68,28 +44,27 @@ pub fn correct(
     rules: Rules,
     tree: &[u8],
     names: usize,
-    steps: &[u8],
-    tests: &[u8],
-    edges: &[u8],
-    operands: &[u16],
+    lists: &Lists,
     n: usize,
     states: &mut [u8],
     answers: &mut [u8],
     row: RowNo,
     new: &[u8],
 )
-    requires { CorrectionAsked tree.now names states.old steps.now tests.now edges.now operands.now n
+    requires { CorrectionAskedOn tree.now names states.old lists.now n
         row.0 answers.old new.now }
-    ensures { Corrects rules names (alternatives_of_lem tree.now names steps.now
-        tests.now
-        edges.now operands.now) n row.0 states.old answers.old
+    ensures { Corrects rules names (alternatives_listed tree.now names lists.now) n row.0 states.old answers.old
         new.now states.new answers.new }
 {
     let r = row.0 as usize;
     put(new, states, r * names);
-    let k = longest(steps) as usize;
+    let k = longest(lists.steps) as usize;
     let m = reached(k, n, r);
-    rewrite(
-        rules, tree, names, states, steps, tests, edges, operands, n, r, m, answers,
-    )
+    let scene = Scene {
+        rules,
+        tree,
+        names,
+        states,
+    };
+    rewrite(&scene, lists, n, r, m, answers)
 }

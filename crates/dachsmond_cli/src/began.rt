@@ -1,40 +1,28 @@
 // A command on a trace, by the words behind it. `list` may have the option `--began` there.
-use crate::words::expects;
+use crate::words::Task;
 use crate::{Asked, on_trace};
 use console::output::Console;
 use loading::arguments::arg;
 use std::rt::{Env, Files};
-use text_commands::{BEGAN, LIST};
-use text_parts::lines::line_of;
+use text_commands::Question;
 
 // Whether an argument is the option.
 fn is_began<R: Env>(rt: &R, at: usize) -> bool {
     let mut word = [0u8; 4096];
     let n = arg(rt, at, &mut word);
-    line_of(b"--began\n", &word[..n]) == 0
-}
-
-// The argument behind one of the first.
-fn behind(at: usize) -> usize {
-    if at < 8 { at + 1 } else { at }
+    &word[..n] == b"--began".as_slice()
 }
 
 // `list`, where the trace and the pattern stand behind the option.
 fn begin_began<R: Env + Files + Input>(rt: &R, console: &Console, a: Asked, more: usize) {
-    if expects(console, LIST, b"list --began", more) {
-        let rules = a.rules;
-        let trace = behind(a.trace);
-        let first = behind(a.first);
-        on_trace(
-            rt,
-            console,
-            Asked {
-                rules,
-                trace,
-                first,
-            },
-            BEGAN,
-        );
+    let task = Task::Ask(Question::Began);
+    if task.is_fit(console, b"list --began", more) {
+        let behind = Asked {
+            rules: a.rules,
+            trace: a.trace.saturating_add(1),
+            first: a.first.saturating_add(1),
+        };
+        on_trace(rt, console, behind, task);
     }
 }
 
@@ -43,19 +31,13 @@ pub fn begin<R: Env + Files + Input>(
     rt: &R,
     console: &Console,
     a: Asked,
-    c: usize,
+    task: Task,
     word: &[u8],
     more: usize,
 ) {
-    if c == LIST {
-        if 0 < more {
-            if is_began(rt, a.trace) {
-                begin_began(rt, console, a, more - 1);
-                return;
-            }
-        }
-    }
-    if expects(console, c, word, more) {
-        on_trace(rt, console, a, c);
+    if task == Task::Ask(Question::List) && 0 < more && is_began(rt, a.trace) {
+        begin_began(rt, console, a, more - 1);
+    } else if task.is_fit(console, word, more) {
+        on_trace(rt, console, a, task);
     }
 }

@@ -4,19 +4,17 @@
 
 mod began;
 mod blanked;
-mod lists;
 mod words;
 
 use crate::began::begin;
-use crate::blanked::blank_lent;
-use crate::lists::{codes_in, front_states, front_times};
-use crate::words::{help, named, option, ruled};
+use crate::blanked::blank_lists;
+use crate::words::{Command, Task, help, ruled};
 use alf::Rules;
 use complaints::{unfit, unknown};
 use console::output::{Console, say};
 use correct_command::correct;
 use loading::arguments::{arg, arg_count};
-use loading::traces::{Loaded, load};
+use loading::traces::load;
 use make_command::load_text;
 use show_command::show;
 use states::rules::old_rules;
@@ -24,30 +22,9 @@ use std::process::ExitCode;
 use std::rt::{Env, Files};
 use table_command::{first_look, table};
 use text_commands::answer;
-use text_parts::parts::front;
+use text_parts::parts::{front, front_mut};
+use trace_reader::Size;
 use trace_saving::write_to;
-
-// The commands by their number in `named`. `list` is 1 and `values` is 2, as `text_commands` has them.
-const TABLE: usize = 0;
-
-const BLANK: usize = 3;
-
-const REWRITE: usize = 4;
-
-const SHOW: usize = 5;
-
-const CORRECT: usize = 6;
-
-const MAKE: usize = 7;
-
-const VERSION: usize = 8;
-
-const NONE: usize = 12;
-
-// The options by their number in `option`.
-const EQUAL: usize = 0;
-
-const STEADY: usize = 1;
 
 // How a command is asked: the rules of reading and evaluation, the argument that names the trace, or the text for
 // `make`, and the first one behind it.
@@ -58,22 +35,25 @@ struct Asked {
     first: usize,
 }
 
-// A command on a trace; `list`, `values` and `rewrite` answer a text. `blank` is in a file of its own.
+// What is done with a trace. `blank` is in a file of its own.
 fn start<R: Env + Files + Input>(
     rt: &R,
     console: &Console,
     a: Asked,
-    c: usize,
+    task: Task,
     names: &[u8],
     times: &[u64],
     states: &mut [u8],
 ) {
-    match c {
-        TABLE => table(rt, console, a.rules, a.first, names, times.len(), states),
-        SHOW => show(console, names, times, states),
-        CORRECT => correct(rt, console, names, times, states),
-        MAKE => write_to(rt, console, a.first, names, times, states),
-        _ => answer(rt, console, a.rules, a.first, c, names, times, states),
+    match task {
+        Task::Table => table(rt, console, a.rules, a.first, names, times.len(), states),
+        Task::Ask(question) => answer(
+            rt, console, a.rules, a.first, question, names, times, states,
+        ),
+        Task::Show => show(console, names, times, states),
+        Task::Correct => correct(rt, console, names, times, states),
+        Task::Make => write_to(rt, console, a.first, names, times, states),
+        Task::Blank => {}
     }
 }
 
@@ -82,96 +62,70 @@ fn on_lists<R: Env + Files + Input>(
     rt: &R,
     console: &Console,
     a: Asked,
-    c: usize,
+    task: Task,
     names: &[u8],
     times: &[u64],
     states: &mut [u8],
-    k: usize,
-    n: usize,
+    size: Size,
 ) {
-    let l = front(names, codes_in(32, k));
-    let t = front_times(times, n);
-    let s = front_states(states, codes_in(n, k));
-    start(rt, console, a, c, l, t, s);
-}
-
-fn on_lent<R: Env + Files + Input>(
-    rt: &R,
-    console: &Console,
-    a: Asked,
-    c: usize,
-    names: &[u8; 1024],
-    times: &[u64; 65535],
-    states: &mut [u8; 2097120],
-    k: usize,
-    n: usize,
-) {
-    if 0 < k {
-        on_lists(rt, console, a, c, names, times, states, k, n);
-    }
+    let l = front(names, size.names.saturating_mul(32));
+    let t = front(times, size.rows);
+    let s = front_mut(states, size.rows.saturating_mul(size.names));
+    start(rt, console, a, task, l, t, s);
 }
 
 // The trace that argument i names: a text for `make`, and else a trace file.
 fn take_trace<R: Env + Files + Input>(
     rt: &R,
     console: &Console,
-    c: usize,
+    task: Task,
     i: usize,
     names: &mut [u8; 1024],
     times: &mut [u64; 65535],
     states: &mut [u8; 2097120],
-) -> Loaded {
-    if c == MAKE {
-        return load_text(rt, console, i, names, times, states);
+) -> Option<Size> {
+    match task {
+        Task::Make => load_text(rt, console, i, names, times, states),
+        _ => load(rt, console, i, names, times, states),
     }
-    load(rt, console, i, names, times, states)
 }
 
 // The trace is loaded once, whatever is asked of it.
-fn on_trace<R: Env + Files + Input>(rt: &R, console: &Console, a: Asked, c: usize) {
+fn on_trace<R: Env + Files + Input>(rt: &R, console: &Console, a: Asked, task: Task) {
     let mut names = [0u8; 1024];
     let mut times = [0u64; 65535];
     let mut states = [0u8; 2097120];
-    let l = take_trace(rt, console, c, a.trace, &mut names, &mut times, &mut states);
-    if c == BLANK {
-        blank_lent(rt, console, a, &names, &times, &mut states, l.names, l.rows);
-        return;
-    }
-    on_lent(
+    let Some(size) = take_trace(
         rt,
         console,
-        a,
-        c,
-        &names,
-        &times,
+        task,
+        a.trace,
+        &mut names,
+        &mut times,
         &mut states,
-        l.names,
-        l.rows,
-    );
+    ) else {
+        return;
+    };
+    let (n, t, s) = (names.as_slice(), times.as_slice(), states.as_mut_slice());
+    match task {
+        Task::Blank => blank_lists(rt, console, a, n, t, s, size),
+        _ => on_lists(rt, console, a, task, n, t, s, size),
+    }
 }
 
 // The command, and how many words stand behind it.
 fn run<R: Env + Files + Input>(rt: &R, console: &Console, word: &[u8], more: usize) {
-    let c = named(word);
-    if NONE <= c {
-        unknown(console, word);
-        return;
+    let a = Asked {
+        rules: old_rules(),
+        trace: 2,
+        first: 3,
+    };
+    match Command::named(word) {
+        Some(Command::On(task)) => begin(rt, console, a, task, word, more),
+        Some(Command::Version) => say(console, b"dachsmond 4.1\n"),
+        Some(Command::Help) => help(console),
+        None => unknown(console, word),
     }
-    if c < VERSION {
-        let rules = old_rules();
-        let a = Asked {
-            rules,
-            trace: 2,
-            first: 3,
-        };
-        begin(rt, console, a, c, word, more);
-        return;
-    }
-    if c == VERSION {
-        say(console, b"dachsmond 4.1\n");
-        return;
-    }
-    help(console);
 }
 
 // A command behind options: behind `--equal-branches` one that evaluates, or `blank`, behind `--steady-pins` one that
@@ -183,28 +137,30 @@ fn run_ruled<R: Env + Files + Input>(
     word: &[u8],
     more: usize,
 ) {
-    let c = named(word);
-    if a.rules.equal_branches {
-        if BLANK < c {
-            unfit(
-                console,
-                b"--equal-branches",
-                b"table, list, values or blank\n",
-                0,
-            );
-            return;
-        }
+    let Some(Command::On(task)) = Command::named(word) else {
+        return misplaced(console, a.rules);
+    };
+    if a.rules.equal_branches && !task.evaluates() || !task.reads() {
+        return misplaced(console, a.rules);
     }
-    if REWRITE < c {
+    begin(rt, console, a, task, word, more);
+}
+
+// Options before a word that is none of the commands which may stand behind them.
+fn misplaced(console: &Console, rules: Rules) {
+    if rules.equal_branches {
+        unfit(
+            console,
+            b"--equal-branches",
+            b"table, list, values or blank",
+        );
+    } else {
         unfit(
             console,
             b"--steady-pins",
-            b"table, list, values, blank or rewrite\n",
-            0,
+            b"table, list, values, blank or rewrite",
         );
-        return;
     }
-    begin(rt, console, a, c, word, more);
 }
 
 // The command behind two options, which is argument 3; where it is missing, a word of no length is none.
@@ -236,12 +192,10 @@ fn behind_option<R: Env + Files + Input>(rt: &R, console: &Console, rules: Rules
         run_ruled(rt, console, a, b"", 0);
         return;
     }
-    let o = option(&word[..n]);
-    if o <= STEADY {
-        behind_both(rt, console, ruled(rules, o), count);
-        return;
+    match ruled(rules, &word[..n]) {
+        Some(rules) => behind_both(rt, console, rules, count),
+        None => run_ruled(rt, console, a, &word[..n], count - 3),
     }
-    run_ruled(rt, console, a, &word[..n], count - 3);
 }
 
 // The command that the words are; without words a first look.
@@ -253,12 +207,10 @@ fn start_by<R: Env + Files + Input>(rt: &R, console: &Console) {
     }
     let mut word = [0u8; 4096];
     let n = arg(rt, 1, &mut word);
-    let o = option(&word[..n]);
-    if o <= STEADY {
-        behind_option(rt, console, ruled(old_rules(), o), count);
-        return;
+    match ruled(old_rules(), &word[..n]) {
+        Some(rules) => behind_option(rt, console, rules, count),
+        None => run(rt, console, &word[..n], count - 2),
     }
-    run(rt, console, &word[..n], count - 2);
 }
 
 // The exit status says whether something was complained of.

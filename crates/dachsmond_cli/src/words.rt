@@ -1,39 +1,93 @@
 // The words of the program: the names of its commands, how many words a command expects, the options and the rules that
 // they switch on, the help.
-use crate::{EQUAL, MAKE};
 use alf::Rules;
 use complaints::unfit;
 use console::output::{Console, say};
-use text_parts::lines::line_of;
+use text_commands::Question;
 
-// A command's number; the words behind `--version` all ask for help.
-pub fn named(word: &[u8]) -> usize {
-    line_of(
-        b"table\nlist\nvalues\nblank\nrewrite\nshow\ncorrect\nmake\n--version\n--help\n-h\nhelp\n",
-        word,
-    )
+// What is done with a trace, or with the text of one.
+#[derive(Clone, Copy, PartialEq, Eq)]
+pub enum Task {
+    Table,
+    Ask(Question),
+    Blank,
+    Show,
+    Correct,
+    Make,
 }
 
-// Whether so many words stand behind a command as it expects; where not, it is complained of.
-pub fn expects(console: &Console, c: usize, word: &[u8], more: usize) -> bool {
-    let least = [2usize, 2, 2, 3, 2, 1, 4, 2];
-    let most = [usize::MAX, 2, 2, usize::MAX, 2, 1, 4, 2];
-    if MAKE < c {
-        return true;
-    }
-    if least[c] <= more {
-        if more <= most[c] {
-            return true;
+#[derive(Clone, Copy, PartialEq, Eq)]
+pub enum Command {
+    On(Task),
+    Version,
+    Help,
+}
+
+impl Command {
+    pub fn named(word: &[u8]) -> Option<Command> {
+        match word {
+            b"table" => Some(Command::On(Task::Table)),
+            b"list" => Some(Command::On(Task::Ask(Question::List))),
+            b"values" => Some(Command::On(Task::Ask(Question::Values))),
+            b"rewrite" => Some(Command::On(Task::Ask(Question::Rewrite))),
+            b"blank" => Some(Command::On(Task::Blank)),
+            b"show" => Some(Command::On(Task::Show)),
+            b"correct" => Some(Command::On(Task::Correct)),
+            b"make" => Some(Command::On(Task::Make)),
+            b"--version" => Some(Command::Version),
+            b"--help" | b"-h" | b"help" => Some(Command::Help),
+            _ => None,
         }
     }
-    unfit(
-        console,
-        word,
-        b"TRACE PATTERN.. or TRACE -f FILE\nTRACE PATTERN\nTRACE EXPRESSION\n\
-          TRACE OUT and PATTERN.., -f FILE or --keep PIN..\nTRACE PATTERN\nTRACE\nTRACE ROW STATES OUT\nTEXT OUT\n",
-        c,
-    );
-    false
+}
+
+impl Task {
+    // Whether it expects so many words.
+    fn takes(self, words: usize) -> bool {
+        match self {
+            Task::Table => 2 <= words,
+            Task::Ask(_) | Task::Make => words == 2,
+            Task::Blank => 3 <= words,
+            Task::Show => words == 1,
+            Task::Correct => words == 4,
+        }
+    }
+
+    // The words that it expects.
+    fn words(self) -> &'static [u8] {
+        match self {
+            Task::Table => b"TRACE PATTERN.. or TRACE -f FILE",
+            Task::Ask(Question::Values) => b"TRACE EXPRESSION",
+            Task::Ask(_) => b"TRACE PATTERN",
+            Task::Blank => b"TRACE OUT and PATTERN.., -f FILE or --keep PIN..",
+            Task::Show => b"TRACE",
+            Task::Correct => b"TRACE ROW STATES OUT",
+            Task::Make => b"TEXT OUT",
+        }
+    }
+
+    // Whether so many words stand behind it as it expects; where not, it is complained of by its name.
+    pub fn is_fit(self, console: &Console, name: &[u8], words: usize) -> bool {
+        let fit = self.takes(words);
+        if !fit {
+            unfit(console, name, self.words());
+        }
+        fit
+    }
+
+    // Whether it evaluates expressions, or is `blank`: then it may stand behind `--equal-branches`.
+    pub fn evaluates(self) -> bool {
+        match self {
+            Task::Table | Task::Blank => true,
+            Task::Ask(question) => question != Question::Rewrite,
+            Task::Show | Task::Correct | Task::Make => false,
+        }
+    }
+
+    // Whether it reads expressions: then it may stand behind `--steady-pins`.
+    pub fn reads(self) -> bool {
+        matches!(self, Task::Table | Task::Blank | Task::Ask(_))
+    }
 }
 
 pub fn help(console: &Console) {
@@ -71,18 +125,17 @@ Exit status: 0 where all was done, 1 where something was complained of.
     );
 }
 
-// An option's number; another word has a greater one.
-pub fn option(word: &[u8]) -> usize {
-    line_of(b"--equal-branches\n--steady-pins\n", word)
-}
-
-// The rules with an option: of two options, the one that is not the first is the other.
-pub fn ruled(rules: Rules, o: usize) -> Rules {
-    let mut with = rules;
-    if o == EQUAL {
-        with.equal_branches = true;
-    } else {
-        with.steady_pins = true;
+// The rules with the option that a word is, if it is one.
+pub fn ruled(rules: Rules, word: &[u8]) -> Option<Rules> {
+    match word {
+        b"--equal-branches" => Some(Rules {
+            equal_branches: true,
+            ..rules
+        }),
+        b"--steady-pins" => Some(Rules {
+            steady_pins: true,
+            ..rules
+        }),
+        _ => None,
     }
-    with
 }

@@ -2,30 +2,25 @@
 -- memory as it was, C may rely on the number. Then the same for each kind of result.
 --   reliable    whatever the kind
 --   of_outcome, of_expression, of_reading, of_changes, of_answer, of_match, of_counts, of_push
+use Rattle.std.specs.Prelude.{Result, Err, Ok}
+use Rattle.trace_reader.specs.Reading.{size}
 use Prim.Native.Nat.{ℕ, ◌≤◌}
 use native.Mathlib.Omega.{arith}
 use mathlib.Core.Path.{◌≡◌, refl, sym, ap, subst, ◌∙◌}
 use mathlib.Core.Logic.{◌⊎◌, inl, inr}
 use mathlib.Core.List.{List}
 use Rattle.basics.specs.declared.Refusal.{Refusal}
-use Rattle.basics.specs.declared.Outcome.{Outcome}
-use Rattle.basics.specs.declared.Outcome.TheVariants.{Done, Refused}
+use Rattle.basics.specs.Refusing.{Outcome}
 use Rattle.alf.specs.declared.Rules.{Rules}
 use Rattle.alf.specs.declared.Sort.{Sort}
 use Rattle.reader.specs.declared.Read.{Read}
-use Rattle.reader.specs.Reads.{made, refused_by}
 use Rattle.basics.specs.Refusing.{refusal}
 use Rattle.reader.specs.Reading as texts
-use Rattle.trace_reader.specs.declared.Reading.{Reading}
-use Rattle.trace_reader.specs.declared.Reading.TheVariants as reading
-use Rattle.changes.specs.declared.RowChanges.{RowChanges}
-use Rattle.changes.specs.declared.RowChanges.TheVariants as changing
-use Rattle.row_calls.specs.declared.written.Told as written
-use Rattle.row_calls.specs.declared.written.Told.TheVariants as answering
-use Rattle.matching_calls.specs.declared.matching.Matching.{Matching}
-use Rattle.matching_calls.specs.declared.matching.Matching.TheVariants as matching
-use Rattle.matching_calls.specs.declared.matching.Counting.{Counting}
-use Rattle.matching_calls.specs.declared.matching.Counting.TheVariants as counting
+use Rattle.trace_reader.specs.Reading.{Reading}
+use Rattle.changes.specs.Call.{RowChanges}
+use Rattle.row_calls.specs.Written as rows
+use Rattle.matching_calls.specs.Matching.{Matching}
+use Rattle.matching_calls.specs.Matching.{Counting}
 use Rattle.timed_queue.specs.declared.queues.Queue as updates
 use Rattle.queue_calls.specs.declared.pushing.Pushing.{Pushing}
 use Rattle.telling.specs.declared.Told.{Told}
@@ -89,89 +84,89 @@ module _ {A B : Type 0} (k : Kind A B) (allowed : A → Type 0) (kept : B → Ty
 -- A kind each.
 outcome_parts : (a : Outcome) → Parts kinds.outcomes a
 unfolding told
-outcome_parts (Done n) = inr refl
-outcome_parts (Refused f) = inl (f, refl)
+outcome_parts (Ok n) = inr refl
+outcome_parts (Err f) = inl (f, refl)
 
-pub of_outcome : {allowed : Outcome → Type 0} {kept : Told → Type 0} {ns : List ℕ} → Refuses Refused allowed ns
-    → ((f : Refusal) → allowed (Refused f) → kept (told (Refused f))) → Reliable kinds.outcomes allowed kept
+pub of_outcome : {allowed : Outcome → Type 0} {kept : Told → Type 0} {ns : List ℕ} → Refuses Err allowed ns
+    → ((f : Refusal) → allowed (Err f) → kept (told (Err f))) → Reliable kinds.outcomes allowed kept
 unfolding told
 of_outcome n s = reliable kinds.outcomes _ _ (λ a x. outcome_parts a) (λ f. refl) n.in_table_lem s
 
 pub of_expression : {ρ : Rules} {names text : List ℕ} {sort : Sort} {ns : List ℕ}
-    → Refuses refused_by (texts.ReadsText ρ names text sort) ns
+    → Refuses Err (texts.ReadsText ρ names text sort) ns
     → Reliable kinds.expressions (texts.ReadsText ρ names text sort) Nothing
-unfolding told_expression refused_by made
+unfolding told_expression
 of_expression {ρ} {names} {text} {sort} n =
     reliable kinds.expressions _ _ (λ a x. parts x) (λ f. refl) n.in_table_lem (λ f x. tt)
   where
-    parts : {a : Read} → texts.ReadsText ρ names text sort a → Parts kinds.expressions a
+    parts : {a : Result Read Refusal} → texts.ReadsText ρ names text sort a → Parts kinds.expressions a
     parts (texts.refused f h) = inl (f, refl)
     parts (texts.read a g) = inr refl
 
 reading_parts : (a : Reading) → Parts kinds.readings a
 unfolding told_trace
-reading_parts (reading.Read m n) = inr refl
-reading_parts (reading.Refused f) = inl (f, refl)
+reading_parts (Ok s) = inr refl
+reading_parts (Err f) = inl (f, refl)
 
 pub of_reading : {allowed : Reading → Type 0} {kept : Trace → Type 0} {ns : List ℕ}
-    → Refuses reading.Refused allowed ns
-    → ((f : Refusal) → allowed (reading.Refused f) → kept (told_trace (reading.Refused f)))
+    → Refuses Err allowed ns
+    → ((f : Refusal) → allowed (Err f) → kept (told_trace (Err f)))
     → Reliable kinds.readings allowed kept
 unfolding told_trace
 of_reading n s = reliable kinds.readings _ _ (λ a x. reading_parts a) (λ f. refl) n.in_table_lem s
 
 changes_parts : (a : RowChanges) → Parts kinds.row_changes a
 unfolding told_changes
-changes_parts (changing.Changed c) = inr refl
-changes_parts (changing.Refused f) = inl (f, refl)
+changes_parts (Ok c) = inr refl
+changes_parts (Err f) = inl (f, refl)
 
-pub of_changes : {allowed : RowChanges → Type 0} {ns : List ℕ} → Refuses changing.Refused allowed ns
+pub of_changes : {allowed : RowChanges → Type 0} {ns : List ℕ} → Refuses Err allowed ns
     → Reliable kinds.row_changes allowed Nothing
 unfolding told_changes
 of_changes n = reliable kinds.row_changes _ _ (λ a x. changes_parts a) (λ f. refl) n.in_table_lem (λ f x. tt)
 
-answer_parts : (a : written.Told) → Parts kinds.row_answers a
+answer_parts : (a : rows.Answering) → Parts kinds.row_answers a
 unfolding told_answer
-answer_parts (answering.Answered b) = inr refl
-answer_parts (answering.Refused f) = inl (f, refl)
+answer_parts (Ok b) = inr refl
+answer_parts (Err f) = inl (f, refl)
 
-pub of_answer : {allowed : written.Told → Type 0} {ns : List ℕ} → Refuses answering.Refused allowed ns
+pub of_answer : {allowed : rows.Answering → Type 0} {ns : List ℕ} → Refuses Err allowed ns
     → Reliable kinds.row_answers allowed Nothing
 unfolding told_answer
 of_answer n = reliable kinds.row_answers _ _ (λ a x. answer_parts a) (λ f. refl) n.in_table_lem (λ f x. tt)
 
 match_parts : (a : Matching) → Parts kinds.matches a
 unfolding told_match
-match_parts (matching.Found m) = inr refl
-match_parts (matching.Refused f) = inl (f, refl)
+match_parts (Ok m) = inr refl
+match_parts (Err f) = inl (f, refl)
 
-pub of_match : {allowed : Matching → Type 0} {ns : List ℕ} → Refuses matching.Refused allowed ns
+pub of_match : {allowed : Matching → Type 0} {ns : List ℕ} → Refuses Err allowed ns
     → Reliable kinds.matches allowed Nothing
 unfolding told_match
 of_match n = reliable kinds.matches _ _ (λ a x. match_parts a) (λ f. refl) n.in_table_lem (λ f x. tt)
 
 counts_parts : (a : Counting) → Parts kinds.counts a
 unfolding told_counts
-counts_parts (counting.Counted t) = inr refl
-counts_parts (counting.Refused f) = inl (f, refl)
+counts_parts (Ok t) = inr refl
+counts_parts (Err f) = inl (f, refl)
 
-pub of_counts : {allowed : Counting → Type 0} {ns : List ℕ} → Refuses counting.Refused allowed ns
+pub of_counts : {allowed : Counting → Type 0} {ns : List ℕ} → Refuses Err allowed ns
     → Reliable kinds.counts allowed Nothing
 unfolding told_counts
 of_counts n = reliable kinds.counts _ _ (λ a x. counts_parts a) (λ f. refl) n.in_table_lem (λ f x. tt)
 
 -- a push is refused with the queue that was handed in
 module _ (q : Queue) (allowed : Matching → updates.Queue → Type 0) where
-  push_parts : ((f : Refusal) (s : updates.Queue) → allowed (matching.Refused f) s → s ≡ queue_of_lem q)
+  push_parts : ((f : Refusal) (s : updates.Queue) → allowed (Err f) s → s ≡ queue_of_lem q)
       → (m : Matching) (s : updates.Queue) → allowed m s
       → Parts (kinds.pushes q) (record { told = m; queue = s })
   unfolding told_push told_match
-  push_parts same (matching.Found m) s x = inr refl
-  push_parts same (matching.Refused f) s x =
-      inl (f, λ i. record { told = matching.Refused f; queue = same f s x i })
+  push_parts same (Ok m) s x = inr refl
+  push_parts same (Err f) s x =
+      inl (f, λ i. record { told = Err f; queue = same f s x i })
 
-  pub of_push : {ns : List ℕ} → Refuses matching.Refused (λ m. allowed m (queue_of_lem q)) ns
-      → ((f : Refusal) (s : updates.Queue) → allowed (matching.Refused f) s → s ≡ queue_of_lem q)
+  pub of_push : {ns : List ℕ} → Refuses Err (λ m. allowed m (queue_of_lem q)) ns
+      → ((f : Refusal) (s : updates.Queue) → allowed (Err f) s → s ≡ queue_of_lem q)
       → Reliable (kinds.pushes q) (λ (p : Pushing). allowed p.told p.queue) (λ (r : Pushed). r.queue ≡ q)
   unfolding told_push told_match queue_of_lem
   of_push n same =

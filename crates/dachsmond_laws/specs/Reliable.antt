@@ -7,22 +7,16 @@
 --   outcomes, expressions, readings, row_changes, row_answers, matches, counts, pushes     the kinds of results
 --   Nothing           no memory is lent to write to
 --   EmptyQueue        what `dachsmond_empty_queue` hands over
+use Rattle.std.specs.Prelude.{Result, Err}
 use Rattle.std.specs.Prelude.{ℕ, ◌≤◌, ◌≡◌, replicate}
 use Rattle.basics.specs.declared.Refusal.{Refusal}
-use Rattle.basics.specs.declared.Outcome.{Outcome}
-use Rattle.basics.specs.declared.Outcome.TheVariants.{Refused}
+use Rattle.basics.specs.Refusing.{Outcome}
 use Rattle.reader.specs.declared.Read.{Read}
-use Rattle.reader.specs.Reads.{refused_by}
-use Rattle.trace_reader.specs.declared.Reading.{Reading}
-use Rattle.trace_reader.specs.declared.Reading.TheVariants as reading
-use Rattle.changes.specs.declared.RowChanges.{RowChanges}
-use Rattle.changes.specs.declared.RowChanges.TheVariants as changing
-use Rattle.row_calls.specs.declared.written.Told as written
-use Rattle.row_calls.specs.declared.written.Told.TheVariants as answering
-use Rattle.matching_calls.specs.declared.matching.Matching.{Matching}
-use Rattle.matching_calls.specs.declared.matching.Matching.TheVariants as matching
-use Rattle.matching_calls.specs.declared.matching.Counting.{Counting}
-use Rattle.matching_calls.specs.declared.matching.Counting.TheVariants as counting
+use Rattle.trace_reader.specs.Reading.{Reading}
+use Rattle.changes.specs.Call.{RowChanges}
+use Rattle.row_calls.specs.Written as rows
+use Rattle.matching_calls.specs.Matching.{Matching}
+use Rattle.matching_calls.specs.Matching.{Counting}
 use Rattle.queue_calls.specs.declared.pushing.Pushing.{Pushing}
 use Rattle.telling.specs.declared.Told.{Told}
 use Rattle.telling.specs.declared.Expression.{Expression}
@@ -67,25 +61,25 @@ Nothing r = Unit {0}
 
 -- The kinds.
 abbrev pub outcomes : Kind Outcome Told
-outcomes = record { tell = told; number = λ r. r.number; refused = Refused }
+outcomes = record { tell = told; number = λ r. r.number; refused = Err }
 
-abbrev pub expressions : Kind Read Expression
-expressions = record { tell = told_expression; number = λ r. r.number; refused = refused_by }
+abbrev pub expressions : Kind (Result Read Refusal) Expression
+expressions = record { tell = told_expression; number = λ r. r.number; refused = Err }
 
 abbrev pub readings : Kind Reading Trace
-readings = record { tell = told_trace; number = λ r. r.number; refused = reading.Refused }
+readings = record { tell = told_trace; number = λ r. r.number; refused = Err }
 
 abbrev pub row_changes : Kind RowChanges Changed
-row_changes = record { tell = told_changes; number = λ r. r.number; refused = changing.Refused }
+row_changes = record { tell = told_changes; number = λ r. r.number; refused = Err }
 
-abbrev pub row_answers : Kind written.Told Answered
-row_answers = record { tell = told_answer; number = λ r. r.number; refused = answering.Refused }
+abbrev pub row_answers : Kind rows.Answering Answered
+row_answers = record { tell = told_answer; number = λ r. r.number; refused = Err }
 
 abbrev pub matches : Kind Matching Matched
-matches = record { tell = told_match; number = λ r. r.number; refused = matching.Refused }
+matches = record { tell = told_match; number = λ r. r.number; refused = Err }
 
 abbrev pub counts : Kind Counting Counted
-counts = record { tell = told_counts; number = λ r. r.number; refused = counting.Refused }
+counts = record { tell = told_counts; number = λ r. r.number; refused = Err }
 
 -- a push by a queue that C hands in
 abbrev pub pushes : Queue → Kind Pushing Pushed
@@ -93,7 +87,7 @@ pushes q =
     record {
       tell = told_push;
       number = λ r. r.number;
-      refused = λ f. record { told = matching.Refused f; queue = queue_of_lem q };
+      refused = λ f. record { told = Err f; queue = queue_of_lem q };
     }
 
 -- a queue that keeps nothing, all zeros

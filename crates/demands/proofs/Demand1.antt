@@ -31,7 +31,7 @@ demand_1 =
     record {
       check_names_lem = λ names a b x y. names_unique names a b x y;
       read_expression_lem = λ names text sort a b x y. read_unique x y;
-      read_shows = λ names text sort r h e. refusal_shows h e;
+      read_shows = λ names text sort r h. refusal_shows h;
       write_expression_lem = λ names tree sort out.
           record { one = λ a b m n x y. writing_laws.writes_unique x y; stays = λ r m x. x.memory };
       read_trace = λ file names times states.

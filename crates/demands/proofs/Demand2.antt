@@ -1,4 +1,6 @@
 -- Demand 2 holds, of a pattern. Main name: demand_2.
+use Rattle.std.specs.Prelude.{Err, Ok}
+use Rattle.std.specs.Prelude.{None, Some}
 use Prim.Native.Nat.{ℕ, zero, suc, ◌+◌, ◌-◌, ◌*◌, ◌<◌, ◌≤◌, max}
 use native.Mathlib.Nat.{suc-mul, zero-mul}
 use native.Mathlib.Omega.{arith}
@@ -6,13 +8,11 @@ use mathlib.Core.Path.{◌≡◌, refl, sym, ap, ◌∙◌, subst}
 use mathlib.Core.List.{List}
 use lib.ListN.{length, get_or, take, drop}
 use lib.Seq.{take-add, take_all}
-use Rattle.basics.specs.declared.Outcome.{Outcome}
-use Rattle.basics.specs.declared.Outcome.TheVariants as outcome
+use Rattle.basics.specs.Refusing.{Outcome}
 use Rattle.basics.specs.Words.{listed}
 use Rattle.basics.specs.Memory.{after}
 use Rattle.alf.specs.Expressions.{Vector}
 use Rattle.alf.specs.Values.{state_at}
-use Rattle.alf.specs.declared.Began.TheVariants.{At, Nowhere}
 use Rattle.alf.specs.Windows.{YES, row_answer, answer, numbered}
 use Rattle.alf.specs.Beginnings.{began, is_given, time_of_lem}
 use Rattle.alf.proofs.Beginnings.{began_tries, began_none, began_answers}
@@ -34,12 +34,9 @@ use Rattle.timed_queue.specs.TimedQueues.{Feed}
 use Rattle.timed_queue.proofs.TimedTheorems.{fed_listed, feed_rows, queue_began}
 use Rattle.states.proofs.CodeLists.{codes_take, codes_drop}
 use Rattle.queue.proofs.QueueTheorems.{queue_windows}
-use Rattle.row_calls.specs.declared.written.Told.{Told}
-use Rattle.row_calls.specs.declared.written.Told.TheVariants as told
-use Rattle.matching_calls.specs.declared.matching.Matching.{Matching}
-use Rattle.matching_calls.specs.declared.matching.Matching.TheVariants.{Found}
-use Rattle.matching_calls.specs.declared.matching.Counting.{Counting}
-use Rattle.matching_calls.specs.declared.matching.Counting.TheVariants as counting
+use Rattle.row_calls.specs.Written.{Answering}
+use Rattle.matching_calls.specs.Matching.{Matching}
+use Rattle.matching_calls.specs.Matching.{Counting}
 use Rattle.row_calls.specs.Written.{Tells, AnsweredAs, RowAnswer}
 use Rattle.row_calls.specs.Windows.{WindowAnswer}
 use Rattle.beginnings.specs.Dated.{flags_on, times_on}
@@ -66,23 +63,23 @@ module _ {file text : List ℕ} (q : Question file text) where
   k = names_of q
 
   -- what the calls tell of row i
-  abbrev AnswerTold : ℕ → Told → Type 0
+  abbrev AnswerTold : ℕ → Answering → Type 0
   AnswerTold i = AnsweredAs (answer_at q i)
 
   abbrev MatchTold : ℕ → Matching → Type 0
   MatchTold i = FoundAs (answer_at q i) (tries_at q i) (began_at q i)
 
   -- As written.
-  as_written : (i : ℕ) → i < q.rows → (x : Told) → RowAnswer q.rules k q.rows (tree_of q) q.states i x
+  as_written : (i : ℕ) → i < q.rows → (x : Answering) → RowAnswer q.rules k q.rows (tree_of q) q.states i x
       → AnswerTold i x
   as_written i l x w = rw (tree_is q) at (answered (lists_fit_lem q) (tree_accepted q) (codes_good q) l x w)
 
-  on_window_lem : (a b : ℕ) → max a b < q.rows → (x : Told)
+  on_window_lem : (a b : ℕ) → max a b < q.rows → (x : Answering)
       → WindowAnswer q.rules k q.rows (tree_of q) q.states a b x
       → AnsweredAs (numbered (answer (state_at q.rules k q.states) (meant_by q) a b)) x
   unfolding Tells
-  on_window_lem a b l (told.Answered c) w = record { answer = c; is = refl; numbered = rw (tree_is q) at w.comes.1 }
-  on_window_lem a b l (told.Refused r) w =
+  on_window_lem a b l (Ok c) w = record { answer = c; is = refl; numbered = rw (tree_is q) at w.comes.1 }
+  on_window_lem a b l (Err r) w =
       absurd
       (refused_passed _ _ _
       (row_passed q.states q.rows (max a b) (lists_fit_lem q) (tree_accepted q) (codes_good q) l)
@@ -100,19 +97,19 @@ module _ {file text : List ℕ} (q : Question file text) where
       → Lent q.rows (length q.times) (length answers) (length tried) (length given) (length began)
       → AllMatched q.rules k q.rows (tree_of q) q.times q.states answers tried given began answers' tried'
       given' began' r
-      → (r ≡ outcome.Done q.rows) × (answers' ≡ listed 0 q.rows (answer_at q))
+      → (r ≡ Ok q.rows) × (answers' ≡ listed 0 q.rows (answer_at q))
       × (tried' ≡ listed 0 q.rows (tries_at q)) × (given' ≡ listed 0 q.rows (λ i. is_given (began_at q i)))
       × (began' ≡ listed 0 q.rows (λ i. time_of_lem (began_at q i)))
   unfolding Comes after
-  all_rows (outcome.Done m) a w =
+  all_rows (Ok m) a w =
       let st = state_at q.rules k q.states in (
-        ap outcome.Done w.comes.1,
+        ap Ok w.comes.1,
         w.answers_memory ∙ ap (λ (p : Vector). listed 0 q.rows (row_answer st p)) (tree_is q),
         w.tried_memory ∙ ap (λ (p : Vector). listed 0 q.rows (tries st (alternatives p))) (tree_is q),
         w.given_memory ∙ ap (λ (p : Vector). listed 0 q.rows (flags_on st q.times (alternatives p))) (tree_is q),
         w.began_memory ∙ ap (λ (p : Vector). listed 0 q.rows (times_on st q.times (alternatives p))) (tree_is q),
       )
-  all_rows (outcome.Refused r) a w =
+  all_rows (Err r) a w =
       absurd
       (refused_passed _ _ _
       (timed_passed q.states q.times (a, lists_fit_lem q) (tree_accepted q) (codes_good q) (times_rise q))
@@ -120,15 +117,15 @@ module _ {file text : List ℕ} (q : Question file text) where
 
   -- The totals.
   totals_right : (z : Counting) → RowTotals q.rules k q.rows (tree_of q) q.states z
-      → (t : Total) × ((z ≡ counting.Counted t)
+      → (t : Total) × ((z ≡ Ok t)
       × Totals (state_at q.rules k q.states) (meant_by q) q.rows t.yes t.no t.unknown
       × (t.yes + t.no + t.unknown ≡ q.rows - 1))
   unfolding Counts
-  totals_right (counting.Counted t) w =
+  totals_right (Ok t) w =
       let c = rw (tree_is q) at w.comes.1 in
       let n = totals_sum (state_at q.rules k q.states) (meant_by q) q.rows (lists_fit_lem q).row_count.0 in
       (t, (refl, c, omega (arith, c.yeses, c.noes, c.unknowns, n)))
-  totals_right (counting.Refused r) w =
+  totals_right (Err r) w =
       absurd
       (refused_passed _ _ _ (codes_passed q.states (lists_fit_lem q) (tree_accepted q) (codes_good q)) w.comes.by)
 

@@ -1,12 +1,12 @@
 -- Demand 3 holds. Main name: demand_3.
+use Rattle.std.specs.Prelude.{Err, Ok}
 use Prim.Native.Nat.{ℕ, ◌<◌, ◌≤◌}
 use native.Mathlib.Omega.{arith}
 use mathlib.Core.Path.{◌≡◌, sym, ap, ◌∙◌}
 use mathlib.Core.Logic.{◌⊎◌}
 use mathlib.Core.List.{List}
 use lib.ListN.{length, get_or}
-use Rattle.basics.specs.declared.Outcome.{Outcome}
-use Rattle.basics.specs.declared.Outcome.TheVariants.{Done, Refused}
+use Rattle.basics.specs.Refusing.{Outcome}
 use Rattle.alf.specs.Expressions.{Vector}
 use Rattle.alf.specs.Values.{state_at}
 use Rattle.alf.specs.Windows.{row_answer}
@@ -44,10 +44,10 @@ module _ {file text : List ℕ} (q : Question file text) where
     )
 
     correction_done : {states' answers' : List ℕ} (o : Outcome)
-        → Corrects q answers r new states' answers' o → o ≡ Done 1
+        → Corrects q answers r new states' answers' o → o ≡ Ok 1
     unfolding Comes
-    correction_done (Done m) w = ap Done w.comes.1
-    correction_done (Refused e) w = absurd (refused_passed _ _ _ passed w.comes.by)
+    correction_done (Ok m) w = ap Ok w.comes.1
+    correction_done (Err e) w = absurd (refused_passed _ _ _ passed w.comes.by)
 
   steps_is : steps_of (expression q.rules (tree_of q) k) ≡ K q
   steps_is = ap steps_of (tree_is q)
@@ -57,7 +57,7 @@ module _ {file text : List ℕ} (q : Question file text) where
   answer_is states i = ap (λ (p : Vector). row_answer (state_at q.rules k states) p i) (tree_is q)
 
   module _ {answers : List ℕ} {r : ℕ} {new states' answers' : List ℕ}
-      (w : Corrects q answers r new states' answers' (Done 1)) where
+      (w : Corrects q answers r new states' answers' (Ok 1)) where
     correction_stored : states' ≡ corrected k q.states r new
     unfolding after
     correction_stored = w.states_memory

@@ -3,6 +3,8 @@
 --   times_rise            the times of a question's trace rise
 --   by_queue, any_feed    the rows of the trace pushed; any rows
 --   begins, no_time       a yes has the time where it began; no other answer has one
+use Rattle.std.specs.Prelude.{Ok}
+use Rattle.std.specs.Prelude.{None, Some}
 use Prim.Native.Nat.{ℕ, zero, suc, ◌+◌, ◌-◌, ◌*◌, ◌<◌, ◌≤◌}
 use native.Mathlib.Nat.{suc-mul, zero-mul, zero-add}
 use native.Mathlib.Omega.{arith}
@@ -12,7 +14,6 @@ use lib.ListN.{length, get_or, take, drop}
 use lib.Seq.{take-add, take_all, ext_get_or}
 use Rattle.basics.proofs.Listed.{listed_length, listed_at}
 use Rattle.basics.specs.Words.{listed}
-use Rattle.alf.specs.declared.Began.TheVariants.{At, Nowhere}
 use Rattle.alf.specs.Values.{state_at}
 use Rattle.alf.specs.Windows.{YES, row_answer, answer}
 use Rattle.alf.specs.Alternatives.{alternatives, tries, steps_of}
@@ -31,8 +32,7 @@ use Rattle.queue.proofs.QueueTheorems.{queue_windows}
 use Rattle.timed_queue.specs.declared.queues.Queue.{Queue}
 use Rattle.timed_queue.specs.TimedQueues.{Feed}
 use Rattle.timed_queue.proofs.TimedTheorems.{fed_listed, feed_rows, queue_began}
-use Rattle.matching_calls.specs.declared.matching.Matching.{Matching}
-use Rattle.matching_calls.specs.declared.matching.Matching.TheVariants.{Found}
+use Rattle.matching_calls.specs.Matching.{Matching}
 use Rattle.matching_calls.specs.Matching.{FoundAs, expression}
 use Rattle.queue_calls.specs.Pushing.{Takes, Push}
 use Rattle.queue_calls.proofs.ByAlternatives.{tree_pushed}
@@ -110,11 +110,11 @@ module _ {file text : List ℕ} (q : Question file text) where
       (rise : (i : ℕ) → suc i < n → times i < times (suc i))
       (pushed : (i : ℕ) → i < n
       → Push q.rules k (tree_of q) (queues i) (times i) (rows i) (results i) (queues (suc i))) where
-    not_refused : (i : ℕ) → i < n → results i ≡ Found (told_by (results i))
+    not_refused : (i : ℕ) → i < n → results i ≡ Ok (told_by (results i))
     not_refused = never_refused (lists_fit_lem q).name_count_lem (tree_accepted q) first full codes rise pushed
 
     taken : (i : ℕ) → i < n
-        → Push q.rules k (tree_of q) (queues i) (times i) (rows i) (Found (told_by (results i))) (queues (suc i))
+        → Push q.rules k (tree_of q) (queues i) (times i) (rows i) (Ok (told_by (results i))) (queues (suc i))
     taken i l =
         subst (λ (z : Matching). Push q.rules k (tree_of q) (queues i) (times i) (rows i) z (queues (suc i)))
         (not_refused i l) (pushed i l)
@@ -139,14 +139,14 @@ module _ {file text : List ℕ} (q : Question file text) where
         (began st (listed 0 (suc i) times) (alternatives p) i) (results i) =
         record {
           answer = answer;
-          is = not_refused i l ∙ (λ j. Found (record { answer = answer; tries = tried j; began = since j }));
+          is = not_refused i l ∙ (λ j. Ok (record { answer = answer; tries = tried j; began = since j }));
           numbered = queue_windows (feed_rows feed) p refl longest_pos i l;
         } in
         rw (tree_is q) at found
 
   -- A yes, and where it began.
   pub begins : (i : ℕ) → answer_at q i ≡ 1
-      → (took_steps q i ≤ i) × (began_at q i ≡ At (record { 0 = get_or q.times (i - took_steps q i) 0 }))
+      → (took_steps q i ≤ i) × (began_at q i ≡ Some (record { 0 = get_or q.times (i - took_steps q i) 0 }))
       × (answer (state_at q.rules k q.states) (meant_by q) (i - took_steps q i) i ≡ YES)
   begins i e =
       let st = state_at q.rules k q.states in
@@ -154,7 +154,7 @@ module _ {file text : List ℕ} (q : Question file text) where
       let t = began_tries st q.times (alternatives (meant_by q)) i f in
       (t.room, t.time, began_answers st (meant_by q) i f)
 
-  pub no_time : (i : ℕ) → (answer_at q i ≡ 1 → ⊥) → began_at q i ≡ Nowhere
+  pub no_time : (i : ℕ) → (answer_at q i ≡ 1 → ⊥) → began_at q i ≡ None
   no_time i n =
       let st = state_at q.rules k q.states in
       began_none st q.times (alternatives (meant_by q)) i (λ e. n (same_answer st (meant_by q) i ∙ e))

@@ -1,6 +1,7 @@
 -- Contradictory alternatives of a question's pattern: they are flagged exactly, and never answer yes.
 --   own_is       the alternatives that the calls speak of are the pattern's
 --   flagged, never_yes
+use Rattle.std.specs.Prelude.{Err, Ok}
 use Rattle.std.specs.Prelude.{if◌then◌else◌}
 use Prim.Native.Nat.{ℕ, ◌+◌, ◌*◌, ◌<◌, ◌≤◌}
 use native.Mathlib.Omega.{arith}
@@ -9,8 +10,7 @@ use mathlib.Core.Bool.{Bool, true, false}
 use mathlib.Core.Logic.{◌⊎◌, inl, inr}
 use mathlib.Core.List.{List, []}
 use lib.ListN.{length, get_or, get_or-eq_default}
-use Rattle.basics.specs.declared.Outcome.{Outcome}
-use Rattle.basics.specs.declared.Outcome.TheVariants as outcome
+use Rattle.basics.specs.Refusing.{Outcome}
 use Rattle.basics.proofs.Bools.{below?}
 use Rattle.alf.specs.Expressions.{name}
 use Rattle.alf.specs.Values.{recorded_or, state, state_at}
@@ -64,15 +64,15 @@ module _ {file text : List ℕ} (q : Question file text) where
 
   pub flagged : (flags flags' : List ℕ) (o : Outcome) → number_of_alternatives (meant_by q) ≤ length flags
       → Contradicts q.rules k (tree_of q) flags flags' o
-      → (o ≡ outcome.Done (number_of_alternatives (meant_by q)))
+      → (o ≡ Ok (number_of_alternatives (meant_by q)))
       × ((t : ℕ) → t < number_of_alternatives (meant_by q)
       → get_or flags' t 0 ≡ (if contradictory k (get_or (alternatives (meant_by q)) t []) then 1 else 0))
   unfolding Comes number_of_alternatives
-  flagged flags flags' (outcome.Done m) l w = (
-    ap outcome.Done (w.outcome.1 ∙ ap length own_is),
+  flagged flags flags' (Ok m) l w = (
+    ap Ok (w.outcome.1 ∙ ap length own_is),
     λ t h. (rw own_is at (contradicts_flag q.rules k (tree_of q) flags w t (rw own_is h))) ∙ flag_is _,
   )
-  flagged flags flags' (outcome.Refused e) l w =
+  flagged flags flags' (Err e) l w =
       absurd (refused_passed _ _ _ (flags_passed flags l) w.outcome.by)
 
   pub never_yes : (t i : ℕ) → contradictory k (get_or (alternatives (meant_by q)) t []) ≡ true

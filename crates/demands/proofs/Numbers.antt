@@ -3,6 +3,7 @@
 --   numbers            the orders, by computation; that of trace writing by the number of rows
 --   by_order           a contract that tells a refusal by its order refuses with the order's numbers
 --   refused_numbers    the public calls
+use Rattle.std.specs.Prelude.{Err}
 use Prim.Native.Nat.{ℕ, zero, suc, ◌-◌, ◌≤◌, max}
 use mathlib.Core.Path.{◌≡◌, refl, sym, ap, subst, ◌∙◌}
 use mathlib.Core.Bool.{Bool, true, false, ◌||◌}
@@ -21,8 +22,6 @@ use Rattle.alf.specs.States.{among}
 use Rattle.alf.specs.Refusals.{Row, Order, check, numbers_of, RefusedWith, RefusedBy, Comes}
 use Rattle.alf.proofs.Outcomes.{refused_among}
 use Rattle.tokens.specs.Texts as tokens
-use Rattle.reader.specs.declared.Read.{Read}
-use Rattle.reader.specs.Reads.{made, refused_by}
 use Rattle.reader.specs.Reading as texts
 use Rattle.writer.specs.Writing as writing
 use Rattle.trace_format.specs.declared.Mark.{Mark}
@@ -124,14 +123,10 @@ module _ {R : Type 0} {refused : Refusal → R} {allows : R → Type 0} where
   by_order o e a reason = by_rows o e a (λ r x. (reason r x).by)
 
 -- the two calls that read tell their refusals in their own words
-text_refused : (ρ : Rules) (names text : List ℕ) (sort : Sort) {x : Read} (r : Refusal)
-    → texts.ReadsText ρ names text sort x → x ≡ refused_by r
+text_refused : (ρ : Rules) (names text : List ℕ) (sort : Sort) (r : Refusal)
+    → texts.ReadsText ρ names text sort (Err r)
     → RefusedWith (texts.read_order ρ names text sort) r.number r.place
-unfolding made refused_by
-text_refused ρ names text sort r (texts.refused q h) e =
-    subst (λ (f : Refusal). RefusedWith (texts.read_order ρ names text sort) f.number f.place)
-    (ap (λ (x : Read). x.refusal) e) h.by
-text_refused ρ names text sort r (texts.read a g) e = never (ap (λ (x : Read). x.refused) e)
+text_refused ρ names text sort r (texts.refused q h) = h.by
 
 file_refused : {file names times states : List ℕ} (n p : ℕ)
     → FileRefused file n p ⊎ RoomRefused file names times states n p → among n file_numbers ≡ true
@@ -160,7 +155,7 @@ refused_numbers {ρ} =
     record {
       check_names_lem = λ names. by_order _ ((numbers ρ).check_names_lem names) refl (λ r x. x);
       read_expression_lem = λ names text sort.
-          by_rows _ ((numbers ρ).read_expression_lem names text sort) refl (λ r x. text_refused ρ names text sort r x refl);
+          by_rows _ ((numbers ρ).read_expression_lem names text sort) refl (λ r x. text_refused ρ names text sort r x);
       write_expression_lem = λ names tree sort out out'.
           by_order _ ((numbers ρ).write_expression_lem names tree sort _) refl (λ r x. x.outcome);
       read_trace = λ file names times states names' times' states'.

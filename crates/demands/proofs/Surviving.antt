@@ -1,4 +1,5 @@
 -- Reading and writing, of a question for either sort: what demand 2 says of them. Main name: survives.
+use Rattle.std.specs.Prelude.{Ok}
 use Prim.Native.Nat.{ℕ}
 use mathlib.Core.Path.{◌≡◌, sym, ap, ◌∙◌}
 use mathlib.Core.List.{List}
@@ -30,5 +31,6 @@ module _ {A : Type 0} {into : A → Expression} {sort : Sort} {file text : List 
             (written_within (named q) (tree_accepted q) w (rw (tree_text q) l) (rw (tree_text q) m));
         text_too_long = λ out out' r l w.
             refused_past_limit (named q) (tree_accepted q) w (rw (tree_text q) l);
-        text_survives = λ out out' m r w v. read_unique v (written_read (tree_accepted q) w) ∙ ap made (tree_whole q);
+        text_survives = λ out out' m r w v.
+            read_unique v (written_read (tree_accepted q) w) ∙ ap (λ x. Ok (made x)) (tree_whole q);
       }

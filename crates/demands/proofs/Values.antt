@@ -1,10 +1,10 @@
 -- Demand 2 holds, of a boolean expression. Main name: demand_2_values.
+use Rattle.std.specs.Prelude.{Err, Ok}
 use Prim.Native.Nat.{ℕ, ◌<◌}
 use mathlib.Core.Path.{◌≡◌, ap, ◌∙◌}
 use mathlib.Core.List.{List}
 use lib.ListN.{length}
-use Rattle.basics.specs.declared.Outcome.{Outcome}
-use Rattle.basics.specs.declared.Outcome.TheVariants.{Done, Refused}
+use Rattle.basics.specs.Refusing.{Outcome}
 use Rattle.basics.specs.Words.{listed}
 use Rattle.basics.specs.Memory.{after}
 use Rattle.alf.specs.Expressions.{Boolean}
@@ -23,34 +23,34 @@ module _ {file text : List ℕ} (q : Formula file text) where
   k = names_of q
 
   value_at_lem : (i : ℕ) (r : Outcome) → i < q.rows → RowValue q.rules k q.rows (tree_of q) q.states i r
-      → r ≡ Done (value_of q i)
+      → r ≡ Ok (value_of q i)
   unfolding Comes
-  value_at_lem i (Done m) l w =
-      ap Done (w.comes.1 ∙ ap (λ (c : Boolean). value_at q.rules k q.states c i) (formula_is q))
-  value_at_lem i (Refused e) l w =
+  value_at_lem i (Ok m) l w =
+      ap Ok (w.comes.1 ∙ ap (λ (c : Boolean). value_at q.rules k q.states c i) (formula_is q))
+  value_at_lem i (Err e) l w =
       absurd
       (refused_passed _ _ _ (row_passed q.states q.rows i (lists_fit_lem q) (tree_accepted q) (codes_good q) l)
       w.comes.by)
 
   state_at_lem : (i : ℕ) (r : Outcome) → i < q.rows → RowState q.rules k q.rows (tree_of q) q.states i r
-      → r ≡ Done (state_of q i)
+      → r ≡ Ok (state_of q i)
   unfolding Comes
-  state_at_lem i (Done m) l w =
-      ap Done (w.comes.1 ∙ ap (λ (c : Boolean). state_at q.rules k q.states c i) (formula_is q))
-  state_at_lem i (Refused e) l w =
+  state_at_lem i (Ok m) l w =
+      ap Ok (w.comes.1 ∙ ap (λ (c : Boolean). state_at q.rules k q.states c i) (formula_is q))
+  state_at_lem i (Err e) l w =
       absurd
       (refused_passed _ _ _ (row_passed q.states q.rows i (lists_fit_lem q) (tree_accepted q) (codes_good q) l)
       w.comes.by)
 
   all_values_lem : (out out' : List ℕ) (r : Outcome) → length out ≡ q.rows
       → AllValues q.rules k q.rows (tree_of q) q.states out out' r
-      → (r ≡ Done q.rows) × (out' ≡ listed 0 q.rows (value_of q))
+      → (r ≡ Ok q.rows) × (out' ≡ listed 0 q.rows (value_of q))
   unfolding Comes after
-  all_values_lem out out' (Done m) e w = (
-    ap Done w.comes.1,
+  all_values_lem out out' (Ok m) e w = (
+    ap Ok w.comes.1,
     w.memory ∙ ap (λ (c : Boolean). listed 0 q.rows (value_at q.rules k q.states c)) (formula_is q),
   )
-  all_values_lem out out' (Refused r) e w =
+  all_values_lem out out' (Err r) e w =
       absurd
       (refused_passed _ _ _ (codes_passed q.states (e, lists_fit_lem q) (tree_accepted q) (codes_good q))
       w.comes.by)

@@ -4,11 +4,11 @@
 -- file and a pattern's text, and of whatever the calls' contracts allow; so no call on the way is refused.
 --   took_steps    the steps of the alternative that a yes is from
 --   Demand2      of a pattern; Survival and Lists have two of its parts, and Values says it of a boolean expression
+use Rattle.std.specs.Prelude.{Ok}
+use Rattle.std.specs.Prelude.{None, Some}
 use Rattle.std.specs.Prelude.{ℕ, suc, ◌+◌, ◌-◌, ◌<◌, ◌≤◌, max, ◌≡◌, true, List, [], length, get_or, if◌then◌else◌}
-use Rattle.basics.specs.declared.Outcome.{Outcome}
-use Rattle.basics.specs.declared.Outcome.TheVariants.{Done}
+use Rattle.basics.specs.Refusing.{Outcome}
 use Rattle.basics.specs.Words.{listed}
-use Rattle.alf.specs.declared.Began.TheVariants.{At, Nowhere}
 use Rattle.alf.specs.Values.{state_at}
 use Rattle.alf.specs.Beginnings.{is_given, time_of_lem}
 use Rattle.alf.specs.Windows.{YES, answer, numbered}
@@ -20,12 +20,11 @@ use Rattle.matcher.specs.declared.tables.Total.{Total}
 use Rattle.states.specs.FirstBadCode.{Codes}
 use Rattle.timed_queue.specs.declared.queues.Queue.{Queue}
 use Rattle.queue.specs.Queues.{fed}
-use Rattle.row_calls.specs.declared.written.Told.{Told}
+use Rattle.row_calls.specs.Written.{Answering}
 use Rattle.row_calls.specs.Written.{RowAnswer, AnsweredAs}
 use Rattle.row_calls.specs.Windows.{WindowAnswer}
-use Rattle.matching_calls.specs.declared.matching.Matching.{Matching}
-use Rattle.matching_calls.specs.declared.matching.Counting.{Counting}
-use Rattle.matching_calls.specs.declared.matching.Counting.TheVariants as counting
+use Rattle.matching_calls.specs.Matching.{Matching}
+use Rattle.matching_calls.specs.Matching.{Counting}
 use Rattle.matching_calls.specs.Matching.{Lent, RowMatch, FoundAs, AllMatched, RowTotals}
 use Rattle.queue_calls.specs.Pushing.{Push}
 use Rattle.rewritten_laws.specs.WrittenOut.{WrittenOut}
@@ -43,9 +42,9 @@ module _ {file text : List ℕ} (q : Question file text) where
   pub record Demand2 : Type 0 where
     pub survives : Survives q
     -- as written: at a row, by recursion over the tree; on one window
-    pub as_written : (i : ℕ) (x : Told) → i < q.rows
+    pub as_written : (i : ℕ) (x : Answering) → i < q.rows
         → RowAnswer q.rules (names_of q) q.rows (tree_of q) q.states i x → AnsweredAs (answer_at q i) x
-    pub on_window_lem : (a b : ℕ) (x : Told) → max a b < q.rows
+    pub on_window_lem : (a b : ℕ) (x : Answering) → max a b < q.rows
         → WindowAnswer q.rules (names_of q) q.rows (tree_of q) q.states a b x
         → AnsweredAs (numbered (answer (state_at q.rules (names_of q) q.states) (meant_by q) a b)) x
     -- by alternatives, with the number tried and the time where the match began: at a row, at all rows
@@ -56,7 +55,7 @@ module _ {file text : List ℕ} (q : Question file text) where
         → Lent q.rows (length q.times) (length answers) (length tried) (length given) (length began)
         → AllMatched q.rules (names_of q) q.rows (tree_of q) q.times q.states answers tried given began
         answers' tried' given' began' r
-        → (r ≡ Done q.rows) × (answers' ≡ listed 0 q.rows (answer_at q))
+        → (r ≡ Ok q.rows) × (answers' ≡ listed 0 q.rows (answer_at q))
         × (tried' ≡ listed 0 q.rows (tries_at q)) × (given' ≡ listed 0 q.rows (λ i. is_given (began_at q i)))
         × (began' ≡ listed 0 q.rows (λ i. time_of_lem (began_at q i)))
     -- by the queue: the rows of the trace are pushed with their times, the first into a queue that keeps nothing
@@ -79,12 +78,12 @@ module _ {file text : List ℕ} (q : Question file text) where
     -- a yes began at row i - k, k the steps of the alternative whose position is the number tried, and the window from
     -- there to row i answers yes for the expression as written; no other answer has a time
     pub begins : (i : ℕ) → answer_at q i ≡ 1
-        → (took_steps q i ≤ i) × (began_at q i ≡ At (record { 0 = get_or q.times (i - took_steps q i) 0 }))
+        → (took_steps q i ≤ i) × (began_at q i ≡ Some (record { 0 = get_or q.times (i - took_steps q i) 0 }))
         × (answer (state_at q.rules (names_of q) q.states) (meant_by q) (i - took_steps q i) i ≡ YES)
-    pub no_time : (i : ℕ) → (answer_at q i ≡ 1 → ⊥) → began_at q i ≡ Nowhere
+    pub no_time : (i : ℕ) → (answer_at q i ≡ 1 → ⊥) → began_at q i ≡ None
     -- the totals are of these answers, and yes, no and unknown together are n-1
     pub totals_right : (z : Counting) → RowTotals q.rules (names_of q) q.rows (tree_of q) q.states z
-        → (t : Total) × ((z ≡ counting.Counted t)
+        → (t : Total) × ((z ≡ Ok t)
         × Totals (state_at q.rules (names_of q) q.states) (meant_by q) q.rows t.yes t.no t.unknown
         × (t.yes + t.no + t.unknown ≡ q.rows - 1))
     -- by the lists that `rewrite` writes: accepted, nothing dropped, and the same answers
@@ -93,7 +92,7 @@ module _ {file text : List ℕ} (q : Question file text) where
     -- contradictory alternatives are flagged exactly, and never answer yes
     pub flagged : (flags flags' : List ℕ) (r : Outcome) → number_of_alternatives (meant_by q) ≤ length flags
         → Contradicts q.rules (names_of q) (tree_of q) flags flags' r
-        → (r ≡ Done (number_of_alternatives (meant_by q)))
+        → (r ≡ Ok (number_of_alternatives (meant_by q)))
         × ((t : ℕ) → t < number_of_alternatives (meant_by q)
         → get_or flags' t 0 ≡ (if contradictory (names_of q) (get_or (alternatives (meant_by q)) t []) then 1 else 0))
     pub never_yes : (t i : ℕ) → contradictory (names_of q) (get_or (alternatives (meant_by q)) t []) ≡ true

@@ -3,8 +3,8 @@
 -- the memory is as it was.
 --   Single          any two results, and the memory with each, coincide
 --   Demand1Jobs     what is promised of these calls
+use Rattle.std.specs.Prelude.{Err}
 use Rattle.std.specs.Prelude.{ℕ, ◌≡◌, List}
-use Rattle.basics.specs.declared.Outcome.TheVariants.{Refused}
 use Rattle.alternative_listings.specs.Calls.{WritesAlternatives}
 use Rattle.column_listings.specs.Calls.{ValuesText}
 use Rattle.row_listings.specs.Listings.{ListsPattern, ListsValues}
@@ -28,16 +28,16 @@ pub record Demand1Jobs (ρ : Rules) : Type 0 where
   pub table_line : (names : List ℕ) (n : ℕ) (states text out : List ℕ)
       → Single (λ r m. TableLine ρ names n states text out m r)
   pub list_text : (names times states text out : List ℕ)
-      → Promised Refused (λ r m. ListsPattern ρ names times states text out m r) out
+      → Promised Err (λ r m. ListsPattern ρ names times states text out m r) out
   pub list_began_text : (names times states text out : List ℕ)
-      → Promised Refused (λ r m. ListsBeganText ρ names times states text out m r) out
+      → Promised Err (λ r m. ListsBeganText ρ names times states text out m r) out
   pub values_text : (names times states text out : List ℕ)
-      → Promised Refused (λ r m. ListsValues ρ names times states text out m r) out
-  pub list_values_lem : (times values out : List ℕ) → Promised Refused (λ r m. ValuesText times values out m r) out
+      → Promised Err (λ r m. ListsValues ρ names times states text out m r) out
+  pub list_values_lem : (times values out : List ℕ) → Promised Err (λ r m. ValuesText times values out m r) out
   pub alternatives_text : (names text out : List ℕ) → Single (λ r m. RewritesText ρ names text out m r)
   pub write_alternatives_lem : (names tree out : List ℕ) → Single (λ r m. WritesAlternatives ρ names tree out m r)
   pub correct_letters : (names n : ℕ) (states : List ℕ) (row : ℕ) (letters : List ℕ)
-      → Promised Refused (λ r m. CorrectsLetters names n states row letters m r) states
+      → Promised Err (λ r m. CorrectsLetters names n states row letters m r) states
   pub keep_text : (names text : List ℕ) (sort : Sort) (kept : List ℕ)
-      → Promised Refused (λ r m. KeepsText ρ names text sort kept m r) kept
-  pub blank : (names n : ℕ) (states kept : List ℕ) → Promised Refused (λ r m. Blanks names n states kept m r) states
+      → Promised Err (λ r m. KeepsText ρ names text sort kept m r) kept
+  pub blank : (names n : ℕ) (states kept : List ℕ) → Promised Err (λ r m. Blanks names n states kept m r) states

@@ -1,8 +1,8 @@
 -- Demand 2, of the lists that `rewrite` writes for a pattern: what the calls answer that take alternatives as lists.
 --   ByLists      the lists are accepted, nothing is dropped, and the answers are those by the tree
+use Rattle.std.specs.Prelude.{Ok}
 use Rattle.std.specs.Prelude.{ℕ, suc, ◌+◌, ◌-◌, ◌<◌, ◌≡◌, List, length}
-use Rattle.basics.specs.declared.Outcome.{Outcome}
-use Rattle.basics.specs.declared.Outcome.TheVariants.{Done}
+use Rattle.basics.specs.Refusing.{Outcome}
 use Rattle.basics.specs.Words.{listed}
 use Rattle.alf.specs.Values.{state_at}
 use Rattle.alf.specs.Beginnings.{is_given, time_of_lem}
@@ -13,9 +13,8 @@ use Rattle.matcher.specs.declared.tables.Total.{Total}
 use Rattle.states.specs.FirstBadCode.{Codes}
 use Rattle.timed_queue.specs.declared.queues.Queue.{Queue}
 use Rattle.queue.specs.Queues.{fed}
-use Rattle.matching_calls.specs.declared.matching.Matching.{Matching}
-use Rattle.matching_calls.specs.declared.matching.Counting.{Counting}
-use Rattle.matching_calls.specs.declared.matching.Counting.TheVariants as counting
+use Rattle.matching_calls.specs.Matching.{Matching}
+use Rattle.matching_calls.specs.Matching.{Counting}
 use Rattle.matching_calls.specs.Matching.{Lent, FoundAs}
 use Rattle.listed_acceptance.specs.Lists.{AcceptedAlternatives}
 use Rattle.listed_calls.specs.Listed.{ListedMatch, ListedAll, ListedTotals, ListedPush}
@@ -37,12 +36,12 @@ module _ {file text : List ℕ} (q : Question file text) (steps tests edges oper
         → ListedAll q.rules (names_of q) q.rows (tree_of q) steps tests edges operands q.states q.times
         answers
         tried given began answers' tried' given' began' r
-        → (r ≡ Done q.rows) × (answers' ≡ listed 0 q.rows (answer_at q))
+        → (r ≡ Ok q.rows) × (answers' ≡ listed 0 q.rows (answer_at q))
         × (tried' ≡ listed 0 q.rows (tries_at q)) × (given' ≡ listed 0 q.rows (λ i. is_given (began_at q i)))
         × (began' ≡ listed 0 q.rows (λ i. time_of_lem (began_at q i)))
     pub counted : (z : Counting)
         → ListedTotals q.rules (names_of q) q.rows (tree_of q) steps tests edges operands q.states z
-        → (t : Total) × ((z ≡ counting.Counted t)
+        → (t : Total) × ((z ≡ Ok t)
         × Totals (state_at q.rules (names_of q) q.states) (meant_by q) q.rows t.yes t.no t.unknown
         × (t.yes + t.no + t.unknown ≡ q.rows - 1))
     -- by the queue, for any rows, any times that rise, and any number of pushes

@@ -4,9 +4,10 @@
 --   in_table                         a number of the table: 1 to 19
 --   Numbers                         the orders of the public calls have these numbers
 --   Refuses, RefusedNumbers         a contract refuses with these alone, all from 1 to 19; so do the public calls
+use Rattle.std.specs.Prelude.{Err}
+use Rattle.trace_reader.specs.Reading.{size}
 use Rattle.std.specs.Prelude.{ℕ, ◌-◌, ◌≤◌, ◌≡◌, Bool, true, ◌&&◌, List, [], ◌∷◌, leb, length}
 use Rattle.basics.specs.declared.Refusal.{Refusal}
-use Rattle.basics.specs.declared.Outcome.TheVariants.{Refused}
 use Rattle.alf.specs.declared.Rules.{Rules}
 use Rattle.alf.specs.declared.Sort.{Sort}
 use Rattle.alf.specs.declared.Sort.TheVariants.{Boolean, Vector}
@@ -14,25 +15,19 @@ use Rattle.alf.specs.States.{among}
 use Rattle.alf.specs.Alternatives.{Alternative}
 use Rattle.alf.specs.Refusals.{numbers_of}
 use Rattle.names.specs.Check.{names_order, ChecksNames}
-use Rattle.reader.specs.Reads.{refused_by}
 use Rattle.reader.specs.Reading.{read_order, ReadsText}
 use Rattle.writer.specs.Writing as writing
 use Rattle.trace_format.specs.Records.{record_order, mark_here}
-use Rattle.trace_reader.specs.declared.Reading.TheVariants as reading
 use Rattle.trace_reader.specs.Reading as traces
 use Rattle.trace_writer.specs.Writing as files
-use Rattle.changes.specs.declared.RowChanges.TheVariants as row_changes
 use Rattle.changes.specs.Call as changes
 use Rattle.rewriting_calls.specs.Calls as rewriting
 use Rattle.contradictions.specs.Calls as flagging
 use Rattle.timed_queue.specs.declared.queues.Queue.{Queue}
 use Rattle.judging.specs.TimedOrders.{timed_order, timed_row_order}
 use Rattle.judging.specs.Orders as judging
-use Rattle.row_calls.specs.declared.written.Told.TheVariants as told
 use Rattle.row_calls.specs.Written.{RowState, RowValue, AllValues, RowAnswer}
 use Rattle.row_calls.specs.Windows.{WindowAnswer}
-use Rattle.matching_calls.specs.declared.matching.Matching.TheVariants as matching
-use Rattle.matching_calls.specs.declared.matching.Counting.TheVariants as counting
 use Rattle.matching_calls.specs.Matching.{Lent, RowMatch, AllMatched, RowTotals}
 use Rattle.update_calls.specs.Correcting.{correction_order, Correction}
 use Rattle.queue_calls.specs.Pushing.{push_order, Push}
@@ -148,69 +143,69 @@ pub record Refuses {R : Type 0} (refused : Refusal → R) (allows : R → Type 0
 
 -- The public calls refuse with these numbers alone. A list with a prime is memory at exit.
 pub record RefusedNumbers (ρ : Rules) : Type 0 where
-  pub check_names_lem : (names : List ℕ) → Refuses Refused (ChecksNames names) names_numbers
+  pub check_names_lem : (names : List ℕ) → Refuses Err (ChecksNames names) names_numbers
   pub read_expression_lem : (names text : List ℕ) (sort : Sort)
-      → Refuses refused_by (ReadsText ρ names text sort) text_numbers
+      → Refuses Err (ReadsText ρ names text sort) text_numbers
   pub write_expression_lem : (names tree : List ℕ) (sort : Sort) (out out' : List ℕ)
-      → Refuses Refused (writing.Writes names tree sort out out') writing_numbers
+      → Refuses Err (writing.Writes names tree sort out out') writing_numbers
   pub read_trace : (file names times states names' times' states' : List ℕ)
-      → Refuses reading.Refused (traces.Reads file names times states names' times' states') file_numbers
+      → Refuses Err (traces.Reads file names times states names' times' states') file_numbers
   pub make_trace : (text names times states names' times' states' : List ℕ)
-      → Refuses reading.Refused (MakesTrace text names times states names' times' states') making_numbers
+      → Refuses Err (MakesTrace text names times states names' times' states') making_numbers
   pub write_trace : (names times states : List ℕ) (n : ℕ) (out out' : List ℕ)
-      → Refuses Refused (files.Writes names times states n out out') (trace_numbers n)
+      → Refuses Err (files.Writes names times states n out out') (trace_numbers n)
   pub activity : (names times states : List ℕ) (n : ℕ) (out out' : List ℕ)
-      → Refuses Refused (ListsActivity names times states n out out') (trace_numbers n)
+      → Refuses Err (ListsActivity names times states n out out') (trace_numbers n)
   pub activity_part : (names times states : List ℕ) (n from to : ℕ) (out out' : List ℕ)
-      → Refuses Refused (ListsPart names times states n from to out out') (part_numbers (to - from))
+      → Refuses Err (ListsPart names times states n from to out out') (part_numbers (to - from))
   pub changes_at : (names n : ℕ) (states : List ℕ) (row : ℕ)
-      → Refuses row_changes.Refused (changes.RowChanged names n states row) changes_numbers
+      → Refuses Err (changes.RowChanged names n states row) changes_numbers
   pub rewrite : (names : ℕ) (tree steps tests edges operands steps' tests' edges' operands' : List ℕ)
-      → Refuses Refused
+      → Refuses Err
       (rewriting.Rewrites ρ names tree steps tests edges operands steps' tests' edges' operands')
       rewriting_numbers
   pub contradictions : (names : ℕ) (tree flags flags' : List ℕ)
-      → Refuses Refused (flagging.Contradicts ρ names tree flags flags') flag_numbers
+      → Refuses Err (flagging.Contradicts ρ names tree flags flags') flag_numbers
   pub row_state : (names n : ℕ) (tree states : List ℕ) (row : ℕ)
-      → Refuses Refused (RowState ρ names n tree states row) row_numbers
+      → Refuses Err (RowState ρ names n tree states row) row_numbers
   pub row_value : (names n : ℕ) (tree states : List ℕ) (row : ℕ)
-      → Refuses Refused (RowValue ρ names n tree states row) row_numbers
+      → Refuses Err (RowValue ρ names n tree states row) row_numbers
   pub values : (names n : ℕ) (tree states out out' : List ℕ)
-      → Refuses Refused (AllValues ρ names n tree states out out') rows_numbers
+      → Refuses Err (AllValues ρ names n tree states out out') rows_numbers
   pub row_answer_lem : (names n : ℕ) (tree states : List ℕ) (row : ℕ)
-      → Refuses told.Refused (RowAnswer ρ names n tree states row) row_numbers
+      → Refuses Err (RowAnswer ρ names n tree states row) row_numbers
   pub window_answer : (names n : ℕ) (tree states : List ℕ) (from to : ℕ)
-      → Refuses told.Refused (WindowAnswer ρ names n tree states from to) row_numbers
+      → Refuses Err (WindowAnswer ρ names n tree states from to) row_numbers
   pub match_row_lem : (names n : ℕ) (tree times states : List ℕ) (row : ℕ)
-      → Refuses matching.Refused (RowMatch ρ names n tree times states row) timed_row_numbers
+      → Refuses Err (RowMatch ρ names n tree times states row) timed_row_numbers
   pub match_all : (names n : ℕ) (tree times states answers tried given began answers' tried' given' began' : List ℕ)
-      → Refuses Refused
+      → Refuses Err
       (AllMatched ρ names n tree times states answers tried given began answers' tried' given' began') timed_numbers
   pub totals : (names n : ℕ) (tree states : List ℕ)
-      → Refuses counting.Refused (RowTotals ρ names n tree states) rows_numbers
+      → Refuses Err (RowTotals ρ names n tree states) rows_numbers
   pub correct : (names n : ℕ) (tree states answers : List ℕ) (row : ℕ) (new states' answers' : List ℕ)
-      → Refuses Refused (Correction ρ names n tree states answers row new states' answers') correction_numbers
+      → Refuses Err (Correction ρ names n tree states answers row new states' answers') correction_numbers
   pub push : (names : ℕ) (tree : List ℕ) (queue : Queue) (time : ℕ) (row : List ℕ) (queue' : Queue)
-      → Refuses matching.Refused (λ r. Push ρ names tree queue time row r queue') timed_numbers
+      → Refuses Err (λ r. Push ρ names tree queue time row r queue') timed_numbers
   pub listed_match_row : (names n : ℕ) (tree steps tests edges operands states times : List ℕ) (row : ℕ)
-      → Refuses matching.Refused (listed.ListedMatch ρ names n tree steps tests edges operands states times row)
+      → Refuses Err (listed.ListedMatch ρ names n tree steps tests edges operands states times row)
       timed_row_numbers
   pub listed_match_all : (names n : ℕ) (tree steps tests edges operands states times answers tried given began answers'
       tried' given' began' : List ℕ)
-      → Refuses Refused
+      → Refuses Err
       (listed.ListedAll ρ names n tree steps tests edges operands states times answers tried given began answers' tried'
       given' began') timed_numbers
   pub listed_totals : (names n : ℕ) (tree steps tests edges operands states : List ℕ)
-      → Refuses counting.Refused (listed.ListedTotals ρ names n tree steps tests edges operands states) rows_numbers
+      → Refuses Err (listed.ListedTotals ρ names n tree steps tests edges operands states) rows_numbers
   pub listed_push : (names : ℕ) (tree steps tests edges operands : List ℕ) (queue : Queue) (time : ℕ) (row : List ℕ)
       (queue' : Queue)
-      → Refuses matching.Refused (λ r. listed.ListedPush ρ names tree steps tests edges operands queue time row r
+      → Refuses Err (λ r. listed.ListedPush ρ names tree steps tests edges operands queue time row r
       queue')
       timed_numbers
   pub listed_fits : (names : ℕ) (tree steps tests edges operands : List ℕ)
-      → Refuses Refused (ListedFits names tree steps tests edges operands) fits_numbers
+      → Refuses Err (ListedFits names tree steps tests edges operands) fits_numbers
   pub list : (names n : ℕ) (tree times states out out' : List ℕ)
-      → Refuses Refused (ListsTree ρ names n tree times states out out') text_numbers_of_tree
+      → Refuses Err (ListsTree ρ names n tree times states out out') text_numbers_of_tree
   pub table_line : (names n : ℕ) (tree states pattern out out' : List ℕ)
-      → Refuses Refused (LinesTree ρ names n tree states pattern out out') text_numbers_of_tree
-  pub line : (text out out' : List ℕ) → Refuses Refused (Delivers text out out') line_numbers
+      → Refuses Err (LinesTree ρ names n tree states pattern out out') text_numbers_of_tree
+  pub line : (text out out' : List ℕ) → Refuses Err (Delivers text out out') line_numbers

@@ -23,7 +23,7 @@ use Rattle.alf.specs.declared.Rules.{Rules}
 use Rattle.alf.specs.Values.{state_at, value_at}
 use Rattle.alf.specs.Windows.{row_answer}
 use Rattle.alf.specs.Alternatives.{alternatives, tries, steps_of}
-use Rattle.alf.specs.declared.Began.{Began}
+use Rattle.alf.specs.Beginnings.{Began}
 use Rattle.alf.specs.Steady.{meant}
 use Rattle.alf.specs.Beginnings.{began}
 use Rattle.trace_format.specs.Format.{Trace, Fitting, file_in}

@@ -70,9 +70,7 @@ pub fn values(
     ensures { out.new
         ≡ front (listed 0 n (value_of rules tree.now names states.now end)) out.old }
 {
-    let mut i = 0;
-    while i < n {
+    for i in 0..n {
         out[i] = value(rules, tree, end, states, names, i);
-        i += 1;
     }
 }

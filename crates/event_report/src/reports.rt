@@ -3,6 +3,7 @@
 ghost use Rattle.std.specs.Prelude.{◌≤◌};
 
 use alf::{Rules, Sort};
+use basics::Refusal;
 use reader::{Read, read_expression};
 use run_words::lists::zeros;
 use run_words::words::{number_from, number_in};
@@ -43,15 +44,13 @@ pub fn states_of(report: &[u8]) -> [u8; 64] {
     let mut out = zeros();
     let mut to: usize = 0;
     let mut inside = false;
-    let mut i: usize = 0;
-    while i < report.len() {
+    for i in 0..report.len() {
         if to >= 64 {
             return out;
         }
         out[to] = code_of(report[i]);
         to += taken(inside, report[i]);
         inside = goes_on(inside, report[i]);
-        i += 1;
     }
     out
 }
@@ -98,10 +97,8 @@ fn no_times() -> [u64; 64] {
 // The times of the rows.
 pub fn times_of(report: &[u8]) -> [u64; 64] {
     let mut out = no_times();
-    let mut i: usize = 0;
-    while i < 64 {
+    for i in 0..64 {
         out[i] = time_of(report, i) as u64;
-        i += 1;
     }
     out
 }
@@ -113,19 +110,17 @@ fn no_names() -> [u8; 160] {
 // The list of names, each a letter in a slot of 32 bytes.
 fn list_of(letters: &[u8]) -> [u8; 160] {
     let mut out = no_names();
-    let mut i: usize = 0;
-    while i < letters.len() {
+    for i in 0..letters.len() {
         if i >= 5 {
             return out;
         }
         out[32 * i] = letters[i];
-        i += 1;
     }
     out
 }
 
 // A text over the names of a report.
-pub fn read(rules: Rules, report: &[u8], text: &[u8]) -> Read {
+pub fn read(rules: Rules, report: &[u8], text: &[u8]) -> Result<Read, Refusal> {
     let names = list_of(part(report, 1, b' '));
     let end = 32 * names_of(report);
     read_expression(rules, &names[0..end], text, Sort::Vector)

@@ -3,16 +3,16 @@
 ghost use Rattle.std.specs.Prelude.{◌≤◌};
 
 use crate::reports::{names_of, read, rows_of, size_of, states_of, time_of, times_of};
-use alf::{RowNo, Rules};
-use basics::Outcome;
+use alf::{Answer, RowNo, Rules};
+use basics::Refusal;
 use matcher::tables::number_of;
 use matching_calls::matching::match_all;
-use row_calls::written::{Told, row_answer};
+use row_calls::written::row_answer;
 use run_printing::printing::{broken, character, number, refusal, write};
 use run_words::lists::zeros;
 use states::rules::old_rules;
 use std::io::Stdout;
-use text_parts::lines::{behind_line, line_at};
+use text_parts::lines::Lines;
 use text_parts::parts::{front, part};
 
 // The time of a row that answers yes, or with a `?` one that answers unknown; whether it or one before is one of these.
@@ -28,10 +28,10 @@ fn say_row(to: Stdout, some: bool, time: usize, answer: u8) -> bool {
     true
 }
 
-fn say_told(to: Stdout, some: bool, time: usize, told: Told) -> bool {
+fn say_told(to: Stdout, some: bool, time: usize, told: Result<Answer, Refusal>) -> bool {
     match told {
-        Told::Answered(a) => say_row(to, some, time, number_of(a)),
-        Told::Refused(r) => {
+        Ok(a) => say_row(to, some, time, number_of(a)),
+        Err(r) => {
             refusal(to, r);
             true
         }
@@ -50,15 +50,13 @@ fn windows(to: Stdout, rules: Rules, report: &[u8], n: usize, tree: &[u8], state
 {
     let names = names_of(report);
     let mut some = false;
-    let mut i: usize = 0;
-    while i < n {
+    for i in 0..n {
         some = say_told(
             to,
             some,
             time_of(report, i),
             row_answer(rules, names, n, tree, states, RowNo(i as u32)),
         );
-        i += 1;
     }
     say_none(to, some);
 }
@@ -68,20 +66,18 @@ fn say_times(to: Stdout, report: &[u8], n: usize, answers: &[u8; 64])
     requires { n ≤ 12 }
 {
     let mut some = false;
-    let mut i: usize = 0;
-    while i < n {
+    for i in 0..n {
         some = say_row(to, some, time_of(report, i), answers[i]);
-        i += 1;
     }
     say_none(to, some);
 }
 
-fn say_all(to: Stdout, report: &[u8], n: usize, r: Outcome, answers: &[u8; 64])
+fn say_all(to: Stdout, report: &[u8], n: usize, r: Result<usize, Refusal>, answers: &[u8; 64])
     requires { n ≤ 12 }
 {
     match r {
-        Outcome::Refused(f) => refusal(to, f),
-        Outcome::Done(_) => say_times(to, report, n, answers),
+        Err(f) => refusal(to, f),
+        Ok(_) => say_times(to, report, n, answers),
     }
 }
 
@@ -124,13 +120,13 @@ fn show_read(to: Stdout, rules: Rules, report: &[u8], tree: &[u8; 256], len: usi
 }
 
 fn show_text(to: Stdout, rules: Rules, report: &[u8], text: &[u8]) {
-    let r = read(rules, report, text);
-    let refused = r.refused;
-    if refused {
-        return refusal(to, r.refusal);
+    match read(rules, report, text) {
+        Ok(read) => {
+            let tree = read.tree;
+            show_read(to, rules, report, &tree, read.len);
+        }
+        Err(r) => refusal(to, r),
     }
-    let tree = r.tree;
-    show_read(to, rules, report, &tree, r.len);
 }
 
 fn steady_rules() -> Rules {
@@ -168,9 +164,7 @@ fn show_line(to: Stdout, input: &[u8], line: &[u8]) {
 
 // Each line of the input, of which the first two are the reports.
 pub fn show_lines(to: Stdout, input: &[u8]) {
-    let mut at: usize = 0;
-    while at < input.len() {
-        show_line(to, input, line_at(input, at));
-        at = behind_line(input, at);
+    for line in Lines(input) {
+        show_line(to, input, line);
     }
 }

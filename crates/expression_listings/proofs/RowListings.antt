@@ -5,6 +5,7 @@
 --   too_many                         more than 65,535 rows
 --   tree_vector, tree_boolean        the listing of what an accepted tree is, by its sort
 --   text_as, accepted_as             the same of another text, of another sort
+use Rattle.std.specs.Prelude.{Err, Ok}
 use Prim.Native.Nat.{ℕ, ◌+◌, ◌*◌, ◌<◌, ◌≤◌}
 use native.Mathlib.Omega.{arith}
 use mathlib.Core.Path.{◌≡◌, refl, ap, sym, ◌∙◌}
@@ -16,8 +17,7 @@ use Rattle.alf.specs.declared.Rules.{Rules}
 use Rattle.alf.specs.declared.Sort.{Sort}
 use Rattle.alf.specs.declared.Sort.TheVariants as the_sort
 use Rattle.basics.specs.declared.Refusal.{Refusal}
-use Rattle.basics.specs.declared.Outcome.{Outcome}
-use Rattle.basics.specs.declared.Outcome.TheVariants.{Done, Refused}
+use Rattle.basics.specs.Refusing.{Outcome}
 use Rattle.basics.specs.Words.{listed}
 use Rattle.alf.specs.Expressions.{Vector, boolean, vector, Over, ExpressionOver}
 use Rattle.alf.specs.Decoder.{top_boolean, top_vector, Decodes}
@@ -66,8 +66,8 @@ module _ (lent P Q : Type 0) (l : lent) (q : Q) (rest : Order) where
   pub lent_comes : (made : ℕ → Type 0) (r : Outcome) → Comes (order (lent × P) Q rest) made r
       → Comes (check 18 (bad_lists P) ∷ rest) made r
   unfolding Comes
-  lent_comes made (Done m) (h, e) = (lent_passed h, e)
-  lent_comes made (Refused r) h = lent_by h
+  lent_comes made (Ok m) (h, e) = (lent_passed h, e)
+  lent_comes made (Err r) h = lent_by h
 
 -- what an accepted tree is, by its sort
 pub tree_vector : (ρ : Rules) (k : ℕ) (times states tree : List ℕ) → Accepted ρ k the_sort.Vector tree
@@ -158,15 +158,15 @@ module _ (ρ : Rules) (k : ℕ) (tree times states values : List ℕ) (lent : Ty
         → Comes (rows_order k times states (check 9 (no_room (length (values_listing times values)) room) ∷ []))
         (λ m. m ≡ length (values_listing times values)) o
     unfolding Comes Passed
-    listed_as room (n, (m, (s, u))) (Done j) ((a, (b, (c, d))), z) =
+    listed_as room (n, (m, (s, u))) (Ok j) ((a, (b, (c, d))), z) =
         ((lent_18 lent _ n, (s, (c, tt))), z)
-    listed_as room q (Refused r) h = record { by = refused_as room q _ _ h.by; bare = h.bare }
+    listed_as room q (Err r) h = record { by = refused_as room q _ _ h.by; bare = h.bare }
 
 module _ {ρ : Rules} {k : ℕ} {tree times states codes codes' : List ℕ} {o : Outcome}
     (accepted : Accepted ρ k the_sort.Boolean tree) (size : length codes ≡ length times)
     (h : AllValues ρ k (length times) tree states codes codes' o) where
-  pub states_refused : {out : List ℕ} {r : Refusal} → o ≡ Refused r
-      → RowsText k times states (tree_listing ρ k times states tree) out out (Refused r)
+  pub states_refused : {out : List ℕ} {r : Refusal} → o ≡ Err r
+      → RowsText k times states (tree_listing ρ k times states tree) out out (Err r)
   unfolding Comes after
   states_refused {out} {r} e =
       record {
@@ -176,7 +176,7 @@ module _ {ρ : Rules} {k : ℕ} {tree times states codes codes' : List ℕ} {o :
         memory = refl;
       }
 
-  pub states_listed : {m : ℕ} {out out' : List ℕ} {r : Outcome} → o ≡ Done m
+  pub states_listed : {m : ℕ} {out out' : List ℕ} {r : Outcome} → o ≡ Ok m
       → ValuesText times codes' out out' r
       → RowsText k times states (tree_listing ρ k times states tree) out out' r
   unfolding Comes after value_listing
@@ -201,7 +201,7 @@ module _ {ρ : Rules} {k : ℕ} {tree times states codes codes' : List ℕ} {o :
 -- more rows than there can be
 pub too_many : (lent : List ℕ) {k : ℕ} {times states text out : List ℕ} {r : Outcome} → length lent ≡ 65535
     → length lent < length times
-    → r ≡ Refused (refusal 18 0) → RowsText k times states text out out r
+    → r ≡ Err (refusal 18 0) → RowsText k times states text out out r
 unfolding Comes RefusedWith after
 too_many lent e l h =
     rw h

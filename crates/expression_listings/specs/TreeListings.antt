@@ -5,7 +5,7 @@
 --   RowsText                   what a listing of the rows comes to
 --   listing_of, tree_listing     the listing of an expression of either sort; of that which a tree is
 use Rattle.std.specs.Prelude.{ℕ, ◌≡◌, List, [], ◌∷◌, length}
-use Rattle.basics.specs.declared.Outcome.{Outcome}
+use Rattle.basics.specs.Refusing.{Outcome}
 use Rattle.basics.specs.Words.{listed}
 use Rattle.basics.specs.Memory.{after, front}
 use Rattle.alf.specs.declared.Rules.{Rules}

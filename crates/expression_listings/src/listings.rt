@@ -6,7 +6,7 @@ ghost use Rattle.acceptance.specs.Accepted.{Accepted};
 ghost use Rattle.expression_listings.specs.TreeListings.{RowsText, tree_listing};
 
 use alf::{Rules, Sort};
-use basics::Outcome;
+use basics::Refusal;
 use basics::refusing::refuse;
 use column_listings::listings::list_values;
 use row_calls::written::values;
@@ -21,18 +21,15 @@ fn list_states(
     states: &[u8],
     codes: &mut [u8],
     out: &mut [u8],
-) -> Outcome
+) -> Result<usize, Refusal>
     requires accepted { Accepted rules k Boolean tree.now }
     requires codes_len { length codes.old ≡ length times.now }
     ensures { RowsText k times.now states.now
         (tree_listing rules k times.now states.now tree.now)
         out.old out.new result }
 {
-    let o = values(rules, k, times.len(), tree, states, codes);
-    match o {
-        Outcome::Refused(r) => Outcome::Refused(r),
-        Outcome::Done(_) => list_values(times, codes, out),
-    }
+    values(rules, k, times.len(), tree, states, codes)?;
+    list_values(times, codes, out)
 }
 
 // Of the list, what the rows fill; more than 65,535 rows are refused.
@@ -44,7 +41,7 @@ fn list_front(
     states: &[u8],
     codes: &mut [u8],
     out: &mut [u8],
-) -> Outcome
+) -> Result<usize, Refusal>
     requires accepted { Accepted rules k Boolean tree.now }
     requires codes_len { length codes.old ≡ 65535 }
     ensures { RowsText k times.now states.now
@@ -66,7 +63,7 @@ fn list_lent(
     states: &[u8],
     codes: &mut [u8; 65535],
     out: &mut [u8],
-) -> Outcome
+) -> Result<usize, Refusal>
     requires { Accepted rules k Boolean tree.now }
     ensures { RowsText k times.now states.now
         (tree_listing rules k times.now states.now tree.now)
@@ -83,7 +80,7 @@ fn list_boolean(
     times: &[u64],
     states: &[u8],
     out: &mut [u8],
-) -> Outcome
+) -> Result<usize, Refusal>
     requires { Accepted rules k Boolean tree.now }
     ensures { RowsText k times.now states.now
         (tree_listing rules k times.now states.now tree.now)
@@ -102,7 +99,7 @@ pub fn list_tree(
     times: &[u64],
     states: &[u8],
     out: &mut [u8],
-) -> Outcome
+) -> Result<usize, Refusal>
     requires { Accepted rules k sort tree.now }
     ensures { RowsText k times.now states.now
         (tree_listing rules k times.now states.now tree.now)

@@ -1,6 +1,7 @@
 -- A text that is delivered into a lent buffer.
 --   short, delivered    the two returns: 9, or the text at the front
 --   delivers_unique     outcome and buffer afterwards follow from the input
+use Rattle.std.specs.Prelude.{Err, Ok}
 use Prim.Native.Nat.{ℕ, ◌+◌, ◌<◌, ◌≤◌}
 use native.Mathlib.Omega.{arith}
 use mathlib.Core.Path.{◌≡◌, refl, sym, ap, ◌∙◌}
@@ -8,8 +9,7 @@ use mathlib.Core.Logic.{inl}
 use mathlib.Core.List.{List, ◌++◌}
 use lib.ListN.{length, drop}
 use lib.Seq.{sets-eq}
-use Rattle.basics.specs.declared.Outcome.{Outcome}
-use Rattle.basics.specs.declared.Outcome.TheVariants.{Done, Refused}
+use Rattle.basics.specs.Refusing.{Outcome}
 use Rattle.basics.specs.Refusing.{refusal}
 use Rattle.basics.specs.Memory.{Put, after}
 use Rattle.basics.proofs.Memory.{after_unique}
@@ -19,7 +19,7 @@ use Rattle.figures.specs.Delivering.{line_order, Delivers}
 
 -- a text that is too long for the buffer, and one that is not
 pub short : {w out : List ℕ} {k : ℕ} {r : Outcome} → k ≡ length w → length out < k
-    → r ≡ Refused (refusal 9 k) → Delivers w out out r
+    → r ≡ Err (refusal 9 k) → Delivers w out out r
 unfolding Comes RefusedWith after
 short h k e =
     rw e
@@ -29,7 +29,7 @@ short h k e =
     })
 
 pub delivered : {w out out' : List ℕ} {k r : ℕ} → k ≡ length w → k ≤ length out → Put out 0 w out' r
-    → Delivers w out out' (Done k)
+    → Delivers w out out' (Ok k)
 unfolding Comes Passed after
 delivered {w} {out} h k p =
     let e : ◌≡◌ {A = ℕ} (0 + length w) (length w) = omega arith in

@@ -2,7 +2,7 @@
 --   line_order    the one refusal, 9
 --   Delivers     outcome and memory
 use Rattle.std.specs.Prelude.{ℕ, ◌≡◌, List, [], ◌∷◌, length}
-use Rattle.basics.specs.declared.Outcome.{Outcome}
+use Rattle.basics.specs.Refusing.{Outcome}
 use Rattle.alf.specs.Refusals.{Order, check, no_room, Comes}
 use Rattle.basics.specs.Memory.{after, front}
 

@@ -12,6 +12,7 @@ pub fn width_of(n: u64) -> usize
 {
     let mut m = n;
     let mut w: usize = 1;
+    // How many divisions there are is the answer: no range to go over.
     while 10 <= m {
         m = m / 10;
         w += 1;

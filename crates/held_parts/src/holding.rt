@@ -12,11 +12,9 @@ fn clear(b: usize, base: usize, table: &mut [u8; 65536])
     requires { Ending table.old base b }
     ensures { Cleared (ends_at b) base 16 table.old table.new }
 {
-    let mut a = 0;
-    while a < b {
+    for a in 0..b {
         let i = base + a * 16 + (b - 1);
         table[i] = 0;
-        a += 1;
     }
 }
 
@@ -25,13 +23,11 @@ fn hold_list(list: &[u8; 17], size: usize, base: usize, table: &mut [u8; 65536])
     requires { LeafPart list.now size base table.old }
     ensures { Cleared (list_moves list.now) base size table.old table.new }
 {
-    let mut b = 0;
-    while b < size {
+    for b in 0..size {
         let next = b + 1;
         if list[b] != list[next] {
             clear(next, base, table);
         }
-        b = next;
     }
 }
 
@@ -73,10 +69,8 @@ pub fn hold_part(
         ((end - 1) * 256) size table.old table.new }
 {
     let at = end - 1;
-    let mut k = 0;
-    while k < 32 {
+    for k in 0..32 {
         let place = pins[at * 32 + k];
-        k += 1;
         if place != 0 {
             hold_pin(
                 rules,

@@ -5,6 +5,8 @@
 --   full_exactly                      full where one of the four is not, and only there
 --   full_told, added_told             a pattern that is counted
 --   counted_told, refused_told        any pattern
+use Rattle.std.specs.Prelude.{Err, Ok}
+use Rattle.std.specs.Prelude.{None, Some}
 use Rattle.std.specs.Prelude.{if◌then◌else◌}
 use Prim.Native.Nat.{ℕ, ◌+◌, ◌-◌, ◌<◌, ◌≤◌}
 use native.Mathlib.Omega.{arith}
@@ -16,11 +18,9 @@ use borrow.Author.Tests.{ltb-true, lt-ltb, le-ltb, le-leb, lt-leb, not-true, not
 use Rattle.basics.specs.declared.Refusal.{Refusal}
 use Rattle.basics.proofs.Bools.{below?, and_left, and_right}
 use Rattle.matcher.specs.declared.tables.Total.{Total}
-use Rattle.matching_calls.specs.declared.matching.Counting.{Counting}
-use Rattle.matching_calls.specs.declared.matching.Counting.TheVariants.{Counted, Refused}
+use Rattle.matching_calls.specs.Matching.{Counting}
 use Rattle.table_lines.specs.declared.lines.Sums.{Sums}
-use Rattle.jobs.specs.declared.sums.Adding.{Adding}
-use Rattle.jobs.specs.declared.sums.Adding.TheVariants.{Added, Full}
+use Rattle.jobs.specs.Sums.{Adding}
 use Rattle.jobs.specs.Sums.{word, grown, fit, added_to}
 
 pub room_test : (sum more : ℕ) → more < word → leb sum (18446744073709551615 - more) ≡ ltb (sum + more) word
@@ -83,15 +83,15 @@ fitting s t h =
 
 -- full where one of the four would be 2^64 or more, and only there
 module _ (s : Sums) (t : Total) where
-  full_where : (Fitting s t → ⊥) → added_to s (Counted t) ≡ Full
+  full_where : (Fitting s t → ⊥) → added_to s (Ok t) ≡ None
   unfolding added_to
   full_where h = go (fit (grown s t)) refl
     where
-      go : (b : Bool) → fit (grown s t) ≡ b → (if b then Added (grown s t) else Full) ≡ Full
+      go : (b : Bool) → fit (grown s t) ≡ b → (if b then Some (grown s t) else None) ≡ None
       go true e = absurd (h (fitting s t e))
       go false e = refl
 
-  full_only : added_to s (Counted t) ≡ Full → Fitting s t → ⊥
+  full_only : added_to s (Ok t) ≡ None → Fitting s t → ⊥
   unfolding added_to fit grown
   full_only e h =
       let f = rw (
@@ -102,28 +102,28 @@ module _ (s : Sums) (t : Total) where
       ) at e in
       let z : ◌≡◌ {A = ℕ} 0 1 = cc in omega arith
 
-  pub full_exactly : ((Fitting s t → ⊥) → added_to s (Counted t) ≡ Full)
-      × (added_to s (Counted t) ≡ Full → Fitting s t → ⊥)
+  pub full_exactly : ((Fitting s t → ⊥) → added_to s (Ok t) ≡ None)
+      × (added_to s (Ok t) ≡ None → Fitting s t → ⊥)
   full_exactly = (full_where, full_only)
 
 -- a pattern that is counted
 module _ (s : Sums) (t : Total) {p : Bool} (e : p ≡ fit (grown s t)) where
-  pub full_told : not p ≡ true → Full ≡ added_to s (Counted t)
+  pub full_told : not p ≡ true → None ≡ added_to s (Ok t)
   unfolding added_to
   full_told h = rw (sym e ∙ not-true p h) refl
 
   pub fits_told : not p ≡ false → Fitting s t
   fits_told h = fitting s t (sym e ∙ not-false p h)
 
-  pub added_told : not p ≡ false → Added (grown s t) ≡ added_to s (Counted t)
+  pub added_told : not p ≡ false → Some (grown s t) ≡ added_to s (Ok t)
   unfolding added_to
   added_told h = rw (sym e ∙ not-false p h) refl
 
 -- any pattern
-pub counted_told : (s : Sums) {t : Total} {c : Counting} {a : Adding} → a ≡ added_to s (Counted t)
-    → c ≡ Counted t → a ≡ added_to s c
+pub counted_told : (s : Sums) {t : Total} {c : Counting} {a : Adding} → a ≡ added_to s (Ok t)
+    → c ≡ Ok t → a ≡ added_to s c
 counted_told s e f = rw f e
 
-pub refused_told : {s : Sums} {r : Refusal} {c : Counting} → c ≡ Refused r → Added s ≡ added_to s c
+pub refused_told : {s : Sums} {r : Refusal} {c : Counting} → c ≡ Err r → Some s ≡ added_to s c
 unfolding added_to
 refused_told f = rw f refl

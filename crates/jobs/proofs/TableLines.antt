@@ -2,14 +2,14 @@
 --   counted_few          what is counted is counted on at most 65,535 rows
 --   line_counted, line_refused     the line by cases
 --   table_line_unique    any two results, and the memory at exit, coincide
+use Rattle.std.specs.Prelude.{Err, Ok}
 use Prim.Native.Nat.{ℕ}
 use mathlib.Core.Path.{◌≡◌}
 use mathlib.Core.List.{List}
-use Rattle.basics.specs.declared.Outcome.{Outcome}
+use Rattle.basics.specs.Refusing.{Outcome}
 use Rattle.basics.specs.declared.Refusal.{Refusal}
 use Rattle.matcher.specs.declared.tables.Total.{Total}
-use Rattle.matching_calls.specs.declared.matching.Counting.{Counting}
-use Rattle.matching_calls.specs.declared.matching.Counting.TheVariants.{Counted, Refused}
+use Rattle.matching_calls.specs.Matching.{Counting}
 use Rattle.table_lines.specs.Table.{pattern_line, refused_line}
 use Rattle.figures.specs.Delivering.{Delivers}
 use Rattle.figures.proofs.Delivering.{delivers_unique}
@@ -24,13 +24,13 @@ module _ {names : List ℕ} {n : ℕ} {states text : List ℕ} where
   counted_few h = record { few = λ t e. (counted_rows (rw e at h)).1 }
 
 module _ (text : List ℕ) (n : ℕ) {out out' : List ℕ} {c : Counting} {w : Outcome} where
-  pub line_counted : {t : Total} → c ≡ Counted t
+  pub line_counted : {t : Total} → c ≡ Ok t
       → Delivers (pattern_line text t.yes t.unknown t.no n) out out' w
       → Delivers (line_of text n c) out out' w
   unfolding line_of
   line_counted e d = rw e d
 
-  pub line_refused : {r : Refusal} → c ≡ Refused r
+  pub line_refused : {r : Refusal} → c ≡ Err r
       → Delivers (refused_line text r.number r.place) out out' w
       → Delivers (line_of text n c) out out' w
   unfolding line_of

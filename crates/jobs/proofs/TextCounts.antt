@@ -3,9 +3,9 @@
 --   tree_counted     the text is read, and its tree is counted or refused
 --   counted_rows     what is counted is counted on 1 to 65,535 rows
 --   counts_unique    any two results that the contract allows coincide
+use Rattle.std.specs.Prelude.{Err, Ok}
 use Prim.Native.Nat.{ℕ}
 use mathlib.Core.Path.{◌≡◌, refl, ap, sym, ◌∙◌}
-use mathlib.Core.Bool.{true}
 use mathlib.Core.List.{List}
 use lib.ListN.{take}
 use Rattle.alf.specs.declared.Rules.{Rules}
@@ -27,8 +27,7 @@ use Rattle.tokens.proofs.ShownBytes.{in_first, in_then, in_silent, refused_in_un
 use Rattle.reader.specs.declared.Read.{Read}
 use Rattle.reader.specs.Reading.{read_order, ReadsText}
 use Rattle.reader.proofs.Unique.{gives_unique}
-use Rattle.matching_calls.specs.declared.matching.Counting.{Counting}
-use Rattle.matching_calls.specs.declared.matching.Counting.TheVariants.{Counted, Refused}
+use Rattle.matching_calls.specs.Matching.{Counting}
 use Rattle.matching_calls.specs.Matching.{expression, Counts, RowTotals}
 use Rattle.text_laws.proofs.ReadTrees.{Found, read_refused, read_sole, found_accepted, found_vector}
 use Rattle.text_laws.proofs.ReadTrees.{vector_given, vector_decodes}
@@ -46,17 +45,17 @@ trace_refused : (k n : ℕ) (states text : List ℕ) {q : Refusal} → RefusedBy
 unfolding all numbers_of among
 trace_refused k n states text h = in_silent text (trace_checks k n states) refl h
 
-module _ {ρ : Rules} {names : List ℕ} {n : ℕ} {states text : List ℕ} {r : Read} where
-  pub text_refused : ReadsText ρ names text sort.Vector r → r.refused ≡ true
-      → CountsText ρ names n states text (Refused r.refusal)
+module _ {ρ : Rules} {names : List ℕ} {n : ℕ} {states text : List ℕ} where
+  pub text_refused : {r : Refusal} → ReadsText ρ names text sort.Vector (Err r)
+      → CountsText ρ names n states text (Err r)
   unfolding CountsIn
-  text_refused h e = record { comes = in_first text (read_order ρ names text sort.Vector) _ (read_refused h e) }
+  text_refused h = record { comes = in_first text (read_order ρ names text sort.Vector) _ (read_refused h) }
 
-  module _ (f : Found ρ names text sort.Vector r) where
+  module _ {r : Read} (f : Found ρ names text sort.Vector r) where
     counted : (c : Counting) → RowTotals ρ (names_in names) n (take r.len r.tree) states c
         → CountsText ρ names n states text c
     unfolding Counts CountsIn
-    counted (Counted t) h =
+    counted (Ok t) h =
         let (a, b) = h.comes in
         record {
           comes = (
@@ -65,7 +64,7 @@ module _ {ρ : Rules} {names : List ℕ} {n : ℕ} {states text : List ℕ} {r :
             record { pattern = (found_vector f).p; given = vector_given f; totals = rw (tree_is f) at b },
           );
         }
-    counted (Refused q) h =
+    counted (Err q) h =
         record {
           comes =
               in_then text (read_order ρ names text sort.Vector) _ f.passed
@@ -78,7 +77,7 @@ module _ {ρ : Rules} {names : List ℕ} {n : ℕ} {states text : List ℕ} {r :
 
 -- 18 is not given
 pub counted_rows : {ρ : Rules} {names : List ℕ} {n : ℕ} {states text : List ℕ} {t : Total}
-    → CountsText ρ names n states text (Counted t) → RowCount n
+    → CountsText ρ names n states text (Ok t) → RowCount n
 unfolding CountsIn Passed
 counted_rows {ρ} {names} {n} {states} {text} h =
     let p : Passed (trace_checks (names_in names) n states) =
@@ -110,14 +109,14 @@ module _ (ρ : Rules) (names : List ℕ) (n : ℕ) (states text : List ℕ) wher
       → CountsIn text (count_order ρ names n states text) (TotalsText ρ names n states text) b
       → a ≡ b
   unfolding CountsIn
-  counts_one (Counted t) (Counted u) x y =
-      let e = totals_unique x.1 y.1 in λ i. Counted (record { yes = e.0 i; no = e.1 i; unknown = e.2 i })
-  counts_one (Counted t) (Refused s) x y = absurd
+  counts_one (Ok t) (Ok u) x y =
+      let e = totals_unique x.1 y.1 in λ i. Ok (record { yes = e.0 i; no = e.1 i; unknown = e.2 i })
+  counts_one (Ok t) (Err s) x y = absurd
       (refused_passed (count_order ρ names n states text) _ _ x.0 y.by)
-  counts_one (Refused r) (Counted u) x y = absurd
+  counts_one (Err r) (Ok u) x y = absurd
       (refused_passed (count_order ρ names n states text) _ _ y.0 x.by)
-  counts_one (Refused r) (Refused s) x y =
-      ap Refused (refused_in_unique text (count_order ρ names n states text) count_sole x y)
+  counts_one (Err r) (Err s) x y =
+      ap Err (refused_in_unique text (count_order ρ names n states text) count_sole x y)
 
 pub counts_unique : {ρ : Rules} {names : List ℕ} {n : ℕ} {states text : List ℕ} {a b : Counting}
     → CountsText ρ names n states text a → CountsText ρ names n states text b → a ≡ b

@@ -5,6 +5,7 @@
 --                  tree comes from a text, so it is accepted
 --   TotalsText     the totals of the pattern that the text gives
 --   CountsIn, CountsText     what the call comes to
+use Rattle.std.specs.Prelude.{Err, Ok}
 use Rattle.std.specs.Prelude.{ℕ, List, [], ◌∷◌, ◌++◌, length}
 use Rattle.alf.specs.declared.Rules.{Rules}
 use Rattle.alf.specs.Names.{names_in}
@@ -16,8 +17,7 @@ use Rattle.alf.specs.Traces.{Totals}
 use Rattle.alf.specs.Refusals.{Order, check, bad_lists, bad_code, Passed}
 use Rattle.tokens.specs.Extents.{RefusedIn}
 use Rattle.reader.specs.Reading.{read_order, Gives}
-use Rattle.matching_calls.specs.declared.matching.Counting.{Counting}
-use Rattle.matching_calls.specs.declared.matching.Counting.TheVariants.{Counted, Refused}
+use Rattle.matching_calls.specs.Matching.{Counting}
 use Rattle.judging.specs.Orders.{Rows}
 
 -- 18 and 15 of a trace of n rows
@@ -35,8 +35,8 @@ pub record TotalsText (ρ : Rules) (names : List ℕ) (n : ℕ) (states text : L
 
 -- counted, where no row of the order holds; else refused, and what is refused of the text is shown
 unfoldable pub CountsIn : List ℕ → Order → (ℕ → ℕ → ℕ → Type 0) → Counting → Type 0
-CountsIn text o right (Counted t) = Passed o × right t.yes t.no t.unknown
-CountsIn text o right (Refused r) = RefusedIn text o r
+CountsIn text o right (Ok t) = Passed o × right t.yes t.no t.unknown
+CountsIn text o right (Err r) = RefusedIn text o r
 
 pub record CountsText (ρ : Rules) (names : List ℕ) (n : ℕ) (states text : List ℕ) (r : Counting) : Type 0 where
   pub comes : CountsIn text (count_order ρ names n states text) (TotalsText ρ names n states text) r

@@ -7,16 +7,19 @@
 --   Modest                                a pattern's totals, each of at most 65,534 rows
 --   CountedOn                             what is counted of some text on a trace
 -- That added_all comes to sums_of, and what full means, are laws.
+use Rattle.std.specs.Prelude.{Err, Ok}
+use Rattle.std.specs.Prelude.{None, Option, Some}
 use Rattle.std.specs.Prelude.{ℕ, ◌+◌, ◌-◌, ◌^◌, ◌≤◌, Bool, ◌&&◌, List, [], ◌∷◌, ltb, if◌then◌else◌}
 use Rattle.basics.specs.Words.{sum_of}
 use Rattle.matcher.specs.declared.tables.Total.{Total}
-use Rattle.matching_calls.specs.declared.matching.Counting.{Counting}
-use Rattle.matching_calls.specs.declared.matching.Counting.TheVariants.{Counted, Refused}
+use Rattle.matching_calls.specs.Matching.{Counting}
 use Rattle.table_lines.specs.declared.lines.Sums.{Sums}
-use Rattle.jobs.specs.declared.sums.Adding.{Adding}
-use Rattle.jobs.specs.declared.sums.Adding.TheVariants.{Added, Full}
 use Rattle.jobs.specs.Counting.{CountsText}
 use Rattle.alf.specs.declared.Rules.{Rules}
+
+-- the sums with one pattern more, or none: a sum would be 2^64 or more
+abbrev pub Adding : Type 0
+Adding = Option Sums
 
 -- the first number that a sum cannot hold
 abbrev pub word : ℕ
@@ -43,31 +46,31 @@ fit s = ltb s.yes word && (ltb s.unknown word && (ltb s.no word && ltb s.pattern
 
 -- one pattern more; a refused one adds nothing
 unfoldable pub added_to : Sums → Counting → Adding
-added_to s (Counted t) = if fit (grown s t) then Added (grown s t) else Full
-added_to s (Refused r) = Added s
+added_to s (Ok t) = if fit (grown s t) then Some (grown s t) else None
+added_to s (Err r) = Some s
 
 -- some patterns, one after the other; once full, it stays full
 unfoldable pub added_all : Adding → List Counting → Adding
 added_all a [] = a
-added_all (Added s) (c ∷ cs) = added_all (added_to s c) cs
-added_all Full (c ∷ cs) = Full
+added_all (Some s) (c ∷ cs) = added_all (added_to s c) cs
+added_all None (c ∷ cs) = None
 
 -- what a pattern adds to each column
 unfoldable pub yes_of : Counting → ℕ
-yes_of (Counted t) = t.yes
-yes_of (Refused r) = 0
+yes_of (Ok t) = t.yes
+yes_of (Err r) = 0
 
 unfoldable pub unknown_of : Counting → ℕ
-unknown_of (Counted t) = t.unknown
-unknown_of (Refused r) = 0
+unknown_of (Ok t) = t.unknown
+unknown_of (Err r) = 0
 
 unfoldable pub no_of : Counting → ℕ
-no_of (Counted t) = t.no
-no_of (Refused r) = 0
+no_of (Ok t) = t.no
+no_of (Err r) = 0
 
 unfoldable pub pattern_of : Counting → ℕ
-pattern_of (Counted t) = 1
-pattern_of (Refused r) = 0
+pattern_of (Ok t) = 1
+pattern_of (Err r) = 0
 
 -- the sums over a list
 unfoldable pub sums_of : ℕ → List Counting → Sums

@@ -2,16 +2,9 @@
 ghost use Rattle.std.specs.Prelude.{◌≡◌, ◌+◌, ◌-◌, ltb};
 ghost use Rattle.jobs.specs.Sums.{no_sums, fit, grown, added_to, word};
 
+use basics::Refusal;
 use matcher::tables::Total;
-use matching_calls::matching::Counting;
 use table_lines::lines::Sums;
-
-// The sums with one pattern more; or a sum would be 2^64 or more.
-#[derive(Clone, Copy)]
-pub enum Adding {
-    Added(Sums),
-    Full,
-}
 
 // How many events a trace of n rows has.
 fn events_of(n: usize) -> u64
@@ -60,13 +53,13 @@ fn have_room(s: Sums, t: Total) -> bool
 }
 
 // With a pattern that is counted.
-fn add_total(s: Sums, t: Total) -> Adding
-    ensures { result ≡ added_to s (Counting.Counted t) }
+fn add_total(s: Sums, t: Total) -> Option<Sums>
+    ensures { result ≡ added_to s (Ok t) }
 {
     if !have_room(s, t) {
-        return Adding::Full;
+        return None;
     }
-    Adding::Added(Sums {
+    Some(Sums {
         yes: s.yes + (t.yes as u64),
         unknown: s.unknown + (t.unknown as u64),
         no: s.no + (t.no as u64),
@@ -76,11 +69,11 @@ fn add_total(s: Sums, t: Total) -> Adding
 }
 
 // The sums with one pattern more: a refused one adds nothing.
-pub fn add(s: Sums, c: Counting) -> Adding
+pub fn add(s: Sums, c: Result<Total, Refusal>) -> Option<Sums>
     ensures { result ≡ added_to s c }
 {
     match c {
-        Counting::Counted(t) => add_total(s, t),
-        Counting::Refused(r) => Adding::Added(s),
+        Ok(t) => add_total(s, t),
+        Err(r) => Some(s),
     }
 }

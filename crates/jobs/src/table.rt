@@ -4,25 +4,30 @@ ghost use Rattle.jobs.specs.Lines.{Tabled, line_of, TableLine};
 
 use crate::counting::count_text;
 use alf::Rules;
-use basics::Outcome;
-use matching_calls::matching::Counting;
+use basics::Refusal;
+use matcher::tables::Total;
 use table_lines::lines::{write_line, write_refused};
 
 // What is counted of a pattern, and what came of writing its line.
 #[derive(Clone, Copy)]
 pub struct Line {
-    pub counted: Counting,
-    pub written: Outcome,
+    pub counted: Result<Total, Refusal>,
+    pub written: Result<usize, Refusal>,
 }
 
 // The line of what is counted; its length. Refused with 9.
-fn write_counted(text: &[u8], n: usize, counted: Counting, out: &mut [u8]) -> Outcome
+fn write_counted(
+    text: &[u8],
+    n: usize,
+    counted: Result<Total, Refusal>,
+    out: &mut [u8],
+) -> Result<usize, Refusal>
     requires { Tabled n counted }
     ensures { Delivers (line_of text.now n counted) out.old out.new result }
 {
     match counted {
-        Counting::Counted(t) => write_line(text, t, n as u32, out),
-        Counting::Refused(r) => write_refused(text, r, out),
+        Ok(t) => write_line(text, t, n as u32, out),
+        Err(r) => write_refused(text, r, out),
     }
 }
 

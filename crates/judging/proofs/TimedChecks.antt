@@ -4,6 +4,7 @@
 --   judges_timed, judges_timed_row  verdicts put together
 --   checks_timed, checks_timed_row  by what the tests decide
 --   timed_as                        by what is decided of the lists lent
+use Rattle.std.specs.Prelude.{Err, Ok}
 use mathlib.Core.Path.{◌≡◌, refl}
 use mathlib.Core.Bool.{Bool, true}
 use mathlib.Core.Logic.{◌⊎◌, inl, inr}
@@ -23,12 +24,11 @@ use Rattle.alf.specs.Refusals.{RefusedWith, Passed, Rising}
 use Rattle.alf.proofs.Orders.{plainly}
 use Rattle.acceptance.specs.Accepted.{Accepted}
 use Rattle.states.specs.FirstBadCode.{Codes}
-use Rattle.judging.specs.declared.checks.Verdict.{Verdict}
-use Rattle.judging.specs.declared.checks.Verdict.TheVariants.{Good, Refused}
-use Rattle.judging.specs.Orders.{Rows, place, Judged, passes, refuses, next_of, JudgesTrace}
+use Rattle.judging.specs.Orders.{Verdict}
+use Rattle.judging.specs.Orders.{Rows, place, Judged, passes, refuses, JudgesTrace}
 use Rattle.judging.specs.TimedOrders.{FirstEarly, rises, timed_order, JudgesTimed, JudgesTimedRow}
 use Rattle.judging.specs.TimedOrders.{ChecksTimed, ChecksTimedRow}
-use Rattle.judging.proofs.Verdicts.{judged_as, lists_as, judged_next, judged_facts}
+use Rattle.judging.proofs.Verdicts.{judged_as, lists_as, judged_stop, judged_go, judged_facts}
 
 -- the rows from 1 to those before i are above the last
 pub record Looking (times : List ℕ) (i : ℕ) : Type 0 where
@@ -61,32 +61,45 @@ module _ {times : List ℕ} where
 -- 13
 module _ {times : List ℕ} {early : ℕ} (b : FirstEarly times early) where
   pub early_13 : {r : Refusal} → early < length times → r ≡ refusal 13 early
-      → Judged (rises times) (Rising times) (Refused r)
+      → Judged (rises times) (Rising times) (Err r)
   unfolding RefusedWith
   early_13 h e =
       rw e
       (refuses (plainly _ 13 early
       (inl (refl, record { given = (h, b.there h); before = λ i l (m, (k, u)). omega (arith, u, b.before i k l) }))))
 
-  pub early_good : length times ≤ early → Judged (rises times) (Rising times) Good
+  pub early_good : length times ≤ early → Judged (rises times) (Rising times) (Ok tt)
   unfolding Passed
   early_good h =
       passes
       (λ p a. let (m, (k, u)) = a.given in omega (arith, u, b.before p k (omega arith)), tt)
       (λ r k l. b.before r k (omega arith))
 
--- verdicts put together
-pub judges_timed : {fits good : Bool} {states times : List ℕ} {a b r : Verdict}
-    → JudgesTrace fits good states a → Judged (rises times) (Rising times) b → r ≡ next_of a b
-    → JudgesTimed fits good states times r
-judges_timed x y e =
-    rw e (record { is = judged_facts (λ ((f, g, h), k). (f, g, (h, k))) (judged_next x.is y) })
+-- verdicts one after the other
+module _ {fits good : Bool} {states times : List ℕ} {a : Verdict} (x : JudgesTrace fits good states a) where
+  pub timed_refused : {r : Refusal} → a ≡ Err r → JudgesTimed fits good states times (Err r)
+  timed_refused e =
+      record {
+        is = judged_facts (λ ((f, g, h), k). (f, g, (h, k)))
+            (judged_stop (rises times) {G = Rising times} x.is e);
+      }
 
-pub judges_timed_row : {fits good : Bool} {states times : List ℕ} {n row : ℕ} {a b r : Verdict}
-    → JudgesTimed fits good states times a → Judged (place n row) (row < n) b → r ≡ next_of a b
-    → JudgesTimedRow fits good states times n row r
-judges_timed_row x y e =
-    rw e (record { is = judged_facts (λ ((f, g, (h, k)), l). (f, g, (h, k, l))) (judged_next x.is y) })
+  pub timed_13 : a ≡ (Ok tt) → {b : Verdict} → Judged (rises times) (Rising times) b
+      → JudgesTimed fits good states times b
+  timed_13 d y = record { is = judged_facts (λ ((f, g, h), k). (f, g, (h, k))) (judged_go x.is d y) }
+
+module _ {fits good : Bool} {states times : List ℕ} {n row : ℕ} {a : Verdict}
+    (x : JudgesTimed fits good states times a) where
+  pub timed_row_refused : {r : Refusal} → a ≡ Err r → JudgesTimedRow fits good states times n row (Err r)
+  timed_row_refused e =
+      record {
+        is = judged_facts (λ ((f, g, (h, k)), l). (f, g, (h, k, l)))
+            (judged_stop (place n row) {G = row < n} x.is e);
+      }
+
+  pub timed_row_19 : a ≡ (Ok tt) → {b : Verdict} → Judged (place n row) (row < n) b
+      → JudgesTimedRow fits good states times n row b
+  timed_row_19 d y = record { is = judged_facts (λ ((f, g, (h, k)), l). (f, g, (h, k, l))) (judged_go x.is d y) }
 
 -- of a tree and a trace
 module _ (ρ : Rules) (names n : ℕ) (tree times states : List ℕ) (fits good lent : Bool)

@@ -2,8 +2,9 @@
 --   judged_as                  by what the tests decide, instead of the tests
 --   lists_as                   by lists that are good in the same cases
 --   judged_good, judged_not    a good verdict: nothing is refused, and the facts; a refusal is handed on
---   judged_next                two verdicts, one after the other: their orders are appended
+--   judged_stop, judged_go     two verdicts, one after the other: their orders are appended
 --   judged_facts               the facts told in other words
+use Rattle.std.specs.Prelude.{Err, Ok}
 use mathlib.Core.Path.{◌≡◌, refl}
 use mathlib.Core.Bool.{Bool, true}
 use mathlib.Core.List.{◌++◌}
@@ -13,24 +14,23 @@ use Rattle.basics.specs.declared.Refusal.{Refusal}
 use Rattle.alf.specs.Refusals.{At, Order, RefusedWith, RefusedBy, Passed}
 use Rattle.basics.specs.Deciding.{Decides}
 use Rattle.alf.proofs.Orders.{by_first, by_then, passed_both}
-use Rattle.judging.specs.declared.checks.Verdict.{Verdict}
-use Rattle.judging.specs.declared.checks.Verdict.TheVariants.{Good, Refused}
-use Rattle.judging.specs.Orders.{order, Judged, passes, refuses, next_of, Judges}
+use Rattle.judging.specs.Orders.{Verdict}
+use Rattle.judging.specs.Orders.{order, Judged, passes, refuses, Judges}
 use Rattle.basics.proofs.Stable.{true_stable}
 use Rattle.basics.proofs.Deciding.{told, tells}
 
-passed : {o : Order} {facts : Type 0} → Judged o facts Good → Passed o × facts
+passed : {o : Order} {facts : Type 0} → Judged o facts (Ok tt) → Passed o × facts
 passed (passes p f) = (p, f)
 
-refused : {o : Order} {facts : Type 0} {r : Refusal} → Judged o facts (Refused r)
+refused : {o : Order} {facts : Type 0} {r : Refusal} → Judged o facts (Err r)
     → RefusedBy o r
 refused (refuses h) = h
 
 module _ {o : Order} {facts : Type 0} {v : Verdict} (j : Judged o facts v) where
-  pub judged_good : v ≡ Good → Passed o × facts
+  pub judged_good : v ≡ (Ok tt) → Passed o × facts
   judged_good e = passed (rw e at j)
 
-  pub judged_not : {r : Refusal} → v ≡ Refused r → RefusedBy o r
+  pub judged_not : {r : Refusal} → v ≡ Err r → RefusedBy o r
   judged_not e = refused (rw e at j)
 
 -- tests of P and Q
@@ -78,13 +78,19 @@ module _ {P P' : Type 0} (f : P → P') (g : P' → P) where
       passes (λ k c. n k (record { given = λ x. c.given (f x); there = c.there }), h) (f x, y, z)
   lists_as (refuses h) = refuses (record { by = lists_refused _ _ _ _ h.by; bare = h.bare })
 
--- two verdicts, one after the other: their orders are appended
-pub judged_next : {o o' : Order} {F G : Type 0} {v w : Verdict} → Judged o F v → Judged o' G w
-    → Judged (o ++ o') (F × G) (next_of v w)
-unfolding next_of
-judged_next {o} {o'} (passes p f) (passes q g) = passes (passed_both o o' p q) (f, g)
-judged_next {o} {o'} (passes p f) (refuses h) = refuses (by_then o o' p h)
-judged_next {o} {o'} (refuses h) w = refuses (by_first o o' h)
+-- two verdicts, one after the other: their orders are appended. The first refusal is handed on; behind a good verdict
+-- comes the next.
+pub judged_stop : {o : Order} (o' : Order) {F G : Type 0} {v : Verdict} {r : Refusal} → Judged o F v → v ≡ Err r
+    → Judged (o ++ o') (F × G) (Err r)
+judged_stop {o} o' j e = refuses (by_first o o' (judged_not j e))
+
+next : (o : Order) {o' : Order} {F G : Type 0} {w : Verdict} → Passed o × F → Judged o' G w → Judged (o ++ o') (F × G) w
+next o {o'} (p, f) (passes q g) = passes (passed_both o o' p q) (f, g)
+next o {o'} (p, f) (refuses h) = refuses (by_then o o' p h)
+
+pub judged_go : {o o' : Order} {F G : Type 0} {v w : Verdict} → Judged o F v → v ≡ (Ok tt) → Judged o' G w
+    → Judged (o ++ o') (F × G) w
+judged_go {o} j e k = next o (judged_good j e) k
 
 -- the facts told in other words
 pub judged_facts : {o : Order} {F G : Type 0} {v : Verdict} → (F → G) → Judged o F v → Judged o G v

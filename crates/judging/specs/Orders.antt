@@ -4,9 +4,10 @@
 --   order, codes, codes_row, codes_correction    the parts of an order
 --   row_order, rows_order, trace_order            the orders of the calls
 --   Judged                        what a verdict by an order tells
---   test, place, next_of           the verdicts that are put together
+--   test, place                    the orders of single checks
 --   Judges, JudgesTrace, JudgesRow, JudgesCorrection    verdicts by two tests
 --   ChecksRow, ChecksRows         verdicts of a tree and a trace
+use Rattle.std.specs.Prelude.{Err, Ok, Result}
 use Rattle.std.specs.Prelude.{ℕ, ◌*◌, ◌<◌, ◌≡◌, Bool, true, List, [], ◌∷◌, length}
 use Rattle.basics.specs.declared.Refusal.{Refusal}
 use Rattle.alf.specs.declared.Rules.{Rules}
@@ -15,8 +16,10 @@ use Rattle.alf.specs.Refusals.{Order, check, bad_lists, cannot_be, bad_code, no_
 use Rattle.alf.specs.Refusals.{At, RefusedBy, Passed}
 use Rattle.acceptance.specs.Accepted.{Accepted}
 use Rattle.states.specs.FirstBadCode.{Codes}
-use Rattle.judging.specs.declared.checks.Verdict.{Verdict}
-use Rattle.judging.specs.declared.checks.Verdict.TheVariants.{Good, Refused}
+
+-- what a check comes to: good, or refused
+abbrev pub Verdict : Type 0
+Verdict = Result (Unit {0}) Refusal
 
 -- 1 to 32 names, n from 1 to 65,535, and a state for each name of each row
 pub record Rows (names n states : ℕ) : Type 0 where
@@ -57,8 +60,8 @@ trace_order ρ names n tree sort states =
 
 -- A verdict by an order: good, and some facts are so; or refused.
 pub data Judged (o : Order) (facts : Type 0) : Verdict → Type 0 where
-  passes : Passed o → facts → Judged o facts Good
-  refuses : {r : Refusal} → RefusedBy o r → Judged o facts (Refused r)
+  passes : Passed o → facts → Judged o facts (Ok tt)
+  refuses : {r : Refusal} → RefusedBy o r → Judged o facts (Err r)
 
 -- a number where a test fails; 19
 abbrev pub test : ℕ → Bool → Order
@@ -66,11 +69,6 @@ test number good = check number (At 0 (good ≡ true → ⊥)) ∷ []
 
 abbrev pub place : ℕ → ℕ → Order
 place n row = check 19 (no_such_row row n) ∷ []
-
--- the first verdict, and where that is good the second
-unfoldable pub next_of : Verdict → Verdict → Verdict
-next_of Good w = w
-next_of (Refused r) w = Refused r
 
 -- by two tests, whatever they stand for
 abbrev pub Judges : Bool → Bool → Order → Type 0 → Verdict → Type 0

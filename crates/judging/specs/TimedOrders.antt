@@ -10,7 +10,7 @@ use Rattle.alf.specs.declared.Sort.TheVariants.{Vector}
 use Rattle.alf.specs.Refusals.{Order, check, bad_code, early_row, no_such_row, Rising}
 use Rattle.acceptance.specs.Accepted.{Accepted}
 use Rattle.states.specs.FirstBadCode.{Codes}
-use Rattle.judging.specs.declared.checks.Verdict.{Verdict}
+use Rattle.judging.specs.Orders.{Verdict}
 use Rattle.judging.specs.Orders.{Rows, order, Judged, Judges}
 
 -- r is the first such row, or the number of rows where there is none

@@ -1,10 +1,9 @@
-// What the calls over rows check before they do anything: 18, 10, 15, 19, in this order. Each check gives a verdict,
-// and
-// `next` puts two verdicts together.
+// What the calls over rows check before they do anything: 18, 10, 15, 19, in this order. Each check gives a verdict, and
+// the first refusal is handed on.
 ghost use Rattle.std.specs.Prelude.{true, ◌≡◌, ◌<◌};
 ghost use Rattle.basics.specs.Deciding.{Decides};
 ghost use Rattle.states.specs.FirstBadCode.{Codes};
-ghost use Rattle.judging.specs.Orders.{Rows, test, codes, place, next_of, Judged, JudgesTrace, JudgesRow};
+ghost use Rattle.judging.specs.Orders.{Rows, test, codes, place, Judged, JudgesTrace, JudgesRow};
 ghost use Rattle.judging.specs.Orders.{ChecksRow, ChecksRows};
 
 use acceptance::accepting::accepts;
@@ -13,52 +12,35 @@ use basics::Refusal;
 use basics::refusing::refusal_of;
 use states::codes::first_bad_of_many;
 
-// Whether a call is refused.
-#[derive(Clone, Copy)]
-pub enum Verdict {
-    Good,
-    Refused(Refusal),
-}
-
-// The first verdict, and where that is good the second.
-pub fn next(first: Verdict, second: Verdict) -> Verdict
-    ensures { result ≡ next_of first second }
-{
-    match first {
-        Verdict::Refused(r) => Verdict::Refused(r),
-        Verdict::Good => second,
-    }
-}
-
 // Refused with a number where a test fails.
-fn judge_test(number: u8, good: bool) -> Verdict
+fn judge_test(number: u8, good: bool) -> Result<(), Refusal>
     ensures { Judged (test number good) (good ≡ true) result }
 {
     if !good {
-        return Verdict::Refused(refusal_of(number, 0));
+        return Err(refusal_of(number, 0));
     }
-    Verdict::Good
+    Ok(())
 }
 
 // 15.
-pub fn judge_codes(states: &[u8]) -> Verdict
+pub fn judge_codes(states: &[u8]) -> Result<(), Refusal>
     ensures { Judged (codes states.now) (Codes states.now) result }
 {
     let bad = first_bad_of_many(states);
     if bad < states.len() {
-        return Verdict::Refused(refusal_of(15, bad));
+        return Err(refusal_of(15, bad));
     }
-    Verdict::Good
+    Ok(())
 }
 
 // 19.
-pub fn judge_place(n: usize, row: usize) -> Verdict
+pub fn judge_place(n: usize, row: usize) -> Result<(), Refusal>
     ensures { Judged (place n row) (row < n) result }
 {
     if n <= row {
-        return Verdict::Refused(refusal_of(19, 0));
+        return Err(refusal_of(19, 0));
     }
-    Verdict::Good
+    Ok(())
 }
 
 // Whether there are 1 to 32 names, 1 to 65,535 rows, and a state for each name of each row.
@@ -94,19 +76,20 @@ pub fn lists_fit(names: usize, n: usize, lent: bool, states: usize) -> bool
 }
 
 // 18 where the lists do not fit, 10 where what is handed in is not good, 15.
-pub fn judge(fits: bool, good: bool, states: &[u8]) -> Verdict
+pub fn judge(fits: bool, good: bool, states: &[u8]) -> Result<(), Refusal>
     ensures { JudgesTrace fits good states.now result }
 {
-    let lists = judge_test(18, fits);
-    let handed = judge_test(10, good);
-    next(next(lists, handed), judge_codes(states))
+    judge_test(18, fits)?;
+    judge_test(10, good)?;
+    judge_codes(states)
 }
 
 // The same, and 19.
-pub fn judge_row(fits: bool, good: bool, states: &[u8], n: usize, row: usize) -> Verdict
+pub fn judge_row(fits: bool, good: bool, states: &[u8], n: usize, row: usize) -> Result<(), Refusal>
     ensures { JudgesRow fits good states.now n row result }
 {
-    next(judge(fits, good, states), judge_place(n, row))
+    judge(fits, good, states)?;
+    judge_place(n, row)
 }
 
 // A tree and a row of a trace.
@@ -118,7 +101,7 @@ pub fn check_row(
     sort: Sort,
     states: &[u8],
     row: usize,
-) -> Verdict
+) -> Result<(), Refusal>
     ensures { ChecksRow rules names n tree.now sort states.now row result }
 {
     let fits = rows_fit(names, n, states.len());
@@ -135,7 +118,7 @@ pub fn check_rows(
     tree: &[u8],
     sort: Sort,
     states: &[u8],
-) -> Verdict
+) -> Result<(), Refusal>
     ensures { ChecksRows rules names n lent tree.now sort states.now result }
 {
     let fits = lists_fit(names, n, lent, states.len());

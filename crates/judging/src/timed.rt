@@ -5,41 +5,41 @@ ghost use Rattle.judging.specs.Orders.{Judged};
 ghost use Rattle.judging.specs.TimedOrders.{FirstEarly, rises, JudgesTimed, JudgesTimedRow};
 ghost use Rattle.judging.specs.TimedOrders.{ChecksTimed, ChecksTimedRow};
 
-use crate::checks::{Verdict, judge, judge_place, lists_fit, next};
+use crate::checks::{judge, judge_place, lists_fit};
 use acceptance::accepting::accepts;
 use alf::{Rules, Sort};
+use basics::Refusal;
 use basics::refusing::refusal_of;
 
 // The first row whose time is not above the last row's, or the number of rows.
 pub fn first_early(times: &[u64]) -> usize
     ensures { FirstEarly times.now result }
 {
-    let mut i: usize = 1;
-    while i < times.len() {
+    for i in 1..times.len() {
         if times[i] <= times[i - 1] {
             return i;
         }
-        i += 1;
     }
     times.len()
 }
 
 // 13.
-pub fn judge_times(times: &[u64]) -> Verdict
+pub fn judge_times(times: &[u64]) -> Result<(), Refusal>
     ensures { Judged (rises times.now) (Rising times.now) result }
 {
     let early = first_early(times);
     if early < times.len() {
-        return Verdict::Refused(refusal_of(13, early));
+        return Err(refusal_of(13, early));
     }
-    Verdict::Good
+    Ok(())
 }
 
 // 18 where the lists do not fit, 10 where what is handed in is not good, 15, 13.
-pub fn judge_timed(fits: bool, good: bool, states: &[u8], times: &[u64]) -> Verdict
+pub fn judge_timed(fits: bool, good: bool, states: &[u8], times: &[u64]) -> Result<(), Refusal>
     ensures { JudgesTimed fits good states.now times.now result }
 {
-    next(judge(fits, good, states), judge_times(times))
+    judge(fits, good, states)?;
+    judge_times(times)
 }
 
 // The same, and 19.
@@ -50,10 +50,11 @@ pub fn judge_timed_row(
     times: &[u64],
     n: usize,
     row: usize,
-) -> Verdict
+) -> Result<(), Refusal>
     ensures { JudgesTimedRow fits good states.now times.now n row result }
 {
-    next(judge_timed(fits, good, states, times), judge_place(n, row))
+    judge_timed(fits, good, states, times)?;
+    judge_place(n, row)
 }
 
 // A vector expression's tree and all rows of a trace, with `lent` that every list is of n entries, the times too.
@@ -65,7 +66,7 @@ pub fn check_timed(
     tree: &[u8],
     times: &[u64],
     states: &[u8],
-) -> Verdict
+) -> Result<(), Refusal>
     ensures { ChecksTimed rules names n lent tree.now times.now
         states.now result }
 {
@@ -83,7 +84,7 @@ pub fn check_timed_row(
     times: &[u64],
     states: &[u8],
     row: usize,
-) -> Verdict
+) -> Result<(), Refusal>
     ensures { ChecksTimedRow rules names n tree.now times.now
         states.now row result }
 {

@@ -2,17 +2,16 @@
 --   keep_refused    a text that is refused
 --   keep_18         a table that has not an entry for each name
 --   keep_marked     the pins of the tree that is read are those of the expression given
+use Rattle.std.specs.Prelude.{Err, Ok}
 use Prim.Native.Nat.{ℕ, ◌≤◌}
 use native.Mathlib.Omega.{arith}
 use mathlib.Core.Path.{◌≡◌, refl, sym}
-use mathlib.Core.Bool.{true}
 use mathlib.Core.Logic.{inl}
 use mathlib.Core.List.{List}
 use lib.ListN.{length, take}
 use Rattle.basics.specs.Refusing.{refusal}
 use Rattle.basics.specs.Words.{all}
-use Rattle.basics.specs.declared.Outcome.{Outcome}
-use Rattle.basics.specs.declared.Outcome.TheVariants.{Done, Refused}
+use Rattle.basics.specs.Refusing.{Outcome}
 use Rattle.alf.specs.declared.Rules.{Rules}
 use Rattle.alf.specs.declared.Sort.{Sort}
 use Rattle.alf.specs.Names.{names_in}
@@ -23,6 +22,7 @@ use Rattle.names.specs.Check.{names_order}
 use Rattle.names.proofs.Few.{names_few}
 use Rattle.tokens.specs.Extents.{RefusedIn}
 use Rattle.tokens.proofs.ShownBytes.{in_first, in_then, in_silent}
+use Rattle.basics.specs.declared.Refusal.{Refusal}
 use Rattle.reader.specs.declared.Read.{Read}
 use Rattle.reader.specs.Reading.{read_order, ReadsText}
 use Rattle.text_laws.proofs.ReadTrees.{Found, read_refused, found_front}
@@ -43,20 +43,19 @@ module _ (names kept : List ℕ) where
   unfolding Passed
   table_passed e = (λ p a. a.given e, tt)
 
-module _ {ρ : Rules} {names text : List ℕ} {sort : Sort} {kept : List ℕ} {r : Read} where
-  pub keep_refused : ReadsText ρ names text sort r → r.refused ≡ true
-      → KeepsText ρ names text sort kept kept (Refused r.refusal)
-  keep_refused h e = refuses (in_first text (read_order ρ names text sort) _ (read_refused h e)) refl
+module _ {ρ : Rules} {names text : List ℕ} {sort : Sort} {kept : List ℕ} where
+  pub keep_refused : {r : Refusal} → ReadsText ρ names text sort (Err r) → KeepsText ρ names text sort kept kept (Err r)
+  keep_refused h = refuses (in_first text (read_order ρ names text sort) _ (read_refused h)) refl
 
-  module _ (f : Found ρ names text sort r) where
-    pub keep_18 : {o : Outcome} → (length kept ≡ names_in names → ⊥) → o ≡ Refused (refusal 18 0)
+  module _ {r : Read} (f : Found ρ names text sort r) where
+    pub keep_18 : {o : Outcome} → (length kept ≡ names_in names → ⊥) → o ≡ Err (refusal 18 0)
         → KeepsText ρ names text sort kept kept o
     keep_18 h e =
         rw e
         (refuses (in_then text (read_order ρ names text sort) _ f.passed (table_refused names kept text h)) refl)
 
     pub keep_marked : {kept' : List ℕ} → length kept ≡ names_in names → Marks (take r.len r.tree) kept kept'
-        → KeepsText ρ names text sort kept kept' (Done (names_in names))
+        → KeepsText ρ names text sort kept kept' (Ok (names_in names))
     keep_marked e m =
         let few : names_in names ≤ 32 = names_few names (passed_left (names_order names) _ f.passed) in
         keeps f.it (passed_both (read_order ρ names text sort) _ f.passed (table_passed names kept e)) f.gives

@@ -1,12 +1,12 @@
 -- What keeping the pins of a text comes to.
 --   keep_unique      result and table afterwards follow from the input
 --   keep_stays       refused, the table is as before
+use Rattle.std.specs.Prelude.{Err, Ok}
 use Prim.Native.Nat.{ℕ}
 use mathlib.Core.Path.{◌≡◌, ap, sym, ◌∙◌}
 use mathlib.Core.List.{List}
 use Rattle.basics.specs.declared.Refusal.{Refusal}
-use Rattle.basics.specs.declared.Outcome.{Outcome}
-use Rattle.basics.specs.declared.Outcome.TheVariants.{Done, Refused}
+use Rattle.basics.specs.Refusing.{Outcome}
 use Rattle.alf.specs.declared.Rules.{Rules}
 use Rattle.alf.specs.declared.Sort.{Sort}
 use Rattle.alf.specs.Expressions.{Expression}
@@ -31,11 +31,11 @@ module _ (ρ : Rules) (names text : List ℕ) (sort : Sort) (kept : List ℕ) wh
       → (r ≡ s) × (x ≡ y)
   keep_unique (keeps a p g k h) (keeps b q j l i) =
       let e = gives_unique g j in
-      (ap Done (k ∙ sym l), h ∙ ap (λ (z : Expression). joined (named z) kept) e ∙ sym i)
+      (ap Ok (k ∙ sym l), h ∙ ap (λ (z : Expression). joined (named z) kept) e ∙ sym i)
   keep_unique (keeps a p g k h) (refuses b i) = absurd (refused_passed _ _ _ p b.by)
   keep_unique (refuses a h) (keeps b q j l i) = absurd (refused_passed _ _ _ q a.by)
   keep_unique (refuses a h) (refuses b i) =
-      (ap Refused (refused_in_unique text _ keep_sole a b), h ∙ sym i)
+      (ap Err (refused_in_unique text _ keep_sole a b), h ∙ sym i)
 
-  pub keep_stays : {kept' : List ℕ} {r : Refusal} → KeepsText ρ names text sort kept kept' (Refused r) → kept' ≡ kept
+  pub keep_stays : {kept' : List ℕ} {r : Refusal} → KeepsText ρ names text sort kept kept' (Err r) → kept' ≡ kept
   keep_stays (refuses h e) = e

@@ -2,10 +2,10 @@
 --   keep_order     all that reading refuses; then 18 for a table that has not an entry for each name
 --   KeepsText     what the call comes to
 -- The rules do not change which pins are named. They are handed in because reading counts limit 8 by them.
+use Rattle.std.specs.Prelude.{Err, Ok}
 use Rattle.std.specs.Prelude.{ℕ, ◌≡◌, List, [], ◌∷◌, ◌++◌, length}
 use Rattle.basics.specs.declared.Refusal.{Refusal}
-use Rattle.basics.specs.declared.Outcome.{Outcome}
-use Rattle.basics.specs.declared.Outcome.TheVariants.{Done, Refused}
+use Rattle.basics.specs.Refusing.{Outcome}
 use Rattle.alf.specs.declared.Rules.{Rules}
 use Rattle.alf.specs.declared.Sort.{Sort}
 use Rattle.alf.specs.Names.{names_in}
@@ -31,9 +31,9 @@ pub data KeepsText (ρ : Rules) (names text : List ℕ) (sort : Sort) (kept kept
       Gives ρ names text sort x →
       m ≡ names_in names →
       kept' ≡ joined (named x) kept →
-      KeepsText ρ names text sort kept kept' (Done m)
+      KeepsText ρ names text sort kept kept' (Ok m)
   refuses :
       {r : Refusal} →
       RefusedIn text (keep_order ρ names text sort kept) r →
       kept' ≡ kept →
-      KeepsText ρ names text sort kept kept' (Refused r)
+      KeepsText ρ names text sort kept kept' (Err r)

@@ -2,23 +2,24 @@
 ghost use Rattle.kept_texts.specs.Keeping.{KeepsText};
 
 use alf::{Rules, Sort};
-use basics::Outcome;
+use basics::Refusal;
 use basics::refusing::refuse;
 use named_pins::marking::mark_names;
 use reader::read_expression;
 
 // The table with the pins that the text's expression names; how many names there are. Refused with what reading
 // refuses, then with 18 where the table has not an entry for each name.
-pub fn keep_text(rules: Rules, names: &[u8], text: &[u8], sort: Sort, kept: &mut [u8]) -> Outcome
+pub fn keep_text(
+    rules: Rules,
+    names: &[u8],
+    text: &[u8],
+    sort: Sort,
+    kept: &mut [u8],
+) -> Result<usize, Refusal>
     ensures { KeepsText rules names.now text.now sort kept.old
         kept.new result }
 {
-    let read = read_expression(rules, names, text, sort);
-    let no = read.refused;
-    if no {
-        let refusal = read.refusal;
-        return Outcome::Refused(refusal);
-    }
+    let read = read_expression(rules, names, text, sort)?;
     let count = names.len() / 32;
     if kept.len() != count {
         return refuse(18, 0);
@@ -26,5 +27,5 @@ pub fn keep_text(rules: Rules, names: &[u8], text: &[u8], sort: Sort, kept: &mut
     let tree = read.tree;
     let len = read.len;
     mark_names(&tree[..len], kept);
-    Outcome::Done(count)
+    Ok(count)
 }

@@ -1,22 +1,21 @@
 // The pins of a pattern, of a pin's own name, and of a file of patterns, kept; whether nothing was complained of.
 use alf::{Rules, Sort};
-use basics::Outcome;
+use basics::Refusal;
 use basics::refusing::refusal_of;
 use complaints::refused_text;
 use console::output::Console;
 use kept_texts::keeping::keep_text;
-use loading::files::Filled;
 use loading::patterns::fill_patterns;
 use names::is_name;
 use std::rt::Files;
-use text_parts::lines::{behind_line, is_blank, kept as kept_bytes, line_at};
+use text_parts::lines::{Lines, is_blank, kept as kept_bytes};
 use text_parts::parts::front;
 
 // A text that is refused is complained of as `table` does it.
-fn is_done(console: &Console, what: &[u8], text: &[u8], o: Outcome) -> bool {
+fn is_done(console: &Console, what: &[u8], text: &[u8], o: Result<usize, Refusal>) -> bool {
     match o {
-        Outcome::Done(_) => true,
-        Outcome::Refused(r) => {
+        Ok(_) => true,
+        Err(r) => {
             refused_text(console, what, text, r);
             false
         }
@@ -55,22 +54,17 @@ fn keep_line(console: &Console, rules: Rules, names: &[u8], text: &[u8], kept: &
     if is_blank(text) {
         return true;
     }
-    keep_pattern(console, rules, names, front(text, kept_bytes(text)), kept)
+    keep_pattern(console, rules, names, kept_bytes(text), kept)
 }
 
 // All lines of a text, while somebody reads what is said of them.
 fn keep_lines(console: &Console, rules: Rules, names: &[u8], text: &[u8], kept: &mut [u8]) -> bool {
     let mut good = true;
-    let mut at: usize = 0;
-    while at < text.len() {
+    for line in Lines(text) {
         if console.is_unread() {
             return false;
         }
-        let done = keep_line(console, rules, names, line_at(text, at), kept);
-        if !done {
-            good = false;
-        }
-        at = behind_line(text, at);
+        good &= keep_line(console, rules, names, line, kept);
     }
     good
 }
@@ -84,23 +78,10 @@ fn keep_filled<R: Files + Input>(
     data: &mut [u8],
     kept: &mut [u8],
 ) -> bool {
-    let filled = fill_patterns(rt, console, path, data);
-    match filled {
-        Filled::Failed => false,
-        Filled::Bytes(m) => keep_lines(console, rules, names, front(data, m), kept),
+    match fill_patterns(rt, console, path, data) {
+        None => false,
+        Some(m) => keep_lines(console, rules, names, front(data, m), kept),
     }
-}
-
-fn keep_lent<R: Files + Input>(
-    rt: &R,
-    console: &Console,
-    rules: Rules,
-    names: &[u8],
-    path: &[u8],
-    data: &mut [u8; 1048577],
-    kept: &mut [u8],
-) -> bool {
-    keep_filled(rt, console, rules, names, path, data, kept)
 }
 
 // The patterns of a file, one a line. The room is one byte more than a file may have.
@@ -113,5 +94,5 @@ pub fn keep_file<R: Files + Input>(
     kept: &mut [u8],
 ) -> bool {
     let mut data = [0u8; 1048577];
-    keep_lent(rt, console, rules, names, path, &mut data, kept)
+    keep_filled(rt, console, rules, names, path, data.as_mut_slice(), kept)
 }

@@ -5,34 +5,42 @@ use complaints::unfit;
 use console::output::Console;
 use loading::arguments::{arg_count, take_argument};
 use std::rt::{Env, Files};
-use text_parts::lines::line_of;
 
-// What the next word is: a pattern; a file; the first pin behind `--keep`; a further pin. The first word behind an
-// option is no option.
-const PATTERN: usize = 0;
+// What a word is: a pattern; a file; the first pin behind `--keep`; a further pin. The first word behind an option is
+// no option.
+#[derive(Clone, Copy)]
+enum Kind {
+    Pattern,
+    File,
+    FirstPin,
+    Pin,
+}
 
-const FILE: usize = 1;
+impl Kind {
+    // What stands behind the option that a word is, if it is one.
+    fn behind_option(self, word: &[u8]) -> Option<Kind> {
+        match (self, word) {
+            (Kind::File | Kind::FirstPin, _) => None,
+            (_, b"-f") => Some(Kind::File),
+            (_, b"--keep") => Some(Kind::FirstPin),
+            _ => None,
+        }
+    }
 
-const PIN: usize = 2;
-
-const MORE: usize = 3;
+    // What stands behind a word that is no option.
+    fn behind_word(self) -> Kind {
+        match self {
+            Kind::Pattern | Kind::File => Kind::Pattern,
+            Kind::FirstPin | Kind::Pin => Kind::Pin,
+        }
+    }
+}
 
 // What the next word is, and whether nothing was complained of so far.
 #[derive(Clone, Copy)]
 struct Way {
-    kind: usize,
+    next: Kind,
     good: bool,
-}
-
-// The number of the option that a word is; 2 where it is none.
-fn option(kind: usize, word: &[u8]) -> usize {
-    if kind == FILE {
-        return 2;
-    }
-    if kind == PIN {
-        return 2;
-    }
-    line_of(b"-f\n--keep\n", word)
 }
 
 // What is kept of a word that is no option.
@@ -41,22 +49,14 @@ fn keep_word<R: Files + Input>(
     console: &Console,
     rules: Rules,
     names: &[u8],
-    kind: usize,
+    kind: Kind,
     word: &[u8],
     kept: &mut [u8],
 ) -> bool {
     match kind {
-        FILE => keep_file(rt, console, rules, names, word, kept),
-        PIN | MORE => keep_pin(console, rules, names, word, kept),
-        _ => keep_pattern(console, rules, names, word, kept),
-    }
-}
-
-// What stands behind a word that is no option.
-fn behind(kind: usize) -> usize {
-    match kind {
-        PIN | MORE => MORE,
-        _ => PATTERN,
+        Kind::Pattern => keep_pattern(console, rules, names, word, kept),
+        Kind::File => keep_file(rt, console, rules, names, word, kept),
+        Kind::FirstPin | Kind::Pin => keep_pin(console, rules, names, word, kept),
     }
 }
 
@@ -69,25 +69,14 @@ fn take_word<R: Files + Input>(
     word: &[u8],
     kept: &mut [u8],
 ) -> Way {
-    let kind = w.kind;
-    let good = w.good;
-    let o = option(kind, word);
-    if o == 0 {
-        return Way { kind: FILE, good };
-    }
-    if o == 1 {
-        return Way { kind: PIN, good };
+    let Way { next: kind, good } = w;
+    if let Some(next) = kind.behind_option(word) {
+        return Way { next, good };
     }
     let done = keep_word(rt, console, rules, names, kind, word, kept);
-    if done {
-        return Way {
-            kind: behind(kind),
-            good,
-        };
-    }
     Way {
-        kind: behind(kind),
-        good: false,
+        next: kind.behind_word(),
+        good: good && done,
     }
 }
 
@@ -108,23 +97,12 @@ fn take<R: Env + Files + Input>(
 
 // An option with nothing behind it is complained of.
 fn finish(console: &Console, w: Way) -> bool {
-    if w.kind == FILE {
-        unfit(console, b"blank: -f", b"FILE", 0);
-        return false;
+    match w.next {
+        Kind::File => unfit(console, b"blank: -f", b"FILE"),
+        Kind::FirstPin => unfit(console, b"blank: --keep", b"PIN.."),
+        Kind::Pattern | Kind::Pin => return w.good,
     }
-    if w.kind == PIN {
-        unfit(console, b"blank: --keep", b"PIN..", 0);
-        return false;
-    }
-    w.good
-}
-
-// The argument behind one; there is none behind the last that a number can have.
-fn next(i: usize) -> usize {
-    if i < usize::MAX {
-        return i + 1;
-    }
-    i
+    false
 }
 
 // All words behind argument `out`, while somebody reads what is said of them; whether nothing was complained of.
@@ -137,17 +115,15 @@ pub fn keep_words<R: Env + Files + Input>(
     kept: &mut [u8],
 ) -> bool {
     let count = arg_count(rt);
-    let mut kind = PATTERN;
-    let mut good = true;
-    let mut i = next(out);
-    while i < count {
+    let mut way = Way {
+        next: Kind::Pattern,
+        good: true,
+    };
+    for i in out.saturating_add(1)..count {
         if console.is_unread() {
             return false;
         }
-        let w = take(rt, console, rules, names, Way { kind, good }, i, kept);
-        kind = w.kind;
-        good = w.good;
-        i += 1;
+        way = take(rt, console, rules, names, way, i, kept);
     }
-    finish(console, Way { kind, good })
+    finish(console, way)
 }

@@ -4,6 +4,7 @@
 --   letters_18, letters_stored      18, or what comes then
 --   codes_fit, codes_stored         the letters' codes at the front of a list
 --   letters_unique                  any two results, and the memory at exit, coincide
+use Rattle.std.specs.Prelude.{Err, Ok}
 use Prim.Native.Nat.{ℕ, ◌+◌, ◌*◌, ◌≤◌}
 use native.Mathlib.Nat.{suc-mul, mul-le-mul_right}
 use native.Mathlib.Omega.{arith}
@@ -14,15 +15,13 @@ use mathlib.Core.List.{List, map}
 use lib.ListN.{length, take, length-map}
 use Rattle.basics.specs.Refusing.{refusal}
 use Rattle.basics.specs.declared.Refusal.{Refusal}
-use Rattle.basics.specs.declared.Outcome.{Outcome}
-use Rattle.basics.specs.declared.Outcome.TheVariants as outcome
+use Rattle.basics.specs.Refusing.{Outcome}
 use Rattle.alf.specs.Refusals.{Order, RefusedWith, Passed, Comes}
 use Rattle.alf.specs.Traces.{corrected}
 use Rattle.alf.proofs.Outcomes.{at_fixed, first_fixed}
 use Rattle.basics.specs.Memory.{placed, Put, Holds}
 use Rattle.basics.proofs.Stores.{put_placed}
-use Rattle.judging.specs.declared.checks.Verdict.{Verdict}
-use Rattle.judging.specs.declared.checks.Verdict.TheVariants.{Good, Refused}
+use Rattle.judging.specs.Orders.{Verdict}
 use Rattle.judging.specs.Orders.{order, codes_correction, JudgesCorrection}
 use Rattle.basics.specs.Memory.{after}
 use Rattle.judging.proofs.Verdicts.{judged_good, judged_not}
@@ -42,19 +41,19 @@ only_rest rest n p (inr (m, inr (l, x))) = x
 -- new states for a row
 module _ {k n : ℕ} {states : List ℕ} {row : ℕ} {new : List ℕ} {v : Verdict}
     (f : LettersFit k n (length states) (length new)) (j : JudgesCorrection true true states new n row v) where
-  pub stored_refused : {r : Refusal} → v ≡ Refused r → Stores k n states row new states (outcome.Refused r)
+  pub stored_refused : {r : Refusal} → v ≡ Err r → Stores k n states row new states (Err r)
   unfolding Comes after
   stored_refused {r} e =
       let h = judged_not j.is e in
       record { comes = record { by = only_rest _ _ _ h.by; bare = h.bare }; memory = refl }
 
-  pub row_fits : v ≡ Good → row * k + k ≤ length states
+  pub row_fits : v ≡ (Ok tt) → row * k + k ≤ length states
   row_fits e =
       let there = (judged_good j.is e).1.2.2 in
       omega (arith, mul-le-mul_right k there, suc-mul row k, f.rows.all)
 
-  pub stored_told : {states' : List ℕ} {at : ℕ} → v ≡ Good → Put states (row * k) new states' at
-      → Stores k n states row new states' (outcome.Done 1)
+  pub stored_told : {states' : List ℕ} {at : ℕ} → v ≡ (Ok tt) → Put states (row * k) new states' at
+      → Stores k n states row new states' (Ok 1)
   unfolding Comes Passed after placed corrected
   stored_told e s =
       record {
@@ -65,7 +64,7 @@ module _ {k n : ℕ} {states : List ℕ} {row : ℕ} {new : List ℕ} {v : Verdi
 -- letters
 module _ {k n : ℕ} {states : List ℕ} {row : ℕ} {letters : List ℕ} where
   pub letters_18 : {r : Outcome} → (LettersFit k n (length states) (length letters) → ⊥)
-      → r ≡ outcome.Refused (refusal 18 0) → CorrectsLetters k n states row letters states r
+      → r ≡ Err (refusal 18 0) → CorrectsLetters k n states row letters states r
   unfolding Comes RefusedWith after
   letters_18 h e =
       rw e
@@ -76,8 +75,8 @@ comes_all : (k n : ℕ) (states : List ℕ) (row : ℕ) (letters : List ℕ)
     → (r : Outcome) → Comes (codes_correction states (map state_of letters) n row) (λ m. m ≡ 1) r
     → Comes (letters_order k n states row letters) (λ m. m ≡ 1) r
 unfolding Comes Passed RefusedWith
-comes_all k n states row letters f (outcome.Done m) x = ((λ p a. a.given f, x.0), x.1)
-comes_all k n states row letters f (outcome.Refused q) x =
+comes_all k n states row letters f (Ok m) x = ((λ p a. a.given f, x.0), x.1)
+comes_all k n states row letters f (Err q) x =
     record { by = inr (λ p a. a.given f, x.by); bare = x.bare }
 
 -- behind 18

@@ -4,7 +4,7 @@
 --   CorrectsLetters    what the call comes to
 --   Stores             the same behind 18, for new states as codes: what the functions inside give
 use Rattle.std.specs.Prelude.{ℕ, ◌≡◌, List, ◌∷◌, map, length}
-use Rattle.basics.specs.declared.Outcome.{Outcome}
+use Rattle.basics.specs.Refusing.{Outcome}
 use Rattle.alf.specs.Refusals.{Order, check, bad_lists, Comes}
 use Rattle.alf.specs.Traces.{corrected}
 use Rattle.judging.specs.Orders.{Rows, codes_correction}

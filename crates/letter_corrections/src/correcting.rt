@@ -8,10 +8,10 @@ ghost use Rattle.letter_corrections.specs.Correcting.{LettersFit, Stores, Correc
 ghost use Rattle.letter_corrections.specs.RowNumbers.{gone_on, row_number};
 
 use alf::RowNo;
-use basics::Outcome;
+use basics::Refusal;
 use basics::puts::put;
 use basics::refusing::refuse;
-use judging::checks::{Verdict, rows_fit};
+use judging::checks::rows_fit;
 use state_letters::code_of;
 use update_calls::correcting::judge_correction;
 
@@ -20,12 +20,10 @@ fn put_codes(letters: &[u8], out: &mut [u8]) -> usize
     requires { Room out.old 0 (map state_of letters.now) }
     ensures { Put out.old 0 (map state_of letters.now) out.new result }
 {
-    let mut i: usize = 0;
-    while i < letters.len() {
+    for i in 0..letters.len() {
         out[i] = code_of(letters[i]);
-        i += 1;
     }
-    i
+    letters.len()
 }
 
 fn lay_codes(letters: &[u8], list: &mut [u8; 32]) -> usize
@@ -46,23 +44,30 @@ fn letters_fit(k: usize, n: usize, states: usize, letters: usize) -> bool
 }
 
 // New states for a row, as codes; 15 of the trace, 15 of the new states, 19.
-fn store_codes(k: usize, n: usize, states: &mut [u8], row: RowNo, new: &[u8]) -> Outcome
+fn store_codes(
+    k: usize,
+    n: usize,
+    states: &mut [u8],
+    row: RowNo,
+    new: &[u8],
+) -> Result<usize, Refusal>
     requires { LettersFit k n (length states.old) (length new.now) }
     ensures { Stores k n states.old row.0 new.now states.new result }
 {
     let at = row.0 as usize;
-    let v = judge_correction(true, true, states, new, n, at);
-    match v {
-        Verdict::Refused(r) => Outcome::Refused(r),
-        Verdict::Good => {
-            put(new, states, at * k);
-            Outcome::Done(1)
-        }
-    }
+    judge_correction(true, true, states, new, n, at)?;
+    put(new, states, at * k);
+    Ok(1)
 }
 
 // The same, as letters.
-fn store_letters(k: usize, n: usize, states: &mut [u8], row: RowNo, letters: &[u8]) -> Outcome
+fn store_letters(
+    k: usize,
+    n: usize,
+    states: &mut [u8],
+    row: RowNo,
+    letters: &[u8],
+) -> Result<usize, Refusal>
     requires { LettersFit k n (length states.old) (length letters.now) }
     ensures { Stores k n states.old row.0 (map state_of letters.now)
         states.new result }
@@ -74,7 +79,13 @@ fn store_letters(k: usize, n: usize, states: &mut [u8], row: RowNo, letters: &[u
 
 // The letters' states become row `row` of a trace of k names and n rows; one row. Refused: 18, 15 of the trace, 15 of
 // the letters, 19.
-pub fn correct_letters(k: usize, n: usize, states: &mut [u8], row: RowNo, letters: &[u8]) -> Outcome
+pub fn correct_letters(
+    k: usize,
+    n: usize,
+    states: &mut [u8],
+    row: RowNo,
+    letters: &[u8],
+) -> Result<usize, Refusal>
     ensures { CorrectsLetters k n states.old row.0 letters.now
         states.new result }
 {
@@ -111,10 +122,8 @@ pub fn row_number(text: &[u8]) -> usize
         return 65536;
     }
     let mut n: usize = 0;
-    let mut i: usize = 0;
-    while i < text.len() {
+    for i in 0..text.len() {
         n = go_on(n, text[i]);
-        i += 1;
     }
     n
 }

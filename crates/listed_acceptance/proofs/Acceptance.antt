@@ -3,7 +3,7 @@
 --   accepted_short                   K is at most 16
 --   accepted_shape                   so the lists have the shape that matching asks for
 --   accepted_shaped, shaped_accepted
---   operand_long, operand_no, operand_start, operand_is    one operand, of which the last 256 bytes tell
+--   operand_long, operand_none, operand_start, operand_is    one operand, of which the last 256 bytes tell
 use mathlib.Core.Path.{◌≡◌, refl, sym, ◌∙◌}
 use mathlib.Core.Bool.{Bool, true, false, ◌||◌}
 use mathlib.Core.List.{List}
@@ -20,7 +20,11 @@ use Rattle.alf.specs.Alternatives.{Alternative, over_limit}
 use Rattle.alf.specs.Alternatives as alternatives
 use Rattle.basics.proofs.Bools.{never, or_left, or_right}
 use Rattle.trees.specs.Parts.{EndsBoolean, Start}
+use Rattle.std.specs.Prelude.{Some, None}
+use Rattle.alf.specs.Decoder.{stack_at}
+use Rattle.trees.specs.declared.sorts.Part.{Part}
 use Rattle.trees.specs.Sorts.{kind_of, Ending}
+use Rattle.trees.proofs.Endings.{ending_from, ending_none}
 use Rattle.trees.proofs.Starts.{start_unique}
 use Rattle.alf.specs.Values.{old_rules_lem}
 use Rattle.acceptance.specs.Accepted.{Accepted}
@@ -129,16 +133,15 @@ module _ (names : ℕ) (tree steps tests edges operands : List ℕ) where
       }
 
 -- one operand
-boolean_kind : (s : Stack) → is_boolean s ≡ true → kind_of s ≡ 1
+boolean_kind : (s : Stack) → is_boolean s ≡ true → kind_of s ≡ Some sort.Boolean
 unfolding is_boolean kind_of
 boolean_kind empty h = never h
 boolean_kind broken h = never h
 boolean_kind (push (boolean c) s) h = refl
 boolean_kind (push (vector p) s) h = never h
 
-pub operand_start : {t : List ℕ} {names end kind start : ℕ} → Ending t names end kind start → kind ≡ 1
-    → start < end
-operand_start e k = (e.from (omega arith)).before
+pub operand_start : {t : List ℕ} {names end : ℕ} {p : Part} → Ending t names end (Some p) → p.start < end
+operand_start e = (ending_from e).before
 
 module _ (tree : List ℕ) (names end : ℕ) where
   pub operand_long : length tree < end → Decides false (Operand tree names end)
@@ -164,24 +167,29 @@ module _ (tree : List ℕ) (names end : ℕ) where
         (omega (arith, part_length tree names end low l (omega arith))) (omega arith)
         (rw (part_inside tree end low o.start l n (omega arith)) o.accepted)
 
-    module _ {kind start : ℕ} (e : Ending tail names (end - low) kind start) where
-      pub operand_no : (kind ≡ 1 → ⊥) → Decides false (Operand tree names end)
-      unfolding Decides
-      operand_no n = λ o. n (e.is ∙ boolean_kind _ (operand_inside o).0.whole)
+    operand_kind : Operand tree names end → kind_of (stack_at tail names (end - low)) ≡ Some sort.Boolean
+    operand_kind o = boolean_kind _ (operand_inside o).0.whole
 
-      operand_same : kind ≡ 1 → (o : Operand tree names end) → o.start ≡ low + start
-      operand_same k o =
-          let q = start_unique (operand_inside o).1 (e.from (omega arith)) in
+    pub operand_none : Ending tail names (end - low) None → Decides false (Operand tree names end)
+    unfolding Decides
+    operand_none e = λ o. let k = sym (ending_none e) ∙ operand_kind o in cc
+
+    module _ {p : Part} (e : Ending tail names (end - low) (Some p)) where
+      operand_same : (o : Operand tree names end) → o.start ≡ low + p.start
+      operand_same o =
+          let q = start_unique (operand_inside o).1 (ending_from e) in
           omega (arith, operand_near o)
 
-      pub operand_is : kind ≡ 1 → (r : Bool)
-          → Decides r (Accepted old_rules_lem names sort.Boolean (take (end - (low + start)) (drop (low + start) tree)))
+      pub operand_is : (r : Bool)
+          → Decides r
+          (Accepted old_rules_lem names sort.Boolean (take (end - (low + p.start)) (drop (low + p.start) tree)))
           → Decides r (Operand tree names end)
-      operand_is k r =
-          same_decided (Accepted old_rules_lem names sort.Boolean (take (end - (low + start)) (drop (low + start) tree)))
+      operand_is r =
+          same_decided
+          (Accepted old_rules_lem names sort.Boolean (take (end - (low + p.start)) (drop (low + p.start) tree)))
           (Operand tree names end) r
           (λ a.
-          let s = operand_start e k in
-          let (w, f) = alone tree names end (low + start) l (omega arith) a in
-          record { ends = w; start = low + start; from = f; accepted = a })
-          (λ o. rw (operand_same k o) at o.accepted)
+          let s = operand_start e in
+          let (w, f) = alone tree names end (low + p.start) l (omega arith) a in
+          record { ends = w; start = low + p.start; from = f; accepted = a })
+          (λ o. rw (operand_same o) at o.accepted)

@@ -3,7 +3,7 @@
 --   fits_order     the refusals in their order
 --   ListedFits    what the call comes to
 use Rattle.std.specs.Prelude.{ℕ, ◌≡◌, List, [], length}
-use Rattle.basics.specs.declared.Outcome.{Outcome}
+use Rattle.basics.specs.Refusing.{Outcome}
 use Rattle.alf.specs.Refusals.{Order, NameCount, Comes}
 use Rattle.judging.specs.Orders.{order}
 use Rattle.listed_acceptance.specs.Lists.{AcceptedAlternatives}

@@ -5,7 +5,7 @@ ghost use Rattle.listed_acceptance.specs.Fitting.{ListedFits};
 
 use crate::counting::{are_light, are_stepped, sums_to};
 use crate::operands::{are_known, are_operands};
-use basics::Outcome;
+use basics::Refusal;
 use basics::refusing::refuse;
 use rewriting_calls::names_fit;
 
@@ -63,7 +63,7 @@ pub fn count_listed(
     tests: &[u8],
     edges: &[u8],
     operands: &[u16],
-) -> Outcome
+) -> Result<usize, Refusal>
     ensures { ListedFits names tree.now steps.now tests.now
         edges.now operands.now result }
 {
@@ -73,5 +73,5 @@ pub fn count_listed(
     if !fits(names, tree, steps, tests, edges, operands) {
         return refuse(10, 0);
     }
-    Outcome::Done(steps.len())
+    Ok(steps.len())
 }

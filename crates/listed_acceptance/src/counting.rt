@@ -9,14 +9,12 @@ pub fn sums_to(list: &[u8], want: usize) -> bool
     ensures { Decides result (sum list.now ≡ want) }
 {
     let mut left = want;
-    let mut i: usize = 0;
-    while i < list.len() {
+    for i in 0..list.len() {
         let x = list[i] as usize;
         if left < x {
             return false;
         }
         left -= x;
-        i += 1;
     }
     left == 0
 }
@@ -25,8 +23,7 @@ pub fn sums_to(list: &[u8], want: usize) -> bool
 pub fn are_stepped(steps: &[u8]) -> bool
     ensures { Decides result (Each Stepped steps.now) }
 {
-    let mut i: usize = 0;
-    while i < steps.len() {
+    for i in 0..steps.len() {
         let x = steps[i];
         if x == 0 {
             return false;
@@ -34,7 +31,6 @@ pub fn are_stepped(steps: &[u8]) -> bool
         if 16 < x {
             return false;
         }
-        i += 1;
     }
     true
 }
@@ -45,14 +41,12 @@ pub fn few_tests(tests: &[u8], s: usize, n: usize) -> bool
     ensures { Decides result (sum (take n (drop s tests.now)) ≤ 64) }
 {
     let mut left: usize = 64;
-    let mut i: usize = 0;
-    while i < n {
+    for i in 0..n {
         let x = tests[s + i] as usize;
         if left < x {
             return false;
         }
         left -= x;
-        i += 1;
     }
     true
 }
@@ -63,14 +57,12 @@ pub fn are_light(steps: &[u8], tests: &[u8]) -> bool
     ensures { Decides result (Light steps.now tests.now) }
 {
     let mut s: usize = 0;
-    let mut i: usize = 0;
-    while i < steps.len() {
+    for i in 0..steps.len() {
         let n = steps[i] as usize;
         if !few_tests(tests, s, n) {
             return false;
         }
         s += n;
-        i += 1;
     }
     true
 }

@@ -12,12 +12,10 @@ use trees::sorts::part_of;
 pub fn are_known(edges: &[u8]) -> bool
     ensures { Decides result (Each Known edges.now) }
 {
-    let mut i: usize = 0;
-    while i < edges.len() {
+    for i in 0..edges.len() {
         if 82 < edges[i] {
             return false;
         }
-        i += 1;
     }
     true
 }
@@ -41,24 +39,25 @@ pub fn is_operand(tree: &[u8], names: usize, end: usize) -> bool
         return false;
     }
     let low = back(end, 256);
-    let part = part_of(&tree[low..end], end - low, names);
-    if part.kind != 1 {
-        return false;
+    match part_of(&tree[low..end], end - low, names) {
+        Some(part) => accepts(
+            old_rules(),
+            &tree[low + part.start..end],
+            names,
+            Sort::Boolean,
+        ),
+        None => false,
     }
-    let start = low + part.start;
-    accepts(old_rules(), &tree[start..end], names, Sort::Boolean)
 }
 
 // Whether each operand is one.
 pub fn are_operands(tree: &[u8], names: usize, operands: &[u16]) -> bool
     ensures { Decides result (Each (Operand tree.now names) operands.now) }
 {
-    let mut i: usize = 0;
-    while i < operands.len() {
+    for i in 0..operands.len() {
         if !is_operand(tree, names, operands[i] as usize) {
             return false;
         }
-        i += 1;
     }
     true
 }

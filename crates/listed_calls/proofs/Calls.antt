@@ -1,6 +1,7 @@
 -- What the calls over alternatives handed in come to, case by case; the queue's stand apart.
 --   TimedRow, match_asked, match_refused, match_date, match_told; totals-..
 --   TimedRows, all_asked, all_refused, all_marks, all_told
+use Rattle.std.specs.Prelude.{Err, Ok}
 use mathlib.Core.Path.{◌≡◌, refl, ap, ◌∙◌}
 use mathlib.Core.Bool.{Bool, true}
 use mathlib.Core.List.{List}
@@ -10,7 +11,6 @@ use lib.Dec.{eqb}
 use lib.ListN.{length}
 use Rattle.basics.specs.declared.Refusal.{Refusal}
 use Rattle.alf.specs.declared.Rules.{Rules}
-use Rattle.basics.specs.declared.Outcome.TheVariants as outcome
 use Rattle.basics.specs.Words as words
 use Rattle.basics.specs.Memory.{after}
 use Rattle.basics.specs.Deciding.{Decides}
@@ -30,13 +30,10 @@ use Rattle.beginnings.specs.Times.{DateAsked, Dating, MarksAsked, Marks}
 use Rattle.beginnings.proofs.ByTries.{date_asked, dated, marks_took, marked_flags, marked_times}
 use Rattle.beginnings.proofs.Counts.{counted}
 use Rattle.states.specs.FirstBadCode.{Codes}
-use Rattle.judging.specs.declared.checks.Verdict.{Verdict}
-use Rattle.judging.specs.declared.checks.Verdict.TheVariants.{Good, Refused}
+use Rattle.judging.specs.Orders.{Verdict}
 use Rattle.judging.specs.Orders.{Rows, Judged, JudgesTrace}
 use Rattle.judging.specs.TimedOrders.{JudgesTimed, JudgesTimedRow}
 use Rattle.judging.proofs.Verdicts.{judged_as, judged_good, judged_not, lists_as}
-use Rattle.matching_calls.specs.declared.matching.Matching.TheVariants as matching
-use Rattle.matching_calls.specs.declared.matching.Counting.TheVariants as counting
 use Rattle.matching_calls.specs.Matching.{Lent, Finds, Counts}
 use Rattle.matching_calls.proofs.Matches.{rows_asked}
 use Rattle.listed_acceptance.specs.Lists.{AcceptedAlternatives}
@@ -104,7 +101,7 @@ module _ {names n : ℕ} {tree steps tests edges operands states : List ℕ} {go
         lists_as (λ (x, l). (told _ d x, l)) (λ (x, l). (tells _ d x, l))
         (judged_as fits good _ _ f (λ x. g) _ j.is)
 
-    pub match_asked : v ≡ Good → TimedRow names tree steps tests edges operands times states row
+    pub match_asked : v ≡ (Ok tt) → TimedRow names tree steps tests edges operands times states row
     match_asked e =
         let ((m, l), a, (s, t, h)) = (judged_good as_row e).1 in
         record {
@@ -116,15 +113,15 @@ module _ {names n : ℕ} {tree steps tests edges operands states : List ℕ} {go
           timed = omega arith;
         }
 
-    pub match_refused : {ρ : Rules} {r : Refusal} → v ≡ Refused r
-        → ListedMatch ρ names n tree steps tests edges operands states times row (matching.Refused r)
+    pub match_refused : {ρ : Rules} {r : Refusal} → v ≡ Err r
+        → ListedMatch ρ names n tree steps tests edges operands states times row (Err r)
     unfolding Finds
     match_refused e = record { comes = judged_not as_row e }
 
-    pub match_told : {ρ : Rules} {a : Answer} {t : ℕ} {r : Dated} → v ≡ Good
+    pub match_told : {ρ : Rules} {a : Answer} {t : ℕ} {r : Dated} → v ≡ (Ok tt)
         → Matches (state_at ρ names states) (alternatives_of_lem tree names steps tests edges operands) row a t
         → Dating times steps row a t r.answer r.tries r.began
-        → ListedMatch ρ names n tree steps tests edges operands states times row (matching.Found r)
+        → ListedMatch ρ names n tree steps tests edges operands states times row (Ok r)
     unfolding Finds
     match_told {ρ} e m d =
         record {
@@ -140,19 +137,19 @@ module _ {names n : ℕ} {tree steps tests edges operands states : List ℕ} {go
         (Rows names n (length states) × AcceptedAlternatives names tree steps tests edges operands × Codes states) v
     as_rows = judged_as fits good _ _ f (λ x. g) _ j.is
 
-    pub totals_asked : v ≡ Good → RowsAsked tree names states steps tests edges operands n
+    pub totals_asked : v ≡ (Ok tt) → RowsAsked tree names states steps tests edges operands n
     totals_asked e =
         let (l, a, s) = (judged_good as_rows e).1 in
         record { shape = accepted_shape _ _ _ _ _ _ a; rows = rows_asked l s }
 
-    pub totals_refused : {ρ : Rules} {r : Refusal} → v ≡ Refused r
-        → ListedTotals ρ names n tree steps tests edges operands states (counting.Refused r)
+    pub totals_refused : {ρ : Rules} {r : Refusal} → v ≡ Err r
+        → ListedTotals ρ names n tree steps tests edges operands states (Err r)
     unfolding Counts
     totals_refused e = record { comes = judged_not as_rows e }
 
-    pub totals_told : {ρ : Rules} {t : Total} → v ≡ Good
+    pub totals_told : {ρ : Rules} {t : Total} → v ≡ (Ok tt)
         → TotalsOf (state_at ρ names states) (alternatives_of_lem tree names steps tests edges operands) n t.yes t.no
-        t.unknown → ListedTotals ρ names n tree steps tests edges operands states (counting.Counted t)
+        t.unknown → ListedTotals ρ names n tree steps tests edges operands states (Ok t)
     unfolding Counts
     totals_told e t = record { comes = ((judged_good as_rows e).0, t) }
 
@@ -172,7 +169,7 @@ module _ {names n : ℕ} {tree steps tests edges operands states : List ℕ} {go
         lists_as (λ (x, l). (told lent d x, l)) (λ (x, l). (tells lent d x, l))
         (judged_as fits good _ _ f (λ x. g) _ j.is)
 
-    pub all_asked : v ≡ Good → TimedRows names n tree steps tests edges operands times states answers tried given began
+    pub all_asked : v ≡ (Ok tt) → TimedRows names n tree steps tests edges operands times states answers tried given began
     all_asked e =
         let ((x, l), a, (s, t)) = (judged_good as_lists e).1 in
         record {
@@ -185,9 +182,9 @@ module _ {names n : ℕ} {tree steps tests edges operands states : List ℕ} {go
           lent = x;
         }
 
-    pub all_refused : {ρ : Rules} {r : Refusal} → v ≡ Refused r
+    pub all_refused : {ρ : Rules} {r : Refusal} → v ≡ Err r
         → ListedAll ρ names n tree steps tests edges operands states times answers tried given began answers tried given
-        began (outcome.Refused r)
+        began (Err r)
     unfolding Comes after
     all_refused e =
         record {
@@ -198,12 +195,12 @@ module _ {names n : ℕ} {tree steps tests edges operands states : List ℕ} {go
           began_memory = refl;
         }
 
-    pub all_told : {ρ : Rules} {answers' tried' given' began' : List ℕ} → v ≡ Good
+    pub all_told : {ρ : Rules} {answers' tried' given' began' : List ℕ} → v ≡ (Ok tt)
         → Filled (state_at ρ names states) (alternatives_of_lem tree names steps tests edges operands) n answers tried
         answers' tried'
         → Marks times steps n answers' tried' given' began'
         → ListedAll ρ names n tree steps tests edges operands states times answers tried given began answers' tried'
-        given' began' (outcome.Done n)
+        given' began' (Ok n)
     unfolding Comes after
     all_told {ρ} e w m =
         let l = all_asked e in

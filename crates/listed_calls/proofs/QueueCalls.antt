@@ -1,6 +1,7 @@
 -- What a push for alternatives handed in comes to, case by case.
 --   queue_many, queue_lists, queue_kept    whether a queue may be handed in with the alternatives
 --   push_asked, push_refused, push_told
+use Rattle.std.specs.Prelude.{Err, Ok}
 use mathlib.Core.Path.{◌≡◌, refl, ◌∙◌}
 use mathlib.Core.Bool.{Bool, false}
 use mathlib.Core.List.{List}
@@ -19,12 +20,10 @@ use Rattle.queue.specs.Queues.{PushAsked}
 use Rattle.timed_queue.specs.declared.queues.Queue.{Queue}
 use Rattle.timed_queue.specs.TimedQueues.{Pushes}
 use Rattle.states.specs.FirstBadCode.{Codes}
-use Rattle.judging.specs.declared.checks.Verdict.{Verdict}
-use Rattle.judging.specs.declared.checks.Verdict.TheVariants.{Good, Refused}
+use Rattle.judging.specs.Orders.{Verdict}
 use Rattle.judging.specs.Orders.{Judged}
 use Rattle.judging.proofs.Verdicts.{judged_as, judged_good, judged_not}
-use Rattle.matching_calls.specs.declared.matching.Matching.{Matching}
-use Rattle.matching_calls.specs.declared.matching.Matching.TheVariants as matching
+use Rattle.matching_calls.specs.Matching.{Matching}
 use Rattle.queue_calls.specs.Pushing.{RowFits, Keeps, Early, JudgesPush}
 use Rattle.listed_acceptance.specs.Lists.{AcceptedAlternatives}
 use Rattle.listed_acceptance.proofs.Acceptance.{accepted_shape, accepted_short}
@@ -65,7 +64,7 @@ module _ {names : ℕ} {tree steps tests edges operands : List ℕ} {q : Queue} 
       × (Codes row × (Early q time → ⊥))) v
   as_push = judged_as fits good _ _ f (λ x. g.is x.name_count_lem.1) _ j.is
 
-  pub push_asked : v ≡ Good → PushAsked tree names steps tests edges operands q.rows row
+  pub push_asked : v ≡ (Ok tt) → PushAsked tree names steps tests edges operands q.rows row
   push_asked e =
       let (l, h, (s, t)) = (judged_good as_push e).1 in
       let shape = accepted_shape _ _ _ _ _ _ h.accepted in
@@ -85,14 +84,14 @@ module _ {names : ℕ} {tree steps tests edges operands : List ℕ} {q : Queue} 
         codes = s;
       }
 
-  pub push_refused : {ρ : Rules} {r : Refusal} → v ≡ Refused r
-      → ListedPush ρ names tree steps tests edges operands q time row (matching.Refused r) q
+  pub push_refused : {ρ : Rules} {r : Refusal} → v ≡ Err r
+      → ListedPush ρ names tree steps tests edges operands q time row (Err r) q
   unfolding Takes
   push_refused e = record { comes = (judged_not as_push e, refl) }
 
-  pub push_told : {ρ : Rules} {m : Dated} {p q' : Queue} {tell : Matching} → v ≡ Good
+  pub push_told : {ρ : Rules} {m : Dated} {p q' : Queue} {tell : Matching} → v ≡ (Ok tt)
       → Pushes ρ names (alternatives_of_lem tree names steps tests edges operands) q time row m.answer m.tries
-      m.began p → tell ≡ matching.Found m → q' ≡ p
+      m.began p → tell ≡ Ok m → q' ≡ p
       → ListedPush ρ names tree steps tests edges operands q time row tell q'
   unfolding Takes
   push_told e p d f = rw (d, f) (record { comes = ((judged_good as_push e).0, p) })

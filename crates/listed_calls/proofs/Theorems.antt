@@ -1,5 +1,6 @@
 -- What the calls over alternatives handed in promise together.
 --   listed_totals_together    yes, no and unknown together are n-1, as alf/proofs/Totals says of an expression
+use Rattle.std.specs.Prelude.{Ok}
 use mathlib.Core.Path.{◌≡◌, refl}
 use mathlib.Core.List.{List}
 use Prim.Native.Nat.{ℕ, zero, suc, ◌+◌, ◌-◌}
@@ -12,7 +13,6 @@ use Rattle.alf.specs.Alternatives.{Alternative, answer_of, best_of}
 use Rattle.alf.proofs.Totals.{one_of_three}
 use Rattle.matcher.specs.declared.tables.Total.{Total}
 use Rattle.matcher.specs.Tables.{total_of}
-use Rattle.matching_calls.specs.declared.matching.Counting.TheVariants.{Counted}
 use Rattle.matching_calls.specs.Matching.{Counts}
 use Rattle.listed_calls.specs.Listed.{ListedTotals, alternatives_in}
 
@@ -28,7 +28,7 @@ module _ (st : Boolean → ℕ → ℕ) (xs : List Alternative) where
   sum_rows (suc n) = omega (arith, sum_events n)
 
 pub listed_totals_together : {ρ : Rules} {names n : ℕ} {tree steps tests edges operands states : List ℕ} {t : Total}
-    → ListedTotals ρ names n tree steps tests edges operands states (Counted t)
+    → ListedTotals ρ names n tree steps tests edges operands states (Ok t)
     → t.yes + t.no + t.unknown ≡ n - 1
 unfolding Counts
 listed_totals_together {ρ} {names} {n} {tree} {steps} {tests} {edges} {operands} {states} w =

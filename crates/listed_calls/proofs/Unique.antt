@@ -1,10 +1,11 @@
 -- Any two results that the contract of a call over alternatives handed in allows coincide, and so does the memory lent
 -- at exit, refused or not.
 --   listed_match_unique, listed_all_unique, listed_totals_unique, listed_push_unique
+use Rattle.std.specs.Prelude.{Err, Ok}
 use mathlib.Core.Path.{◌≡◌, sym, ap, ◌∙◌}
 use mathlib.Core.List.{List}
 use Prim.Native.Nat.{ℕ}
-use Rattle.basics.specs.declared.Outcome.{Outcome}
+use Rattle.basics.specs.Refusing.{Outcome}
 use Rattle.alf.specs.declared.Rules.{Rules}
 use Rattle.alf.proofs.Outcomes.{refused_passed, refused_by_unique}
 use Rattle.alf.specs.Refusals.{Order}
@@ -12,9 +13,8 @@ use Rattle.matcher.proofs.Unique.{totals_unique}
 use Rattle.beginnings.proofs.ByTries.{dates_unique}
 use Rattle.timed_queue.specs.declared.queues.Queue.{Queue}
 use Rattle.timed_queue.proofs.Unique.{pushes_unique}
-use Rattle.matching_calls.specs.declared.matching.Matching.{Matching}
-use Rattle.matching_calls.specs.declared.matching.Matching.TheVariants.{Found, Refused}
-use Rattle.matching_calls.specs.declared.matching.Counting.{Counting}
+use Rattle.matching_calls.specs.Matching.{Matching}
+use Rattle.matching_calls.specs.Matching.{Counting}
 use Rattle.call_laws.proofs.Unique.{codes_fixed, timed_fixed, timed_row_fixed, push_fixed}
 use Rattle.call_laws.proofs.Unique.{outcome_unique, finds_unique, counts_unique}
 use Rattle.basics.proofs.Memory.{after_unique}
@@ -55,13 +55,13 @@ module _ (names : ℕ) (tree steps tests edges operands : List ℕ) (q : Queue) 
       → Takes ρ names tree steps tests edges operands q time row x p
       → Takes ρ names tree steps tests edges operands q time row y r → (x ≡ y) × (p ≡ r)
   unfolding Takes
-  takes_unique ρ (Found m) (Found k) p r a b =
+  takes_unique ρ (Ok m) (Ok k) p r a b =
       let e = pushes_unique a.1 b.1 in
-      (λ i. Found (record { answer = e.0 i; tries = e.1 i; began = e.2 i }), e.3)
-  takes_unique ρ (Found m) (Refused s) p r a b = absurd (refused_passed orders _ _ a.0 b.0.by)
-  takes_unique ρ (Refused s) (Found k) p r a b = absurd (refused_passed orders _ _ b.0 a.0.by)
-  takes_unique ρ (Refused s) (Refused t) p r a b =
-      (ap Refused (refused_by_unique orders (push_fixed _ _ q time row) a.0 b.0), a.1 ∙ sym b.1)
+      (λ i. Ok (record { answer = e.0 i; tries = e.1 i; began = e.2 i }), e.3)
+  takes_unique ρ (Ok m) (Err s) p r a b = absurd (refused_passed orders _ _ a.0 b.0.by)
+  takes_unique ρ (Err s) (Ok k) p r a b = absurd (refused_passed orders _ _ b.0 a.0.by)
+  takes_unique ρ (Err s) (Err t) p r a b =
+      (ap Err (refused_by_unique orders (push_fixed _ _ q time row) a.0 b.0), a.1 ∙ sym b.1)
 
 pub listed_push_unique : {ρ : Rules} {names : ℕ} {tree steps tests edges operands : List ℕ} {q : Queue} {time : ℕ}
     {row : List ℕ} {x y : Matching} {p r : Queue}

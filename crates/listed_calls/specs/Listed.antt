@@ -4,8 +4,9 @@
 --   row_order, ListedMatch                 a row
 --   rows_order, timed_order, ListedAll, ListedTotals    all rows, in lent lists; the totals
 --   Handed, push_order, Takes, ListedPush, DecidesQueue    a push
+use Rattle.std.specs.Prelude.{Err, Ok}
 use Rattle.std.specs.Prelude.{ℕ, ◌≤◌, ◌≡◌, Bool, List, length}
-use Rattle.basics.specs.declared.Outcome.{Outcome}
+use Rattle.basics.specs.Refusing.{Outcome}
 use Rattle.basics.specs.Words.{listed}
 use Rattle.alf.specs.declared.Rules.{Rules}
 use Rattle.alf.specs.Values.{state_at}
@@ -18,9 +19,8 @@ use Rattle.matcher.specs.Tables.{TotalsOf}
 use Rattle.timed_queue.specs.declared.queues.Queue.{Queue}
 use Rattle.alternatives.specs.InMemory.{longest_of}
 use Rattle.timed_queue.specs.TimedQueues.{Pushes}
-use Rattle.matching_calls.specs.declared.matching.Matching.{Matching}
-use Rattle.matching_calls.specs.declared.matching.Matching.TheVariants.{Found, Refused}
-use Rattle.matching_calls.specs.declared.matching.Counting.{Counting}
+use Rattle.matching_calls.specs.Matching.{Matching}
+use Rattle.matching_calls.specs.Matching.{Counting}
 use Rattle.judging.specs.Orders.{Rows, order, codes}
 use Rattle.judging.specs.TimedOrders.{timed_codes, timed_codes_row}
 use Rattle.basics.specs.Memory.{after}
@@ -88,11 +88,11 @@ module _ (names : ℕ) (tree steps tests edges operands : List ℕ) (queue : Que
 
 module _ (ρ : Rules) (names : ℕ) (tree steps tests edges operands : List ℕ) (queue : Queue) where
   unfoldable pub Takes : ℕ → List ℕ → Matching → Queue → Type 0
-  Takes time row (Found m) queue' =
+  Takes time row (Ok m) queue' =
       Passed (push_order names tree steps tests edges operands queue time row)
       × Pushes ρ names (alternatives_of_lem tree names steps tests edges operands) queue time row m.answer m.tries
       m.began queue'
-  Takes time row (Refused r) queue' =
+  Takes time row (Err r) queue' =
       RefusedBy (push_order names tree steps tests edges operands queue time row) r × (queue' ≡ queue)
 
   pub record ListedPush (time : ℕ) (row : List ℕ) (told : Matching) (queue' : Queue) : Type 0 where

@@ -3,13 +3,16 @@
 ghost use Rattle.listed_calls.specs.Listed.{ListedMatch, ListedAll, ListedTotals, DecidesQueue, ListedPush};
 
 use alf::{RowNo, Rules, Stamp};
+use alternatives::lists::Lists;
 use alternatives::walking::longest;
-use basics::Outcome;
-use beginnings::times::{date, mark};
-use judging::checks::{Verdict, judge, lists_fit, rows_fit};
+use basics::Refusal;
+use beginnings::times::{Dated, date, mark};
+use judging::checks::{judge, lists_fit, rows_fit};
 use judging::timed::{judge_timed, judge_timed_row};
 use listed_acceptance::accepting::fits;
-use matching_calls::matching::{Counting, Matching, lists_are};
+use matcher::scenes::Scene;
+use matcher::tables::Total;
+use matching_calls::matching::lists_are;
 use queue_calls::pushing::{Pushing, judge_push, keeps, pushing_of, row_fits};
 use timed_queue::queues::Queue;
 
@@ -26,23 +29,28 @@ pub fn match_row(
     times: &[u64],
     states: &[u8],
     row: RowNo,
-) -> Matching
+) -> Result<Dated, Refusal>
     ensures { ListedMatch rules names n tree.now steps.now tests.now
         edges.now operands.now states.now times.now row.0 result }
 {
     let at = row.0 as usize;
-    let lists = lists_fit(names, n, times.len() == n, states.len());
+    let fitting = lists_fit(names, n, times.len() == n, states.len());
     let good = fits(names, tree, steps, tests, edges, operands);
-    let v = judge_timed_row(lists, good, states, times, n, at);
-    match v {
-        Verdict::Refused(r) => Matching::Refused(r),
-        Verdict::Good => {
-            let found = matcher::answers::match_row(
-                rules, tree, names, states, steps, tests, edges, operands, at,
-            );
-            Matching::Found(date(times, steps, at, found))
-        }
-    }
+    judge_timed_row(fitting, good, states, times, n, at)?;
+    let scene = Scene {
+        rules,
+        tree,
+        names,
+        states,
+    };
+    let lists = Lists {
+        steps,
+        tests,
+        edges,
+        operands,
+    };
+    let found = matcher::answers::match_row(&scene, &lists, at);
+    Ok(date(times, steps, at, found))
 }
 
 // The same for all rows, by document 01's numbers, into lent lists; how many.
@@ -61,7 +69,7 @@ pub fn match_all(
     tried: &mut [u32],
     given: &mut [u8],
     began: &mut [u64],
-) -> Outcome
+) -> Result<usize, Refusal>
     ensures { ListedAll rules names n tree.now steps.now tests.now
         edges.now operands.now states.now times.now
         answers.old tried.old given.old began.old
@@ -75,19 +83,24 @@ pub fn match_all(
         given.len(),
         began.len(),
     );
-    let lists = lists_fit(names, n, lent, states.len());
+    let fitting = lists_fit(names, n, lent, states.len());
     let good = fits(names, tree, steps, tests, edges, operands);
-    let v = judge_timed(lists, good, states, times);
-    match v {
-        Verdict::Refused(r) => Outcome::Refused(r),
-        Verdict::Good => {
-            block_answers::answers::match_all(
-                rules, tree, names, states, steps, tests, edges, operands, n, answers, tried,
-            );
-            mark(times, steps, n, answers, tried, given, began);
-            Outcome::Done(n)
-        }
-    }
+    judge_timed(fitting, good, states, times)?;
+    let scene = Scene {
+        rules,
+        tree,
+        names,
+        states,
+    };
+    let lists = Lists {
+        steps,
+        tests,
+        edges,
+        operands,
+    };
+    block_answers::answers::match_all(&scene, &lists, n, answers, tried);
+    mark(times, steps, n, answers, tried, given, began);
+    Ok(n)
 }
 
 // How many of the rows answer yes, no and unknown.
@@ -101,19 +114,26 @@ pub fn totals(
     edges: &[u8],
     operands: &[u16],
     states: &[u8],
-) -> Counting
+) -> Result<Total, Refusal>
     ensures { ListedTotals rules names n tree.now steps.now tests.now
         edges.now operands.now states.now result }
 {
-    let lists = rows_fit(names, n, states.len());
+    let fitting = rows_fit(names, n, states.len());
     let good = fits(names, tree, steps, tests, edges, operands);
-    let v = judge(lists, good, states);
-    match v {
-        Verdict::Refused(r) => Counting::Refused(r),
-        Verdict::Good => Counting::Counted(block_totals::totals::totals(
-            rules, tree, names, states, steps, tests, edges, operands, n,
-        )),
-    }
+    judge(fitting, good, states)?;
+    let scene = Scene {
+        rules,
+        tree,
+        names,
+        states,
+    };
+    let lists = Lists {
+        steps,
+        tests,
+        edges,
+        operands,
+    };
+    Ok(block_totals::totals::totals(&scene, &lists, n))
 }
 
 // Whether the alternatives are accepted and the queue may be handed in with them, where there are at most 32 names.
@@ -154,16 +174,22 @@ pub fn push(
     ensures { ListedPush rules names tree.now steps.now tests.now
         edges.now operands.now queue time.0 row.now result.told result.queue }
 {
-    let lists = row_fits(names, row.len());
+    let fitting = row_fits(names, row.len());
     let good = queue_good(names, tree, steps, tests, edges, operands, queue);
-    let v = judge_push(lists, good, queue, time, row);
+    let v = judge_push(fitting, good, queue, time, row);
     match v {
-        Verdict::Refused(r) => {
-            let told = Matching::Refused(r);
+        Err(r) => {
+            let told = Err(r);
             Pushing { told, queue }
         }
-        Verdict::Good => pushing_of(timed_queue::queues::push(
-            rules, tree, names, steps, tests, edges, operands, queue, time, row,
-        )),
+        Ok(()) => {
+            let lists = Lists {
+                steps,
+                tests,
+                edges,
+                operands,
+            };
+            pushing_of(timed_queue::queues::push(rules, tree, names, &lists, queue, time, row))
+        }
     }
 }

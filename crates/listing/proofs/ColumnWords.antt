@@ -1,5 +1,4 @@
 -- What a line tells behind the time, by the kind of the column and by the number.
---   last_number, word_0 to word_3      an answer's word
 --   answer_known and its like, value_known and its like    what a column tells, by its kind
 use Prim.Native.Nat.{ℕ, ◌<◌, ◌≤◌}
 use native.Mathlib.Omega.{arith}
@@ -7,32 +6,10 @@ use mathlib.Core.Path.{◌≡◌, refl}
 use mathlib.Core.List.{List, [], ◌∷◌}
 use lib.ListN.{length}
 use Rattle.basics.specs.Memory.{Put}
-use Rattle.basics.specs.Text.{bytes}
 use Rattle.listing.specs.declared.lines.Column.{Column}
 use Rattle.listing.specs.declared.lines.Column.TheVariants.{Answers, Values}
 use Rattle.listing.specs.Listing.{word, letter, word_of, highest}
 use Rattle.listing.specs.Inner.{Sized, Wording}
-
--- the answer that is none of the first three
-pub last_number : {a : ℕ} → a ≤ 3 → (a ≡ 0 → ⊥) → (a ≡ 1 → ⊥) → (a ≡ 2 → ⊥) → a ≡ 3
-last_number h f g k = omega (arith, f, g, k)
-
--- an answer's word
-pub word_0 : {a : ℕ} → a ≡ 0 → word a ≡ bytes "no"
-unfolding word
-word_0 e = rw e refl
-
-pub word_1 : {a : ℕ} → a ≡ 1 → word a ≡ bytes "yes"
-unfolding word
-word_1 e = rw e refl
-
-pub word_2 : {a : ℕ} → a ≡ 2 → word a ≡ bytes "unknown"
-unfolding word
-word_2 e = rw e refl
-
-pub word_3 : {a : ℕ} → a ≡ 3 → word a ≡ bytes "none"
-unfolding word
-word_3 e = rw e refl
 
 -- what a column tells, by its kind
 module _ {column : Column} (a : ℕ) (e : column ≡ Answers) where

@@ -15,37 +15,34 @@ pub enum Column {
     Values,
 }
 
+// An answer's word.
+#[tactic(auto, unfolding(crate::specs::Listing::word, basics::specs::Text::bytes))]
+fn word_of(a: u8) -> &'static [u8]
+    requires { a ≤ 3 }
+    ensures is { result.now ≡ word a }
+    ensures few { length result.now ≤ 7 }
+{
+    match a {
+        0 => b"no",
+        1 => b"yes",
+        2 => b"unknown",
+        _ => b"none",
+    }
+}
+
 // The length of an answer's word.
 pub fn word_size(a: u8) -> usize
     requires { a ≤ 3 }
     ensures { Sized (word a) 7 result }
 {
-    if a == 0 {
-        return 2;
-    }
-    if a == 1 {
-        return 3;
-    }
-    if a == 2 {
-        return 7;
-    }
-    4
+    word_of(a).len()
 }
 
 pub fn put_word(a: u8, out: &mut [u8], at: usize) -> usize
     requires { Wording 3 a out.old at (word a) }
     ensures { Put out.old at (word a) out.new result }
 {
-    if a == 0 {
-        return put(b"no", out, at);
-    }
-    if a == 1 {
-        return put(b"yes", out, at);
-    }
-    if a == 2 {
-        return put(b"unknown", out, at);
-    }
-    put(b"none", out, at)
+    put(word_of(a), out, at)
 }
 
 // The letter of a state.
@@ -83,8 +80,7 @@ pub fn stamp_of(times: &[u64], row: RowNo) -> Stamp
     requires { row.0 < length times.now }
     ensures { result.0 ≡ get_or times.now row.0 0 }
 {
-    let r = row.0;
-    Stamp(times[r as usize])
+    Stamp(times[row.0 as usize])
 }
 
 // The length of a row's line.
@@ -92,8 +88,7 @@ fn line_size(column: Column, time: Stamp, a: u8) -> usize
     requires { a ≤ highest column }
     ensures { Sized (line column time.0 a) 29 result }
 {
-    let t = time.0;
-    width_of(t) + code_size(column, a) + 2
+    width_of(time.0) + code_size(column, a) + 2
 }
 
 // A row's line: its time, its answer or value.
@@ -101,8 +96,7 @@ fn put_line(column: Column, time: Stamp, a: u8, out: &mut [u8], at: usize) -> us
     requires { Wording (highest column) a out.old at (line column time.0 a) }
     ensures { Put out.old at (line column time.0 a) out.new result }
 {
-    let t = time.0;
-    let p = put_decimal_then(t, b" ", out, at);
+    let p = put_decimal_then(time.0, b" ", out, at);
     let q = put_code(column, a, out, p);
     push(out, q, b'\n')
 }
@@ -113,10 +107,8 @@ pub fn lines_size(column: Column, times: &[u64], codes: &[u8]) -> usize
     ensures { Sized (lines column times.now codes.now) 1900515 result }
 {
     let mut size: usize = 0;
-    let mut i: usize = 0;
-    while i < codes.len() {
+    for i in 0..codes.len() {
         size += line_size(column, stamp_of(times, RowNo(i as u32)), codes[i]);
-        i += 1;
     }
     size
 }
@@ -128,10 +120,8 @@ pub fn put_lines(column: Column, times: &[u64], codes: &[u8], out: &mut [u8], at
         out.new result }
 {
     let mut p = at;
-    let mut i: usize = 0;
-    while i < codes.len() {
+    for i in 0..codes.len() {
         p = put_line(column, stamp_of(times, RowNo(i as u32)), codes[i], out, p);
-        i += 1;
     }
     p
 }

@@ -15,9 +15,8 @@ const MISSING: i32 = 22;
 pub fn arg_count<R: Env>(rt: &R) -> usize {
     let mut word = [0u8; 1];
     for i in 0..usize::MAX {
-        match rt.arg(i, &mut word) {
-            Err(FillError::NotPresent) => return i,
-            _ => {}
+        if let Err(FillError::NotPresent) = rt.arg(i, &mut word) {
+            return i;
         }
     }
     usize::MAX
@@ -27,13 +26,10 @@ pub fn arg_count<R: Env>(rt: &R) -> usize {
 pub fn arg<R: Env>(rt: &R, i: usize, buf: &mut [u8]) -> usize
     ensures { (result ≤ length buf.new) × (result ≡ length (take result buf.new)) }
 {
-    match rt.arg(i, buf) {
-        Ok(n) => n,
-        Err(_) => 0,
-    }
+    rt.arg(i, buf).unwrap_or(0)
 }
 
-// All of a text that is full.
+// All of a text that is full: a function of its own, since no proof should go through an array of 65,536 bytes.
 fn full(text: &[u8]) -> usize
     ensures { (result ≤ length text.now) × (result ≡ length (take result text.now)) }
 {

@@ -7,13 +7,6 @@ use std::io::{Error, Read};
 use std::rt::Files;
 use std::{io, str};
 
-// What was read, to the end of the input or as much as there is room; or a read failed, and that was complained of.
-#[derive(Clone, Copy)]
-pub enum Filled {
-    Bytes(usize),
-    Failed,
-}
-
 // One read behind the first `at` bytes: how many there are then.
 fn read_on<F: Read>(file: &mut F, buf: &mut [u8], at: usize) -> io::Result<usize>
     requires { at ≤ length buf.old }
@@ -27,6 +20,7 @@ fn read_on<F: Read>(file: &mut F, buf: &mut [u8], at: usize) -> io::Result<usize
 // What is read, to the end of the input or as much as there is room: how many bytes.
 pub fn read_all<F: Read>(file: &mut F, buf: &mut [u8]) -> io::Result<usize> {
     let mut done: usize = 0;
+    // How much a read brings is known behind it: no range to go over.
     while done < buf.len() {
         let next = read_on(file, buf, done)?;
         if next <= done {
@@ -51,14 +45,8 @@ fn unread(console: &Console, path: &[u8], e: &Error) {
     failed(console, path, e);
 }
 
-fn bytes_or_complaint(console: &Console, path: &[u8], read: io::Result<usize>) -> Filled {
-    match read {
-        Ok(n) => Filled::Bytes(n),
-        Err(e) => {
-            unread(console, path, &e);
-            Filled::Failed
-        }
-    }
+fn bytes_or_complaint(console: &Console, path: &[u8], read: io::Result<usize>) -> Option<usize> {
+    read.inspect_err(|e| unread(console, path, e)).ok()
 }
 
 fn read_input<R: Input>(rt: &R, console: &Console, buf: &mut [u8]) -> io::Result<usize> {
@@ -70,27 +58,32 @@ fn read_input<R: Input>(rt: &R, console: &Console, buf: &mut [u8]) -> io::Result
 }
 
 // What cannot be opened is complained of.
-fn fill_named<R: Files>(rt: &R, console: &Console, name: &str, buf: &mut [u8]) -> Filled {
+fn fill_named<R: Files>(rt: &R, console: &Console, name: &str, buf: &mut [u8]) -> Option<usize> {
     let path = name.as_bytes();
     match File::open(rt, name) {
         Ok(mut file) => bytes_or_complaint(console, path, read_all(&mut file, buf)),
         Err(e) => {
             failed(console, path, &e);
-            Filled::Failed
+            None
         }
     }
 }
 
 // The file of this name, as far as there is room; what cannot be opened or read is complained of.
-pub fn fill<R: Files + Input>(rt: &R, console: &Console, path: &[u8], buf: &mut [u8]) -> Filled {
-    if check::same(path, b"-") {
+pub fn fill<R: Files + Input>(
+    rt: &R,
+    console: &Console,
+    path: &[u8],
+    buf: &mut [u8],
+) -> Option<usize> {
+    if path == b"-".as_slice() {
         return bytes_or_complaint(console, path, read_input(rt, console, buf));
     }
     match str::from_utf8(path) {
         Ok(name) => fill_named(rt, console, name, buf),
         Err(_) => {
             unnamed(console, path);
-            Filled::Failed
+            None
         }
     }
 }

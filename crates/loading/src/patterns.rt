@@ -1,10 +1,10 @@
 // A file of patterns, read whole or not at all.
-use crate::files::{Filled, fill};
+use crate::files::fill;
 use console::output::{Console, complain, note};
 use std::rt::Files;
 
 // What was read; a file that fills all of the room is too long.
-fn whole(console: &Console, path: &[u8], room: usize, m: usize) -> Filled {
+fn whole(console: &Console, path: &[u8], room: usize, m: usize) -> Option<usize> {
     if room <= m {
         complain(console);
         note(console, path);
@@ -12,9 +12,9 @@ fn whole(console: &Console, path: &[u8], room: usize, m: usize) -> Filled {
             console,
             b": a file of patterns has at most 1,048,576 bytes\n",
         );
-        return Filled::Failed;
+        return None;
     }
-    Filled::Bytes(m)
+    Some(m)
 }
 
 // The bytes of the file of this name. The room is one byte more than a file may have.
@@ -23,10 +23,7 @@ pub fn fill_patterns<R: Files + Input>(
     console: &Console,
     path: &[u8],
     data: &mut [u8],
-) -> Filled {
-    let filled = fill(rt, console, path, data);
-    match filled {
-        Filled::Failed => Filled::Failed,
-        Filled::Bytes(m) => whole(console, path, data.len(), m),
-    }
+) -> Option<usize> {
+    let m = fill(rt, console, path, data)?;
+    whole(console, path, data.len(), m)
 }

@@ -10,13 +10,11 @@ use basics::Refusal;
 use complaints::in_lines::refused_in_line;
 use console::output::{Console, complain, note};
 use loading::arguments::path_argument;
-use loading::files::{Filled, fill};
-use loading::traces::{Loaded, nothing};
+use loading::files::fill;
 use std::rt::{Env, Files};
-use text_parts::lines::line_at;
 use text_parts::parts::front;
 use text_reading::reading::make_trace;
-use trace_reader::Reading;
+use trace_reader::Size;
 
 // The longest text that is read. The longest trace has 5,571,536 bytes as a text without the columns from `changed` on.
 const LONGEST: usize = 8000000;
@@ -33,7 +31,7 @@ fn too_long(console: &Console, path: &[u8]) {
 // A refusal, with the line that has its place.
 fn complain_of(console: &Console, path: &[u8], text: &[u8], r: Refusal) {
     let s = spot_of(text, r.place);
-    refused_in_line(console, path, s.line, line_at(text, s.start), s.at, r);
+    refused_in_line(console, path, s.number, s.line, s.at, r);
 }
 
 fn read_text(
@@ -43,19 +41,14 @@ fn read_text(
     names: &mut [u8; 1024],
     times: &mut [u64; 65535],
     states: &mut [u8; 2097120],
-) -> Loaded {
+) -> Option<Size> {
     if LONGEST < text.len() {
         too_long(console, path);
-        return nothing();
+        return None;
     }
-    let r = make_trace(text, names, times, states);
-    match r {
-        Reading::Read { names, rows } => Loaded { names, rows },
-        Reading::Refused(f) => {
-            complain_of(console, path, text, f);
-            nothing()
-        }
-    }
+    make_trace(text, names, times, states)
+        .inspect_err(|r| complain_of(console, path, text, *r))
+        .ok()
 }
 
 fn load_into<R: Files + Input>(
@@ -66,27 +59,13 @@ fn load_into<R: Files + Input>(
     names: &mut [u8; 1024],
     times: &mut [u64; 65535],
     states: &mut [u8; 2097120],
-) -> Loaded {
-    let filled = fill(rt, console, path, data);
-    match filled {
-        Filled::Failed => nothing(),
-        Filled::Bytes(n) => read_text(console, path, front(data, n), names, times, states),
-    }
+) -> Option<Size> {
+    let n = fill(rt, console, path, data)?;
+    read_text(console, path, front(data, n), names, times, states)
 }
 
-fn load_lent<R: Files + Input>(
-    rt: &R,
-    console: &Console,
-    path: &[u8],
-    data: &mut [u8; 8000001],
-    names: &mut [u8; 1024],
-    times: &mut [u64; 65535],
-    states: &mut [u8; 2097120],
-) -> Loaded {
-    load_into(rt, console, path, data, names, times, states)
-}
-
-// The trace of the text that argument i names. The buffer has one byte more than the longest text.
+// The trace of the text that argument i names: how many names and rows it has. Where there is none, that was complained
+// of. The buffer has one byte more than the longest text.
 pub fn load_text<R: Env + Files + Input>(
     rt: &R,
     console: &Console,
@@ -94,21 +73,17 @@ pub fn load_text<R: Env + Files + Input>(
     names: &mut [u8; 1024],
     times: &mut [u64; 65535],
     states: &mut [u8; 2097120],
-) -> Loaded {
+) -> Option<Size> {
     let mut path = [0u8; 4096];
-    match path_argument(rt, console, i, b"the text's name", &mut path) {
-        Some(length) => {
-            let mut data = [0u8; 8000001];
-            load_lent(
-                rt,
-                console,
-                &path[..length],
-                &mut data,
-                names,
-                times,
-                states,
-            )
-        }
-        None => nothing(),
-    }
+    let length = path_argument(rt, console, i, b"the text's name", &mut path)?;
+    let mut data = [0u8; 8000001];
+    load_into(
+        rt,
+        console,
+        &path[..length],
+        data.as_mut_slice(),
+        names,
+        times,
+        states,
+    )
 }

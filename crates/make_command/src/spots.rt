@@ -1,41 +1,25 @@
 // Where a byte of a text is: its line, and its place in the line.
-ghost use Rattle.std.specs.Prelude.{◌≤◌, length};
+use text_parts::lines::Lines;
 
-use text_parts::parts::find;
-
-// A line counted from 1, where it starts in the text, and a byte of the line counted from 0.
+// A line by its number, counted from 1, and by its bytes, and a byte of the line counted from 0.
 #[derive(Clone, Copy)]
-pub struct Spot {
-    pub line: usize,
-    pub start: usize,
+pub struct Spot<'a> {
+    pub number: usize,
+    pub line: &'a [u8],
     pub at: usize,
 }
 
-fn lesser(a: usize, b: usize) -> usize
-    ensures { result ≤ b }
-{
-    if a < b {
-        return a;
-    }
-    b
+fn is_end(b: &u8) -> bool {
+    *b == b'\n'
 }
 
 // The line that a byte of the text is in; of a place behind its end, the last line.
-pub fn spot_of(text: &[u8], place: usize) -> Spot
-    ensures { result.start ≤ length text.now }
-{
-    let to = lesser(place, text.len());
-    let mut line: usize = 1;
-    let mut start: usize = 0;
-    let mut end = find(text, 0, b'\n');
-    while end < to {
-        start = end + 1;
-        end = find(text, start, b'\n');
-        line += 1;
-    }
+pub fn spot_of(text: &[u8], place: usize) -> Spot<'_> {
+    let before = &text[..place.min(text.len())];
+    let start = before.iter().rposition(is_end).map_or(0, |end| end + 1);
     Spot {
-        line,
-        start,
-        at: to - start,
+        number: before.iter().filter(|b| is_end(b)).count() + 1,
+        line: Lines(&text[start..]).next().unwrap_or(b""),
+        at: before.len() - start,
     }
 }

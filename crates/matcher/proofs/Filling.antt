@@ -2,12 +2,15 @@
 --   row_within, row_asked                  row i of n rows is there, and may be asked
 --   Filling, filling_first, -next, -end    the lists of answers and numbers tried
 --   Counting, counting_first, -next, -end  the totals
+--   number_of_bool                         `u32::from` of a bool
 use Rattle.std.specs.Prelude.{if◌then◌else◌}
 use mathlib.Core.Path.{◌≡◌, refl, ◌∙◌}
+use mathlib.Core.Bool.{Bool, true, false}
 use mathlib.Core.List.{List}
 use Prim.Native.Nat.{ℕ, ◌+◌, ◌<◌, ◌≤◌}
 use native.Mathlib.Nat.{suc-mul, mul-le-mul_right}
 use native.Mathlib.Omega.{arith}
+use mir.Val.{bool_byte}
 use lib.Dec.{eqb}
 use lib.ListN.{length, set}
 use Rattle.alf.specs.declared.Answer.{Answer}
@@ -115,3 +118,7 @@ module _ {st : Boolean → ℕ → ℕ} {xs : List Alternative} {n : ℕ} where
     counting_end h =
         let e : i ≡ n = omega (arith, g.within) in
         record { yeses = rw e at g.yeses; noes = rw e at g.noes; unknowns = rw e at g.unknowns }
+
+pub number_of_bool : (b : Bool) → bool_byte b ≡ (if b then 1 else 0)
+number_of_bool true = refl
+number_of_bool false = refl

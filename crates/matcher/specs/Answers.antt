@@ -2,6 +2,7 @@
 -- that lists in memory stand for (alternatives/specs/InMemory).
 --   TestAsked, StepAsked, AlternativeAsked, RowAsked, EventAsked     what is asked, from one test to all alternatives
 --   Matches                                                          the answer, and the number tried
+--   TestAskedOn, .., MatchesOn                                       the same of a scene and lists as code has them
 use Rattle.std.specs.Prelude.{ℕ, ◌+◌, ◌<◌, ◌≤◌, ◌≡◌, List, length, drop}
 use Rattle.alf.specs.declared.Answer.{Answer}
 use Rattle.alf.specs.Expressions.{Boolean}
@@ -10,7 +11,10 @@ use Rattle.alf.specs.Alternatives.{Alternative, answer_of}
 use Rattle.alf.specs.Alternatives as alternatives
 use Rattle.trees.specs.Parts.{EndsBoolean}
 use Rattle.evaluator.specs.Rows.{Within}
+use Rattle.alternatives.specs.declared.lists.Lists.{Lists}
 use Rattle.alternatives.specs.InMemory.{sum, Tests, Shape}
+use Rattle.matcher.specs.declared.scenes.Scene.{Scene}
+use Rattle.matcher.specs.Scenes.{state_on, alternatives_on}
 
 -- the event from row a to row a + 1, asked of the operand that ends at `end`, and of the n tests from t on
 pub record TestAsked (tree : List ℕ) (names : ℕ) (states : List ℕ) (end a : ℕ) : Type 0 where
@@ -46,3 +50,25 @@ pub record Matches (st : Boolean → ℕ → ℕ) (xs : List Alternative) (row :
     : Type 0 where
   pub is : number_of answer ≡ answer_of st xs row
   pub count : tried ≡ alternatives.tries st xs row
+
+-- the same, asked of a scene and lists
+abbrev pub TestAskedOn : Scene → ℕ → ℕ → Type 0
+TestAskedOn x end a = TestAsked x.tree.now x.names x.states.now end a
+
+abbrev pub StepAskedOn : Scene → Lists → ℕ → ℕ → ℕ → Type 0
+StepAskedOn x l t n a = StepAsked x.tree.now x.names x.states.now l.edges.now l.operands.now t n a
+
+abbrev pub AlternativeAskedOn : Scene → Lists → ℕ → ℕ → ℕ → ℕ → Type 0
+AlternativeAskedOn x l s n t row =
+    AlternativeAsked x.tree.now x.names x.states.now l.tests.now l.edges.now l.operands.now s n t row
+
+abbrev pub RowAskedOn : Scene → Lists → ℕ → Type 0
+RowAskedOn x l row =
+    RowAsked x.tree.now x.names x.states.now l.steps.now l.tests.now l.edges.now l.operands.now row
+
+abbrev pub EventAskedOn : Scene → Lists → ℕ → Type 0
+EventAskedOn x l row =
+    EventAsked x.tree.now x.names x.states.now l.steps.now l.tests.now l.edges.now l.operands.now row
+
+abbrev pub MatchesOn : Scene → Lists → ℕ → Answer → ℕ → Type 0
+MatchesOn x l row answer tried = Matches (state_on x) (alternatives_on x l) row answer tried

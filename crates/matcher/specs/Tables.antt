@@ -2,11 +2,15 @@
 --   Rows, RowsAsked, FillAsked     what is asked
 --   Filled                         the lists
 --   total_of, TotalsOf              the totals
+--   RowsAskedOn, FillAskedOn, FilledOn, TotalsOn     the same of a scene and lists as code has them
 use Rattle.std.specs.Prelude.{ℕ, ◌*◌, ◌<◌, ◌≤◌, ◌≡◌, List, eqb, length, get_or}
 use Rattle.basics.specs.Words.{count, listed}
 use Rattle.alf.specs.Expressions.{Boolean}
 use Rattle.alf.specs.Alternatives.{Alternative, answer_of, tries}
+use Rattle.alternatives.specs.declared.lists.Lists.{Lists}
 use Rattle.alternatives.specs.InMemory.{Shape}
+use Rattle.matcher.specs.declared.scenes.Scene.{Scene}
+use Rattle.matcher.specs.Scenes.{state_on, alternatives_on}
 use Rattle.basics.specs.Memory.{front}
 
 -- n rows of a trace of 1 to 32 names, each state a code
@@ -45,3 +49,19 @@ pub record TotalsOf (st : Boolean → ℕ → ℕ) (xs : List Alternative) (n ye
   pub yeses : yes ≡ total_of st xs n 1
   pub noes : no ≡ total_of st xs n 0
   pub unknowns : unknown ≡ total_of st xs n 2
+
+-- the same of a scene and lists
+abbrev pub RowsAskedOn : Scene → Lists → ℕ → Type 0
+RowsAskedOn x l n =
+    RowsAsked x.tree.now x.names x.states.now l.steps.now l.tests.now l.edges.now l.operands.now n
+
+abbrev pub FillAskedOn : Scene → Lists → ℕ → List ℕ → List ℕ → Type 0
+FillAskedOn x l n answers tried =
+    FillAsked x.tree.now x.names x.states.now l.steps.now l.tests.now l.edges.now l.operands.now n answers tried
+
+abbrev pub FilledOn : Scene → Lists → ℕ → List ℕ → List ℕ → List ℕ → List ℕ → Type 0
+FilledOn x l n answers tried answers' tried' =
+    Filled (state_on x) (alternatives_on x l) n answers tried answers' tried'
+
+abbrev pub TotalsOn : Scene → Lists → ℕ → ℕ → ℕ → ℕ → Type 0
+TotalsOn x l n y f u = TotalsOf (state_on x) (alternatives_on x l) n y f u

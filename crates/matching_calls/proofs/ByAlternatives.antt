@@ -9,18 +9,18 @@
 --   longest_steps                 the longest alternative has K steps
 use mathlib.Core.Path.{◌≡◌, ap, sym, ◌∙◌, fun_ext}
 use mathlib.Core.List.{List}
-use Prim.Native.Nat.{ℕ, ◌<◌}
+use Prim.Native.Nat.{ℕ}
 use native.Mathlib.Omega.{arith}
-use lib.ListN.{length, take}
+use lib.ListN.{length}
 use Rattle.alf.specs.declared.Rules.{Rules}
 use Rattle.alf.specs.declared.Answer.{Answer}
-use Rattle.alf.specs.declared.Began.{Began}
+use Rattle.alf.specs.Beginnings.{Began}
 use Rattle.basics.specs.Words.{listed, greatest_of}
 use Rattle.alf.specs.Values.{state_at}
 use Rattle.alf.specs.Alternatives.{Alternative, alternatives, tries, steps_of, answer_of}
 use Rattle.alf.specs.Beginnings.{began}
 use Rattle.alf.proofs.RowsAreAlternatives.{same_answer}
-use Rattle.alternatives.specs.InMemory.{alternatives_of_lem}
+use Rattle.alternatives.specs.Listed.{alternatives_listed}
 use Rattle.matcher.specs.Answers.{Matches}
 use Rattle.matcher.specs.Tables.{Filled, TotalsOf}
 use Rattle.basics.proofs.Listed.{listed_whole, listed_length}
@@ -31,8 +31,8 @@ use Rattle.beginnings.proofs.Counts.{counted}
 use Rattle.matcher.proofs.Agreement.{matches_windows, totals_windows}
 use Rattle.alternatives.specs.InMemory.{longest_of}
 use Rattle.alternatives.proofs.Longest.{longest_is}
-use Rattle.rewriting.specs.declared.lists.Alternatives.{Alternatives}
-use Rattle.rewriting.specs.Lists.{Holds}
+use Rattle.alternatives.specs.declared.lists.Lists.{Lists}
+use Rattle.rewriting.specs.Lists.{StandFor}
 use Rattle.matching_calls.specs.Matching.{expression, answers_on, MatchesTree, FillsTree, TotalsTree}
 use Rattle.matching_calls.specs.Matching.{TreeRow, TreeLists}
 
@@ -41,11 +41,10 @@ pub answers_on_lem : (ρ : Rules) (names : ℕ) (tree states : List ℕ)
 answers_on_lem ρ names tree states =
     fun_ext (λ i. sym (same_answer (state_at ρ names states) (expression ρ tree names) i))
 
-module _ {ρ : Rules} {names : ℕ} {tree : List ℕ} {a : Alternatives} (h : Holds ρ tree names a) where
+module _ {ρ : Rules} {names : ℕ} {tree : List ℕ} {ls : Lists} (h : StandFor ρ tree names ls) where
   abbrev pub xs : List Alternative
   xs =
-      alternatives_of_lem tree names (take a.count a.steps) (take a.step_count a.tests)
-      (take a.test_count a.edges) (take a.test_count a.operands)
+      alternatives_listed tree names ls
 
   pub tree_dated : {times states : List ℕ} {row t : ℕ} {answer : Answer} {b : Began}
       → Dates (state_at ρ names states) times xs row answer t b
@@ -61,11 +60,11 @@ module _ {ρ : Rules} {names : ℕ} {tree : List ℕ} {a : Alternatives} (h : Ho
   -- a row that is matched may be dated, and is dated then
   module _ {times states : List ℕ} {row t : ℕ} {answer : Answer} (l : TreeRow ρ names tree times states row)
       (m : Matches (state_at ρ names states) xs row answer t) where
-    pub tree_date : DateAsked times (take a.count a.steps) row answer t
+    pub tree_date : DateAsked times ls.steps.now row answer t
     tree_date = date_asked (state_at ρ names states) times (counted h.shape) m l.timed
 
     pub tree_matches : {answer' : Answer} {t' : ℕ} {b : Began}
-        → Dating times (take a.count a.steps) row answer t answer' t' b
+        → Dating times ls.steps.now row answer t answer' t' b
         → MatchesTree ρ names tree times states row answer' t' b
     tree_matches d = tree_dated (dated (state_at ρ names states) times (counted h.shape) m d)
 
@@ -83,7 +82,7 @@ module _ {ρ : Rules} {names : ℕ} {tree : List ℕ} {a : Alternatives} (h : Ho
     tried_are : tried' ≡ listed 0 n (tries (state_at ρ names states) xs)
     tried_are = f.counted ∙ listed_whole n _ tried l.lent.tried_all
 
-    pub tree_marks : MarksAsked times (take a.count a.steps) n answers' tried' given began'
+    pub tree_marks : MarksAsked times ls.steps.now n answers' tried' given began'
     tree_marks =
         record {
           few = l.asked.rows.few;
@@ -96,7 +95,7 @@ module _ {ρ : Rules} {names : ℕ} {tree : List ℕ} {a : Alternatives} (h : Ho
         }
 
     pub tree_fills : {given' began'' : List ℕ}
-        → Marks times (take a.count a.steps) n answers' tried' given' began''
+        → Marks times ls.steps.now n answers' tried' given' began''
         → FillsTree ρ names n tree times states answers' tried' given' began''
     tree_fills m =
         let st = state_at ρ names states in
@@ -120,5 +119,5 @@ module _ {ρ : Rules} {names : ℕ} {tree : List ℕ} {a : Alternatives} (h : Ho
   unfolding steps_of
   steps_are = ap longest_of h.stands
 
-  pub longest_steps : greatest_of (λ n. n) (take a.count a.steps) ≡ steps_of (expression ρ tree names)
+  pub longest_steps : greatest_of (λ n. n) ls.steps.now ≡ steps_of (expression ρ tree names)
   longest_steps = longest_is h.shape ∙ steps_are

@@ -7,12 +7,16 @@
 --   Lent, FillsTree, AllMatched           all rows, in lent lists
 --   TotalsTree, Counts, RowTotals         the totals
 --   TreeRow, TreeRows, TreeLists          what is asked once the lists and the tree are good
+use Rattle.std.specs.Prelude.{Err, Ok, Result}
+use Rattle.matcher.specs.declared.tables.Total.{Total}
+use Rattle.beginnings.specs.declared.times.Dated.{Dated}
+use Rattle.basics.specs.declared.Refusal.{Refusal}
 use Rattle.std.specs.Prelude.{ℕ, ◌<◌, ◌≡◌, List, length}
 use Rattle.alf.specs.declared.Rules.{Rules}
 use Rattle.alf.specs.declared.Answer.{Answer}
-use Rattle.alf.specs.declared.Began.{Began}
+use Rattle.alf.specs.Beginnings.{Began}
 use Rattle.alf.specs.declared.Sort.TheVariants as sort
-use Rattle.basics.specs.declared.Outcome.{Outcome}
+use Rattle.basics.specs.Refusing.{Outcome}
 use Rattle.basics.specs.Words.{listed}
 use Rattle.alf.specs.Expressions.{Vector}
 use Rattle.alf.specs.Values.{state_at}
@@ -27,13 +31,17 @@ use Rattle.trees.specs.Parts.{vector_at}
 use Rattle.acceptance.specs.Accepted.{Accepted}
 use Rattle.evaluator.specs.Rows.{Within}
 use Rattle.matcher.specs.Tables as tables
-use Rattle.matching_calls.specs.declared.matching.Matching.{Matching}
-use Rattle.matching_calls.specs.declared.matching.Matching.TheVariants.{Found, Refused}
-use Rattle.matching_calls.specs.declared.matching.Counting.{Counting}
-use Rattle.matching_calls.specs.declared.matching.Counting.TheVariants as counting
 use Rattle.judging.specs.Orders.{trace_order}
 use Rattle.judging.specs.TimedOrders.{timed_order, timed_row_order}
 use Rattle.basics.specs.Memory.{after}
+
+-- a row's answer, the number of alternatives tried and the time where the match began, or a refusal
+abbrev pub Matching : Type 0
+Matching = Result Dated Refusal
+
+-- how often each answer is given, or a refusal
+abbrev pub Counting : Type 0
+Counting = Result Total Refusal
 
 -- the vector expression that a tree is, as the rules read it
 abbrev pub expression : Rules → List ℕ → ℕ → Vector
@@ -58,13 +66,13 @@ pub record MatchesTree (ρ : Rules) (names : ℕ) (tree times states : List ℕ)
   pub start : since ≡ began_on ρ names tree times states row
 
 unfoldable pub Finds : Order → (Answer → ℕ → Began → Type 0) → Matching → Type 0
-Finds o right (Found m) = Passed o × right m.answer m.tries m.began
-Finds o right (Refused r) = RefusedBy o r
+Finds o right (Ok m) = Passed o × right m.answer m.tries m.began
+Finds o right (Err r) = RefusedBy o r
 
 -- the answer with a number, the number tried, and the time
 pub record FoundAs (number tried : ℕ) (since : Began) (x : Matching) : Type 0 where
   pub answer : Answer
-  pub is : x ≡ Found (record { answer = answer; tries = tried; began = since })
+  pub is : x ≡ Ok (record { answer = answer; tries = tried; began = since })
   pub numbered : number_of answer ≡ number
 
 pub record RowMatch (ρ : Rules) (names n : ℕ) (tree times states : List ℕ) (row : ℕ) (r : Matching) : Type 0 where
@@ -101,8 +109,8 @@ abbrev pub TotalsTree : Rules → ℕ → ℕ → List ℕ → List ℕ → ℕ 
 TotalsTree ρ names n tree states = Totals (state_at ρ names states) (expression ρ tree names) n
 
 unfoldable pub Counts : Order → (ℕ → ℕ → ℕ → Type 0) → Counting → Type 0
-Counts o right (counting.Counted t) = Passed o × right t.yes t.no t.unknown
-Counts o right (counting.Refused r) = RefusedBy o r
+Counts o right (Ok t) = Passed o × right t.yes t.no t.unknown
+Counts o right (Err r) = RefusedBy o r
 
 pub record RowTotals (ρ : Rules) (names n : ℕ) (tree states : List ℕ) (r : Counting) : Type 0 where
   pub comes : Counts (trace_order ρ names n tree sort.Vector states) (TotalsTree ρ names n tree states) r

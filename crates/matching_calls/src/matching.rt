@@ -5,26 +5,13 @@ ghost use Rattle.matching_calls.specs.Matching.{TreeRow, TreeRows, TreeLists, Ma
 ghost use Rattle.matching_calls.specs.Matching.{Lent, RowMatch, AllMatched, RowTotals};
 
 use alf::{RowNo, Rules, Sort};
-use basics::{Outcome, Refusal};
+use basics::Refusal;
 use beginnings::times::{Dated, date, mark};
-use judging::checks::{Verdict, check_rows};
+use judging::checks::check_rows;
 use judging::timed::{check_timed, check_timed_row};
+use matcher::scenes::Scene;
 use matcher::tables::Total;
 use rewriting::lists::alternatives_of;
-
-// A row's answer, the number of alternatives tried and the time where the match began, or a refusal.
-#[derive(Clone, Copy)]
-pub enum Matching {
-    Found(Dated),
-    Refused(Refusal),
-}
-
-// How often each answer is given, or a refusal.
-#[derive(Clone, Copy)]
-pub enum Counting {
-    Counted(Total),
-    Refused(Refusal),
-}
 
 // An accepted tree, at a row that is there.
 fn match_tree(
@@ -40,25 +27,15 @@ fn match_tree(
         result.answer result.tries result.began }
 {
     let a = alternatives_of(rules, tree, names);
-    let count = a.count;
-    let step_count = a.step_count;
-    let test_count = a.test_count;
-    let steps = a.steps;
-    let tests = a.tests;
-    let edges = a.edges;
-    let operands = a.operands;
-    let found = matcher::answers::match_row(
+    let lists = a.lists();
+    let scene = Scene {
         rules,
         tree,
         names,
         states,
-        &steps[..count],
-        &tests[..step_count],
-        &edges[..test_count],
-        &operands[..test_count],
-        row,
-    );
-    date(times, &steps[..count], row, found)
+    };
+    let found = matcher::answers::match_row(&scene, &lists, row);
+    date(times, lists.steps, row, found)
 }
 
 // At all n rows, into lists of n entries.
@@ -80,27 +57,15 @@ fn match_tree_all(
         answers.new tried.new given.new began.new }
 {
     let a = alternatives_of(rules, tree, names);
-    let count = a.count;
-    let step_count = a.step_count;
-    let test_count = a.test_count;
-    let steps = a.steps;
-    let tests = a.tests;
-    let edges = a.edges;
-    let operands = a.operands;
-    block_answers::answers::match_all(
+    let lists = a.lists();
+    let scene = Scene {
         rules,
         tree,
         names,
         states,
-        &steps[..count],
-        &tests[..step_count],
-        &edges[..test_count],
-        &operands[..test_count],
-        n,
-        answers,
-        tried,
-    );
-    mark(times, &steps[..count], n, answers, tried, given, began);
+    };
+    block_answers::answers::match_all(&scene, &lists, n, answers, tried);
+    mark(times, lists.steps, n, answers, tried, given, began);
 }
 
 // The totals of n rows.
@@ -110,24 +75,14 @@ fn total_tree(rules: Rules, names: usize, n: usize, tree: &[u8], states: &[u8]) 
         states.now result.yes result.no result.unknown }
 {
     let a = alternatives_of(rules, tree, names);
-    let count = a.count;
-    let step_count = a.step_count;
-    let test_count = a.test_count;
-    let steps = a.steps;
-    let tests = a.tests;
-    let edges = a.edges;
-    let operands = a.operands;
-    block_totals::totals::totals(
+    let lists = a.lists();
+    let scene = Scene {
         rules,
         tree,
         names,
         states,
-        &steps[..count],
-        &tests[..step_count],
-        &edges[..test_count],
-        &operands[..test_count],
-        n,
-    )
+    };
+    block_totals::totals::totals(&scene, &lists, n)
 }
 
 // The answer of a vector expression at a row, the number of its alternatives tried, and the time where the match began.
@@ -139,16 +94,13 @@ pub fn match_row(
     times: &[u64],
     states: &[u8],
     row: RowNo,
-) -> Matching
+) -> Result<Dated, Refusal>
     ensures { RowMatch rules names n tree.now times.now states.now row.0
         result }
 {
     let at = row.0 as usize;
-    let v = check_timed_row(rules, names, n, tree, times, states, at);
-    match v {
-        Verdict::Refused(r) => Matching::Refused(r),
-        Verdict::Good => Matching::Found(match_tree(rules, names, tree, times, states, at)),
-    }
+    check_timed_row(rules, names, n, tree, times, states, at)?;
+    Ok(match_tree(rules, names, tree, times, states, at))
 }
 
 // Whether the lists of times, answers, numbers tried, flags and times where the matches began are of n entries.
@@ -189,7 +141,7 @@ pub fn match_all(
     tried: &mut [u32],
     given: &mut [u8],
     began: &mut [u64],
-) -> Outcome
+) -> Result<usize, Refusal>
     ensures { AllMatched rules names n tree.now times.now states.now
         answers.old tried.old given.old began.old
         answers.new tried.new given.new began.new result }
@@ -202,25 +154,23 @@ pub fn match_all(
         given.len(),
         began.len(),
     );
-    let v = check_timed(rules, names, n, lent, tree, times, states);
-    match v {
-        Verdict::Refused(r) => Outcome::Refused(r),
-        Verdict::Good => {
-            match_tree_all(
-                rules, names, n, tree, times, states, answers, tried, given, began,
-            );
-            Outcome::Done(n)
-        }
-    }
+    check_timed(rules, names, n, lent, tree, times, states)?;
+    match_tree_all(
+        rules, names, n, tree, times, states, answers, tried, given, began,
+    );
+    Ok(n)
 }
 
 // How many of the rows answer yes, no and unknown.
-pub fn totals(rules: Rules, names: usize, n: usize, tree: &[u8], states: &[u8]) -> Counting
+pub fn totals(
+    rules: Rules,
+    names: usize,
+    n: usize,
+    tree: &[u8],
+    states: &[u8],
+) -> Result<Total, Refusal>
     ensures { RowTotals rules names n tree.now states.now result }
 {
-    let v = check_rows(rules, names, n, true, tree, Sort::Vector, states);
-    match v {
-        Verdict::Refused(r) => Counting::Refused(r),
-        Verdict::Good => Counting::Counted(total_tree(rules, names, n, tree, states)),
-    }
+    check_rows(rules, names, n, true, tree, Sort::Vector, states)?;
+    Ok(total_tree(rules, names, n, tree, states))
 }

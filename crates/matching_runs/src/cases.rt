@@ -1,6 +1,7 @@
 // A line's case: its expression, as a text or as a tree, and the calls that its kind names. A line of no kind is
 // printed behind a `?`.
 use alf::{Rules, Sort};
+use basics::Refusal;
 use reader::{Read, read_expression};
 use run_calls::clocks::is_behind;
 use run_lists::lend;
@@ -10,8 +11,8 @@ use run_values::lend_out;
 use run_words::words::{list_in, number_in};
 use states::rules::old_rules;
 use std::io::Stdout;
-use text_parts::lines::{behind_line, line_at};
-use text_parts::parts::{front, start_of};
+use text_parts::lines::Lines;
+use text_parts::parts::{front, parts_from};
 
 // A vector expression: as written from word 4 on, by alternatives row by row and all rows, by the queue; the totals.
 fn show_vector(to: Stdout, rules: Rules, line: &[u8], tree: &[u8]) {
@@ -71,7 +72,7 @@ fn show_read(to: Stdout, rules: Rules, kind: u8, line: &[u8], tree: &[u8; 256], 
 }
 
 // A text over the names A, B, C.
-fn read(rules: Rules, text: &[u8], sort: Sort) -> Read {
+fn read(rules: Rules, text: &[u8], sort: Sort) -> Result<Read, Refusal> {
     let mut names = [0u8; 96];
     names[0] = b'A';
     names[32] = b'B';
@@ -88,15 +89,17 @@ fn sort_of(kind: u8) -> Sort {
 
 // An expression as a text.
 fn show_text(to: Stdout, rules: Rules, kind: u8, line: &[u8], text: &[u8]) {
-    let r = read(rules, text, sort_of(kind));
-    let refused = r.refused;
-    if refused {
-        character(to, b'\n');
-        refusal(to, r.refusal);
-        return character(to, b'\n');
+    match read(rules, text, sort_of(kind)) {
+        Ok(read) => {
+            let tree = read.tree;
+            show_read(to, rules, kind, line, &tree, read.len);
+        }
+        Err(r) => {
+            character(to, b'\n');
+            refusal(to, r);
+            character(to, b'\n');
+        }
     }
-    let tree = r.tree;
-    show_read(to, rules, kind, line, &tree, r.len);
 }
 
 // What stands from word 9 on is printed: a text, from which the tree is read, or a label, where word 8 is the tree. For
@@ -130,16 +133,12 @@ fn show_line(to: Stdout, line: &[u8]) {
     let mut rules = old_rules();
     rules.equal_branches = is_behind(line, b'=');
     rules.steady_pins = is_behind(line, b'~');
-    let at = start_of(line, 9, b' ');
-    let end = line.len();
-    show_rest(to, rules, kind, line, &line[at..end]);
+    show_rest(to, rules, kind, line, parts_from(line, 9, b' '));
 }
 
 // Each line of the input.
 pub fn show_lines(to: Stdout, input: &[u8]) {
-    let mut at: usize = 0;
-    while at < input.len() {
-        show_line(to, line_at(input, at));
-        at = behind_line(input, at);
+    for line in Lines(input) {
+        show_line(to, line);
     }
 }

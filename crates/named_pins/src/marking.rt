@@ -16,9 +16,7 @@ fn mark(b: u8, kept: &mut [u8])
 pub fn mark_names(tree: &[u8], kept: &mut [u8])
     ensures { Marks tree.now kept.old kept.new }
 {
-    let mut i: usize = 0;
-    while i < tree.len() {
-        mark(tree[i], kept);
-        i += 1;
+    for b in tree {
+        mark(*b, kept);
     }
 }

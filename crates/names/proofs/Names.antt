@@ -5,7 +5,7 @@
 use mathlib.Core.Path.{◌≡◌, refl, sym, ap, ◌∙◌}
 use mathlib.Core.Bool.{Bool, true, false, and-false, and-true}
 use mathlib.Core.List.{List, [], ◌∷◌, ◌++◌, append_assoc, append-nil}
-use Prim.Native.Nat.{ℕ, ◌+◌, ◌≤◌, ◌<◌}
+use Prim.Native.Nat.{ℕ, zero, suc, ◌+◌, ◌≤◌, ◌<◌}
 use native.Mathlib.Omega.{arith}
 use native.Mathlib.Numerals.{add-one}
 use lib.ListN.{length, get_or, take, drop, drop_of_length-le, replicate, length-replicate, get_or-replicate}
@@ -13,6 +13,9 @@ use lib.Seq.{drop-cons, take-suc, ext_get_or}
 use borrow.Author.Tests.{le-ltb, lt-ltb, eq-eqb, ne_eqb}
 use Rattle.basics.specs.Words.{all}
 use Rattle.alf.specs.Names.{starts_name, goes_on_name, is_name, until_zero}
+use Rattle.std.specs.Bool.{MatchBool}
+use Rattle.std.specs.List.{AllWithin, HoldsAt}
+use Rattle.basics.specs.Deciding.{Decides}
 use Rattle.names.specs.Check.{Zeros}
 
 pub name_empty : (s : List ℕ) → length s ≡ 0 → false ≡ is_name s
@@ -85,3 +88,25 @@ module _ (s : List ℕ) where
 
   pub zeros_not : (i : ℕ) → i < length s → (get_or s i 0 ≡ 0 → ⊥) → Zeros s → ⊥
   zeros_not i h n z = n (ap (λ (l : List ℕ). get_or l i 0) z ∙ get_or-replicate (length s) i 0 0 h)
+
+-- the bytes before the first zero, by the place of that zero
+pub until_first :
+    (s : List ℕ) (r : ℕ) → r ≤ length s → ((i : ℕ) → i < r → get_or s i 0 ≡ 0 → ⊥) →
+    (r < length s → get_or s r 0 ≡ 0) → take r s ≡ until_zero s
+unfolding until_zero
+until_first [] zero w n t = refl
+until_first [] (suc r) w n t = absurd (omega arith)
+until_first (b ∷ bs) zero w n t = rw (eq-eqb b 0 (t (omega arith))) refl
+until_first (b ∷ bs) (suc r) w n t =
+    rw (ne_eqb b 0 (n 0 (omega arith)))
+    (ap (λ (l : List ℕ). b ∷ l)
+    (until_first bs r (omega arith) (λ i l. n (suc i) (omega arith)) (λ l. t (omega arith))))
+
+-- whether each byte is zero, as a walk over them says it
+pub zeros_said :
+    (s : List ℕ) (r : Bool) →
+    MatchBool r (AllWithin (λ x. x ≡ 0) s 0 (length s)) ((k : ℕ) × (k < length s) × HoldsAt (λ x. x ≡ 0 → ⊥) s k) →
+    Decides r (Zeros s)
+unfolding Decides
+zeros_said s true h = zeros_all s (λ k l. h k 0 (omega arith) l)
+zeros_said s false h = zeros_not s h.0 h.1 (h.2 0)

@@ -3,7 +3,7 @@ use mathlib.Core.Path.{◌≡◌, sym, ◌∙◌}
 use mathlib.Core.List.{List}
 use Prim.Native.Nat.{ℕ, ◌/◌}
 use lib.ListN.{length}
-use Rattle.basics.specs.declared.Outcome.{Outcome}
+use Rattle.basics.specs.Refusing.{Outcome}
 use Rattle.alf.specs.Refusals.{Comes}
 use Rattle.alf.proofs.Outcomes.{AllFixed, at_fixed, first_fixed, comes_unique}
 use Rattle.names.specs.Check.{names_order}

@@ -5,7 +5,7 @@
 --   NameLength, Zeros, New     what the functions below it tell of a slot
 use Rattle.std.specs.Prelude.{ℕ, ◌%◌, ◌/◌, ◌<◌, ◌≤◌, ◌≡◌, List, [], ◌∷◌, length, take, replicate}
 use Rattle.alf.specs.Names.{until_zero, name_at}
-use Rattle.basics.specs.declared.Outcome.{Outcome}
+use Rattle.basics.specs.Refusing.{Outcome}
 use Rattle.alf.specs.Refusals.{Order, check, bad_lists, bad_slot, Comes}
 
 -- slots of 32 bytes, 1 to 32 of them

@@ -6,7 +6,7 @@ ghost use Rattle.alf.specs.Names.{starts_name, goes_on_name, is_name, until_zero
 ghost use Rattle.basics.specs.Deciding.{Decides};
 ghost use Rattle.names.specs.Check.{NameLength, Zeros, New, ChecksNames};
 
-use basics::Outcome;
+use basics::Refusal;
 use basics::refusing::refuse;
 
 // A name's first byte: a letter or `_`.
@@ -45,42 +45,21 @@ pub fn is_name(s: &[u8]) -> bool
     if !starts_name(s[0]) {
         return false;
     }
-    let mut i = 1;
-    while i < n {
-        if !goes_on_name(s[i]) {
-            return false;
-        }
-        i += 1;
-    }
-    true
+    s[1..].iter().all(|b| goes_on_name(*b))
 }
 
 // How many bytes stand before the first zero.
 pub fn name_len(slot: &[u8]) -> usize
     ensures { NameLength slot.now result }
 {
-    let mut i = 0;
-    while i < slot.len() {
-        if slot[i] == 0 {
-            return i;
-        }
-        i += 1;
-    }
-    i
+    slot.iter().position(|b| *b == 0).unwrap_or(slot.len())
 }
 
 // Whether there is nothing but zeros.
 fn all_zero(s: &[u8]) -> bool
     ensures { Decides result (Zeros s.now) }
 {
-    let mut i = 0;
-    while i < s.len() {
-        if s[i] != 0 {
-            return false;
-        }
-        i += 1;
-    }
-    true
+    s.iter().all(|b| *b == 0)
 }
 
 // Whether two slots hold the same name.
@@ -99,14 +78,12 @@ fn is_new(names: &[u8], k: usize) -> bool
 {
     let at = k * 32;
     let end = at + 32;
-    let mut j = 0;
-    while j < k {
+    for j in 0..k {
         let from = j * 32;
         let to = from + 32;
         if same_name(&names[from..to], &names[at..end]) {
             return false;
         }
-        j += 1;
     }
     true
 }
@@ -130,7 +107,7 @@ fn good_slot(names: &[u8], k: usize) -> bool
 }
 
 // The check of a list of names: how many they are, or 18 at 0, or 12 at the first slot that is not good.
-pub fn check_names(names: &[u8]) -> Outcome
+pub fn check_names(names: &[u8]) -> Result<usize, Refusal>
     ensures { ChecksNames names.now result }
 {
     let n = names.len();
@@ -144,12 +121,10 @@ pub fn check_names(names: &[u8]) -> Outcome
     if 32 < k {
         return refuse(18, 0);
     }
-    let mut i = 0;
-    while i < k {
+    for i in 0..k {
         if !good_slot(names, i) {
             return refuse(12, i);
         }
-        i += 1;
     }
-    Outcome::Done(k)
+    Ok(k)
 }

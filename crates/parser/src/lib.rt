@@ -68,12 +68,10 @@ fn accept(codes: &[u8], places: &[u16], nodes: &[usize; 256], len: usize) -> Par
 {
     let mut cs = [0u8; 256];
     let mut ps = [0u16; 256];
-    let mut i = 0;
-    while i < len {
+    for i in 0..len {
         let number = nodes[i];
         cs[i] = code_of(codes, number);
         ps[i] = place_of(places, number);
-        i = i + 1;
     }
     Parsed {
         ok: true,

@@ -28,6 +28,8 @@ fn level1(codes: &[u8], s: State, nodes: &mut [usize; 256]) -> State
     stop(s)
 }
 
+// Levels 2 to 5: how many operands follow is known behind them, so there is no range to go over.
+
 // Level 2, from the left: ^ ~^ == != > < >= <=
 #[cycle(level1_level2_level3_level4_level5_level6)]
 fn level2(codes: &[u8], s: State, nodes: &mut [usize; 256]) -> State

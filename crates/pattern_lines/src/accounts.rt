@@ -1,26 +1,26 @@
 // The lines of the table: the heading, a pattern's line, made by a call of `jobs`, and the sums with it, the totals.
 use alf::Rules;
-use basics::Outcome;
+use basics::Refusal;
 use complaints::{refused, refused_text};
 use console::output::{Console, complain, note, say_front};
-use jobs::sums::{Adding, add};
+use jobs::sums::add;
 use jobs::table::table_line;
-use matching_calls::matching::Counting;
+use matcher::tables::Total;
 use table_lines::lines::{Sums, write_heading, write_total};
 
 // What was written is said, or it is said why not.
-fn deliver(console: &Console, out: &[u8], o: Outcome) {
+fn deliver(console: &Console, out: &[u8], o: Result<usize, Refusal>) {
     match o {
-        Outcome::Done(n) => say_front(console, out, n),
-        Outcome::Refused(r) => refused(console, b"line", r),
+        Ok(n) => say_front(console, out, n),
+        Err(r) => refused(console, b"line", r),
     }
 }
 
 // The sums with a pattern's totals; where they are full, which no table of fewer than 2^48 patterns is, it is told.
-fn grow(console: &Console, s: Sums, c: Counting) -> Sums {
+fn grow(console: &Console, s: Sums, c: Result<Total, Refusal>) -> Sums {
     match add(s, c) {
-        Adding::Added(t) => t,
-        Adding::Full => {
+        Some(t) => t,
+        None => {
             complain(console);
             note(
                 console,
@@ -32,10 +32,10 @@ fn grow(console: &Console, s: Sums, c: Counting) -> Sums {
 }
 
 // What was counted of a text: a refusal is complained of, totals go to the sums.
-fn account(console: &Console, text: &[u8], c: Counting, s: Sums) -> Sums {
+fn account(console: &Console, text: &[u8], c: Result<Total, Refusal>, s: Sums) -> Sums {
     match c {
-        Counting::Counted(_) => grow(console, s, c),
-        Counting::Refused(r) => {
+        Ok(_) => grow(console, s, c),
+        Err(r) => {
             refused_text(console, b"pattern", text, r);
             s
         }
@@ -60,19 +60,6 @@ fn say_line(
     account(console, text, counted, s)
 }
 
-fn lent(
-    console: &Console,
-    rules: Rules,
-    names: &[u8],
-    n: usize,
-    states: &[u8],
-    text: &[u8],
-    out: &mut [u8; 66048],
-    s: Sums,
-) -> Sums {
-    say_line(console, rules, names, n, states, text, out, s)
-}
-
 // One pattern: its line, and the sums with it.
 pub fn pattern(
     console: &Console,
@@ -84,7 +71,16 @@ pub fn pattern(
     s: Sums,
 ) -> Sums {
     let mut out = [0u8; 66048];
-    lent(console, rules, names, n, states, text, &mut out, s)
+    say_line(
+        console,
+        rules,
+        names,
+        n,
+        states,
+        text,
+        out.as_mut_slice(),
+        s,
+    )
 }
 
 // The first line of the table.

@@ -3,8 +3,7 @@ use crate::accounts::pattern;
 use alf::Rules;
 use console::output::Console;
 use table_lines::lines::Sums;
-use text_parts::lines::{behind_line, is_blank, kept, line_at};
-use text_parts::parts::front;
+use text_parts::lines::{Lines, is_blank, kept};
 
 // A line; a blank one is none.
 fn line(
@@ -19,7 +18,7 @@ fn line(
     if is_blank(text) {
         return s;
     }
-    pattern(console, rules, names, n, states, front(text, kept(text)), s)
+    pattern(console, rules, names, n, states, kept(text), s)
 }
 
 // All lines of a text, while somebody reads what is said of them.
@@ -33,13 +32,11 @@ pub fn lines(
     s: Sums,
 ) -> Sums {
     let mut sums = s;
-    let mut at: usize = 0;
-    while at < text.len() {
+    for text in Lines(text) {
         if console.is_unread() {
             return sums;
         }
-        sums = line(console, rules, names, n, states, line_at(text, at), sums);
-        at = behind_line(text, at);
+        sums = line(console, rules, names, n, states, text, sums);
     }
     sums
 }

@@ -1,6 +1,6 @@
 -- Document 01, the queue: rows come one after the other, and the last K of them are kept. What is asked and promised.
 --   held_of, trace_of, last_rows, stored     what a queue keeps, with a row behind it, the last rows, as it holds them
---   Room, LayAsked, KeepAsked, PushAsked  what is asked
+--   Room, LayAsked, KeepAsked, PushAsked, PushAskedOn  what is asked
 --   Keeps, Pushes                         what is promised
 --   fed, Feed                             the rows of a trace pushed one after the other
 use Rattle.std.specs.Prelude.{ℕ, zero, suc, ◌+◌, ◌-◌, ◌*◌, ◌<◌, ◌≤◌, min, ◌≡◌, List, [], ◌++◌, length, take, drop, replicate}
@@ -9,6 +9,7 @@ use Rattle.alf.specs.declared.Answer.{Answer}
 use Rattle.basics.specs.Words.{greatest_of}
 use Rattle.alf.specs.Values.{state_at}
 use Rattle.alf.specs.Alternatives.{Alternative}
+use Rattle.alternatives.specs.declared.lists.Lists.{Lists}
 use Rattle.alternatives.specs.InMemory.{Shape}
 use Rattle.matcher.specs.Answers.{Matches}
 use Rattle.queue.specs.declared.queues.Queue.{Queue}
@@ -64,6 +65,9 @@ pub record PushAsked (tree : List ℕ) (names : ℕ) (steps tests edges operands
   pub room : Room names (greatest_of (λ n. n) steps) q
   pub full : length row ≡ names
   pub codes : Codes row
+
+abbrev pub PushAskedOn : List ℕ → ℕ → Lists → Queue → List ℕ → Type 0
+PushAskedOn tree names l q row = PushAsked tree names l.steps.now l.tests.now l.edges.now l.operands.now q row
 
 -- the answer and the number tried at the last row of what is kept and pushed; of that the last K rows are kept
 pub record Pushes (ρ : Rules) (names : ℕ) (xs : List Alternative) (q : Queue) (row : List ℕ) (answer : Answer)

@@ -1,13 +1,15 @@
 // The queue: rows come one after the other; each push answers for the row pushed, and the last K rows are kept.
 ghost use Rattle.std.specs.Prelude.{◌≡◌, ◌*◌, ◌≤◌, length, replicate};
-ghost use Rattle.alternatives.specs.InMemory.{alternatives_of_lem};
+ghost use Rattle.alternatives.specs.Listed.{alternatives_listed};
 ghost use Rattle.basics.specs.Memory.{placed};
-ghost use Rattle.queue.specs.Queues.{LayAsked, KeepAsked, Keeps, PushAsked, Pushes, held_of, stored};
+ghost use Rattle.queue.specs.Queues.{LayAsked, KeepAsked, Keeps, PushAskedOn, Pushes, held_of, stored};
 
 use alf::{Answer, RowNo, Rules};
+use alternatives::lists::Lists;
 use alternatives::walking::longest;
 use basics::puts::put;
 use matcher::answers::match_row;
+use matcher::scenes::Scene;
 
 // The rows kept, at most 16 of at most 32 names, oldest first; `kept` is how many they are, which is the row number of
 // the next row in what is kept.
@@ -84,34 +86,26 @@ pub fn push(
     rules: Rules,
     tree: &[u8],
     names: usize,
-    steps: &[u8],
-    tests: &[u8],
-    edges: &[u8],
-    operands: &[u16],
+    lists: &Lists,
     queue: Queue,
     row: &[u8],
 ) -> Pushed
-    requires { PushAsked tree.now names steps.now tests.now edges.now operands.now queue row.now }
-    ensures { Pushes rules names (alternatives_of_lem tree.now names steps.now
-        tests.now
-        edges.now operands.now) queue row.now result.answer result.tries result.queue }
+    requires { PushAskedOn tree.now names lists.now queue row.now }
+    ensures { Pushes rules names (alternatives_listed tree.now names lists.now) queue row.now result.answer
+        result.tries result.queue }
 {
     let kept = queue.kept;
     let at = kept.0 as usize;
     let end = at * names + names;
     let work = lay(queue, names, row);
-    let m = match_row(
+    let scene = Scene {
         rules,
         tree,
         names,
-        &work[..end],
-        steps,
-        tests,
-        edges,
-        operands,
-        at,
-    );
-    let next = keep(&work[..end], names, at, longest(steps) as usize);
+        states: &work[..end],
+    };
+    let m = match_row(&scene, lists, at);
+    let next = keep(&work[..end], names, at, longest(lists.steps) as usize);
     let answer = m.answer;
     let tries = m.tries;
     Pushed {

@@ -5,12 +5,12 @@ use mathlib.Core.Path.{◌∙◌}
 use mathlib.Core.List.{List}
 use Rattle.alf.specs.declared.Rules.{Rules}
 use Rattle.alf.specs.declared.Answer.{Answer}
-use Rattle.alf.specs.declared.Began.{Began}
+use Rattle.alf.specs.Beginnings.{Began}
 use Rattle.alf.specs.Values.{state_at}
 use Rattle.alf.specs.Alternatives.{alternatives, steps_of}
 use Rattle.alf.proofs.RowsAreAlternatives.{same_answer}
-use Rattle.rewriting.specs.declared.lists.Alternatives.{Alternatives}
-use Rattle.rewriting.specs.Lists.{Holds}
+use Rattle.alternatives.specs.declared.lists.Lists.{Lists}
+use Rattle.rewriting.specs.Lists.{StandFor}
 use Rattle.timed_queue.specs.declared.queues.Queue.{Queue}
 use Rattle.queue.specs.Queues.{trace_of}
 use Rattle.timed_queue.specs.TimedQueues.{Pushes}
@@ -18,7 +18,7 @@ use Rattle.matching_calls.specs.Matching.{expression}
 use Rattle.matching_calls.proofs.ByAlternatives.{xs, steps_are, tree_dated}
 use Rattle.queue_calls.specs.Pushing.{PushesTree}
 
-module _ {ρ : Rules} {names : ℕ} {tree : List ℕ} {a : Alternatives} (h : Holds ρ tree names a) where
+module _ {ρ : Rules} {names : ℕ} {tree : List ℕ} {ls : Lists} (h : StandFor ρ tree names ls) where
   pub tree_pushes : {q q' : Queue} {time : ℕ} {row : List ℕ} {t : ℕ} {answer : Answer} {b : Began}
       → Pushes ρ names (xs h) q time row answer t b q'
       → PushesTree ρ names tree q time row answer t b q'

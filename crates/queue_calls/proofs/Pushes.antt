@@ -2,13 +2,15 @@
 --   steps_over, steps_within, few_steps   K is counted, and at most 16
 --   queue_many, queue_tree, queue_kept    whether a queue may be handed in with a tree
 --   push_asked; push_good, push_refused, push_told
+use Rattle.std.specs.Prelude.{Err, Ok}
+use Rattle.std.specs.Prelude.{None, Some}
 use mathlib.Core.Path.{◌≡◌, refl, ap, sym, ◌∙◌}
 use mathlib.Core.Bool.{Bool, true, false}
 use mathlib.Core.List.{List}
 use Prim.Native.Nat.{ℕ, ◌<◌, ◌≤◌}
 use native.Mathlib.Omega.{arith}
 use lib.Dec.{ltb}
-use lib.ListN.{length, take}
+use lib.ListN.{length}
 use borrow.Author.Tests.{ltb-false}
 use Rattle.basics.specs.declared.Refusal.{Refusal}
 use Rattle.alf.specs.declared.Rules.{Rules}
@@ -17,8 +19,7 @@ use Rattle.alf.specs.Expressions as expressions
 use Rattle.alf.specs.Alternatives.{alternatives, steps_of, over_limit}
 use Rattle.basics.proofs.Bools.{never, or_left, or_right}
 use Rattle.acceptance.specs.declared.sizes.Size.{Size}
-use Rattle.acceptance.specs.declared.sizes.Measured.{Measured}
-use Rattle.acceptance.specs.declared.sizes.Measured.TheVariants.{Over, Within}
+use Rattle.acceptance.specs.Sizes.{Measured}
 use Rattle.acceptance.specs.Sizes.{measured}
 use Rattle.acceptance.specs.Accepted.{Accepted}
 use Rattle.basics.specs.Deciding.{Decides}
@@ -26,13 +27,11 @@ use Rattle.beginnings.specs.declared.times.Dated.{Dated}
 use Rattle.timed_queue.specs.declared.queues.Queue.{Queue}
 use Rattle.states.specs.FirstBadCode.{Codes}
 use Rattle.queue.specs.Queues.{PushAsked}
-use Rattle.rewriting.specs.declared.lists.Alternatives.{Alternatives}
-use Rattle.rewriting.specs.Lists.{Holds}
+use Rattle.alternatives.specs.declared.lists.Lists.{Lists}
+use Rattle.rewriting.specs.Lists.{StandFor}
 use Rattle.rewriting.proofs.Bounds.{accepted_limited}
-use Rattle.judging.specs.declared.checks.Verdict.{Verdict}
-use Rattle.judging.specs.declared.checks.Verdict.TheVariants.{Good, Refused}
-use Rattle.matching_calls.specs.declared.matching.Matching.{Matching}
-use Rattle.matching_calls.specs.declared.matching.Matching.TheVariants as matching
+use Rattle.judging.specs.Orders.{Verdict}
+use Rattle.matching_calls.specs.Matching.{Matching}
 use Rattle.judging.specs.Orders.{Judged}
 use Rattle.matching_calls.specs.Matching.{expression}
 use Rattle.queue_calls.specs.Pushing.{RowFits, Keeps, Early, Handed, push_order}
@@ -44,19 +43,19 @@ use Rattle.matching_calls.proofs.ByAlternatives.{longest_steps}
 
 -- K of an accepted tree
 steps_in : Measured → ℕ
-steps_in Over = 0
-steps_in (Within s) = s.steps
+steps_in None = 0
+steps_in (Some s) = s.steps
 
 is_over : Measured → Bool
-is_over Over = true
-is_over (Within s) = false
+is_over None = true
+is_over (Some s) = false
 
 module _ (p : expressions.Vector) (h : over_limit (alternatives p) ≡ false) {m : Measured} (e : m ≡ measured p) where
-  pub steps_over : m ≡ Over → 0 ≡ steps_of p
+  pub steps_over : m ≡ None → 0 ≡ steps_of p
   unfolding measured is_over
   steps_over f = never (sym (ap is_over (sym f ∙ e) ∙ rw h refl))
 
-  pub steps_within : {s : Size} → m ≡ Within s → s.steps ≡ steps_of p
+  pub steps_within : {s : Size} → m ≡ Some s → s.steps ≡ steps_of p
   unfolding measured steps_in
   steps_within f = ap steps_in (sym f ∙ e) ∙ rw h refl
 
@@ -83,11 +82,11 @@ module _ (ρ : Rules) (names : ℕ) (tree : List ℕ) (q : Queue) where
       }
 
 -- a tree, a queue and a row that fit, as the queue asks for them
-pub push_asked : {ρ : Rules} {names : ℕ} {tree : List ℕ} {q : Queue} {row : List ℕ} {a : Alternatives}
+pub push_asked : {ρ : Rules} {names : ℕ} {tree : List ℕ} {q : Queue} {row : List ℕ} {ls : Lists}
     → TreePush ρ names tree q row
-    → Holds ρ tree names a
-    → PushAsked tree names (take a.count a.steps) (take a.step_count a.tests)
-    (take a.test_count a.edges) (take a.test_count a.operands) q.rows row
+    → StandFor ρ tree names ls
+    → PushAsked tree names ls.steps.now ls.tests.now
+    ls.edges.now ls.operands.now q.rows row
 push_asked {ρ} {names} {tree} {q} t h =
     let k = longest_steps h in
     let few = few_steps (expression ρ tree names) (accepted_limited tree names t.handed.accepted) in
@@ -112,16 +111,16 @@ module _ {ρ : Rules} {names : ℕ} {tree : List ℕ} {q : Queue} {row : List �
       (RowFits names (length row) × Handed ρ names tree q × (Codes row × (Early q time → ⊥))) v
   as_push = judged_as fits good _ _ f (λ x. g.is x.name_count_lem.1) _ j.is
 
-  pub push_good : v ≡ Good → TreePush ρ names tree q row
+  pub push_good : v ≡ (Ok tt) → TreePush ρ names tree q row
   push_good e = let (l, h, (s, t)) = (judged_good as_push e).1 in record { handed = h; fits = l; codes = s }
 
-  pub push_refused : {r : Refusal} → v ≡ Refused r → Push ρ names tree q time row (matching.Refused r) q
+  pub push_refused : {r : Refusal} → v ≡ Err r → Push ρ names tree q time row (Err r) q
   unfolding Takes
   push_refused e = record { comes = (judged_not as_push e, refl) }
 
-  pub push_told : {m : Dated} {p q' : Queue} {told : Matching} → v ≡ Good
+  pub push_told : {m : Dated} {p q' : Queue} {told : Matching} → v ≡ (Ok tt)
       → PushesTree ρ names tree q time row m.answer m.tries m.began p
-      → told ≡ matching.Found m → q' ≡ p
+      → told ≡ Ok m → q' ≡ p
       → Push ρ names tree q time row told q'
   unfolding Takes
   push_told e p d f = rw (d, f) (record { comes = ((judged_good as_push e).0, p) })

@@ -5,6 +5,7 @@
 --   last_none, last_over                  the time of the last row kept
 --   first_push, early_refused, above_good 13 of the new row
 --   judges_push                           verdicts put together
+use Rattle.std.specs.Prelude.{Err, Ok}
 use mathlib.Core.Path.{◌≡◌, refl, sym}
 use mathlib.Core.Bool.{Bool, true, false}
 use mathlib.Core.Logic.{inl}
@@ -27,11 +28,10 @@ use Rattle.queue.specs.Queues.{held_of}
 use Rattle.queue.proofs.Keeping.{rows_fit, held_length}
 use Rattle.timed_queue.specs.declared.queues.Queue.{Queue}
 use Rattle.timed_queue.specs.TimedQueues.{held_times}
-use Rattle.judging.specs.declared.checks.Verdict.{Verdict}
-use Rattle.judging.specs.declared.checks.Verdict.TheVariants.{Good, Refused}
-use Rattle.judging.specs.Orders.{Judged, passes, refuses, next_of, JudgesTrace}
+use Rattle.judging.specs.Orders.{Verdict}
+use Rattle.judging.specs.Orders.{Judged, passes, refuses, JudgesTrace}
 use Rattle.judging.specs.TimedOrders.{FirstEarly}
-use Rattle.judging.proofs.Verdicts.{judged_next, judged_facts}
+use Rattle.judging.proofs.Verdicts.{judged_stop, judged_go, judged_facts}
 use Rattle.queue_calls.specs.Pushing.{Small, KeepsRows, Keeps, last_time, Early, late, JudgesPush}
 
 -- what a queue of at most 16 rows keeps
@@ -101,22 +101,29 @@ module _ (q : Queue) where
 
 -- 13
 module _ (q : Queue) (time : ℕ) where
-  pub first_push : q.rows.kept.0 ≡ 0 → Judged (late q time) (Early q time → ⊥) Good
+  pub first_push : q.rows.kept.0 ≡ 0 → Judged (late q time) (Early q time → ⊥) (Ok tt)
   unfolding Passed
   first_push e = passes (λ p a. omega (arith, a.given.0), tt) (λ a. omega (arith, a.0))
 
   pub early_refused : {r : Refusal} → (q.rows.kept.0 ≡ 0 → ⊥) → time ≤ last_time q → r ≡ refusal 13 0
-      → Judged (late q time) (Early q time → ⊥) (Refused r)
+      → Judged (late q time) (Early q time → ⊥) (Err r)
   unfolding RefusedWith
   early_refused n h e =
       rw e (refuses (plainly _ _ 0 (inl (refl, record { given = (omega (arith, n), h); there = refl }))))
 
-  pub above_good : last_time q < time → Judged (late q time) (Early q time → ⊥) Good
+  pub above_good : last_time q < time → Judged (late q time) (Early q time → ⊥) (Ok tt)
   unfolding Passed
   above_good h = passes (λ p a. omega (arith, a.given.1), tt) (λ a. omega (arith, a.1))
 
-pub judges_push : {fits good : Bool} {q : Queue} {time : ℕ} {row : List ℕ} {a b r : Verdict}
-    → JudgesTrace fits good row a → Judged (late q time) (Early q time → ⊥) b → r ≡ next_of a b
-    → JudgesPush fits good q time row r
-judges_push x y e =
-    rw e (record { is = judged_facts (λ ((f, g, h), k). (f, g, (h, k))) (judged_next x.is y) })
+-- verdicts one after the other
+module _ {fits good : Bool} {q : Queue} {time : ℕ} {row : List ℕ} {a : Verdict} (x : JudgesTrace fits good row a) where
+  pub push_refused : {r : Refusal} → a ≡ Err r → JudgesPush fits good q time row (Err r)
+  push_refused e =
+      record {
+        is = judged_facts (λ ((f, g, h), k). (f, g, (h, k)))
+            (judged_stop (late q time) {G = Early q time → ⊥} x.is e);
+      }
+
+  pub push_13 : a ≡ (Ok tt) → {b : Verdict} → Judged (late q time) (Early q time → ⊥) b
+      → JudgesPush fits good q time row b
+  push_13 d y = record { is = judged_facts (λ ((f, g, h), k). (f, g, (h, k))) (judged_go x.is d y) }

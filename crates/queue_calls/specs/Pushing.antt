@@ -4,10 +4,11 @@
 --   last_time, Early, late, push_order      a time that is not above the last; the order of the refusals
 --   PushesTree, Takes, Push               the call
 --   Small, DecidesQueue, JudgesPush, TreePush         what the functions inside ask and tell
+use Rattle.std.specs.Prelude.{Err, Ok}
 use Rattle.std.specs.Prelude.{ℕ, ◌+◌, ◌-◌, ◌<◌, ◌≤◌, min, ◌≡◌, Bool, List, [], ◌∷◌, length, get_or}
 use Rattle.alf.specs.declared.Rules.{Rules}
 use Rattle.alf.specs.declared.Answer.{Answer}
-use Rattle.alf.specs.declared.Began.{Began}
+use Rattle.alf.specs.Beginnings.{Began}
 use Rattle.alf.specs.declared.Sort.TheVariants.{Vector}
 use Rattle.alf.specs.Alternatives.{steps_of}
 use Rattle.alf.specs.Refusals.{Order, check, bad_code, early_time, Rising, NameCount, RefusedBy, Passed}
@@ -19,9 +20,8 @@ use Rattle.states.specs.FirstBadCode.{Codes}
 use Rattle.queue.specs.Queues.{held_of, trace_of, last_rows, stored}
 use Rattle.timed_queue.specs.Stamps.{stored_times}
 use Rattle.timed_queue.specs.TimedQueues.{held_times, times_of}
-use Rattle.judging.specs.declared.checks.Verdict.{Verdict}
-use Rattle.matching_calls.specs.declared.matching.Matching.{Matching}
-use Rattle.matching_calls.specs.declared.matching.Matching.TheVariants.{Found, Refused}
+use Rattle.judging.specs.Orders.{Verdict}
+use Rattle.matching_calls.specs.Matching.{Matching}
 use Rattle.judging.specs.Orders.{order, Judges}
 use Rattle.matching_calls.specs.Matching.{expression, MatchesTree}
 
@@ -79,10 +79,10 @@ pub record PushesTree (ρ : Rules) (names : ℕ) (tree : List ℕ) (queue : Queu
       ≡ stored_times (last_rows 1 (steps_of (expression ρ tree names)) (queue.rows.kept.0 + 1) (times_of queue time))
 
 unfoldable pub Takes : Rules → ℕ → List ℕ → Queue → ℕ → List ℕ → Matching → Queue → Type 0
-Takes ρ names tree queue time row (Found m) queue' =
+Takes ρ names tree queue time row (Ok m) queue' =
     Passed (push_order ρ names tree queue time row)
     × PushesTree ρ names tree queue time row m.answer m.tries m.began queue'
-Takes ρ names tree queue time row (Refused r) queue' =
+Takes ρ names tree queue time row (Err r) queue' =
     RefusedBy (push_order ρ names tree queue time row) r × (queue' ≡ queue)
 
 pub record Push (ρ : Rules) (names : ℕ) (tree : List ℕ) (queue : Queue) (time : ℕ) (row : List ℕ) (told : Matching)

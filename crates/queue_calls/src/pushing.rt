@@ -10,16 +10,16 @@ ghost use Rattle.alf.specs.Refusals.{Rising};
 ghost use Rattle.judging.specs.Orders.{Judged};
 ghost use Rattle.timed_queue.specs.TimedQueues.{held_times};
 ghost use Rattle.queue_calls.specs.Pushing.{RowFits, Small, KeepsRows, Keeps, last_time, Early, late};
-ghost use Rattle.matching_calls.specs.declared.matching.Matching.TheVariants.{Found};
 ghost use Rattle.queue_calls.specs.Pushing.{DecidesQueue, JudgesPush, TreePush, PushesTree, Push};
 
 use acceptance::accepting::accepts;
-use acceptance::sizes::{Measured, measure};
+use acceptance::sizes::measure;
 use alf::{Rules, Sort, Stamp};
+use basics::Refusal;
 use basics::refusing::refusal_of;
-use judging::checks::{Verdict, judge, next};
+use beginnings::times::Dated;
+use judging::checks::judge;
 use judging::timed::first_early;
-use matching_calls::matching::Matching;
 use rewriting::lists::alternatives_of;
 use states::codes::first_bad_code;
 use timed_queue::queues::{Pushed, Queue};
@@ -27,7 +27,7 @@ use timed_queue::queues::{Pushed, Queue};
 // What a push comes to, and the queue then; refused, it is the queue that was handed in.
 #[derive(Clone, Copy)]
 pub struct Pushing {
-    pub told: Matching,
+    pub told: Result<Dated, Refusal>,
     pub queue: Queue,
 }
 
@@ -90,8 +90,8 @@ fn steps_of(rules: Rules, names: usize, tree: &[u8]) -> usize
 {
     let size = measure(rules, tree, tree.len(), names);
     match size {
-        Measured::Over => 0,
-        Measured::Within(s) => s.steps,
+        None => 0,
+        Some(s) => s.steps,
     }
 }
 
@@ -126,25 +126,32 @@ fn last_time(queue: Queue) -> u64
 }
 
 // 13 of the new row.
-fn judge_time(queue: Queue, time: Stamp) -> Verdict
+fn judge_time(queue: Queue, time: Stamp) -> Result<(), Refusal>
     ensures { Judged (late queue time.0) (Early queue time.0 → ⊥) result }
 {
     let rows = queue.rows;
     let kept = rows.kept;
     if kept.0 == 0 {
-        return Verdict::Good;
+        return Ok(());
     }
     if time.0 <= last_time(queue) {
-        return Verdict::Refused(refusal_of(13, 0));
+        return Err(refusal_of(13, 0));
     }
-    Verdict::Good
+    Ok(())
 }
 
 // 18 where the row does not fit, 10 where what is handed in is not good, 15, 13.
-pub fn judge_push(fits: bool, good: bool, queue: Queue, time: Stamp, row: &[u8]) -> Verdict
+pub fn judge_push(
+    fits: bool,
+    good: bool,
+    queue: Queue,
+    time: Stamp,
+    row: &[u8],
+) -> Result<(), Refusal>
     ensures { JudgesPush fits good queue time.0 row.now result }
 {
-    next(judge(fits, good, row), judge_time(queue, time))
+    judge(fits, good, row)?;
+    judge_time(queue, time)
 }
 
 // An accepted tree, a queue and a row that fit.
@@ -161,34 +168,17 @@ fn push_tree(
         result.told.tries result.told.began result.queue }
 {
     let a = alternatives_of(rules, tree, names);
-    let count = a.count;
-    let step_count = a.step_count;
-    let test_count = a.test_count;
-    let steps = a.steps;
-    let tests = a.tests;
-    let edges = a.edges;
-    let operands = a.operands;
-    timed_queue::queues::push(
-        rules,
-        tree,
-        names,
-        &steps[..count],
-        &tests[..step_count],
-        &edges[..test_count],
-        &operands[..test_count],
-        queue,
-        time,
-        row,
-    )
+    let lists = a.lists();
+    timed_queue::queues::push(rules, tree, names, &lists, queue, time, row)
 }
 
 // What a push comes to, as it is told.
 pub fn pushing_of(p: Pushed) -> Pushing
-    ensures { (result.told ≡ Found p.told) × (result.queue ≡ p.queue) }
+    ensures { (result.told ≡ Ok p.told) × (result.queue ≡ p.queue) }
 {
     let found = p.told;
     let queue = p.queue;
-    let told = Matching::Found(found);
+    let told = Ok(found);
     Pushing { told, queue }
 }
 
@@ -207,10 +197,10 @@ pub fn push(
     let good = queue_good(rules, names, tree, queue);
     let v = judge_push(fits, good, queue, time, row);
     match v {
-        Verdict::Refused(r) => {
-            let told = Matching::Refused(r);
+        Err(r) => {
+            let told = Err(r);
             Pushing { told, queue }
         }
-        Verdict::Good => pushing_of(push_tree(rules, names, tree, queue, time, row)),
+        Ok(()) => pushing_of(push_tree(rules, names, tree, queue, time, row)),
     }
 }

@@ -1,5 +1,8 @@
--- What each way of `limit` comes to: 8, or read. Main names: limit_refused, limit_boolean, limit_asks, limit_over,
+-- What each way of `limit` comes to: 8, or read. Main names: limit_boolean, limit_asks, limit_over,
 -- limit_within, over_told.
+use Rattle.std.specs.Prelude.{None, Some, Ok, Err}
+use Rattle.basics.specs.Refusing.{refusal}
+use Rattle.basics.specs.declared.Refusal.{Refusal}
 use Rattle.std.specs.Prelude.{if◌then◌else◌}
 use mathlib.Core.Path.{◌≡◌, refl, sym, ap, subst, ◌∙◌}
 use mathlib.Core.Bool.{Bool, true, false}
@@ -20,16 +23,15 @@ use Rattle.grammar.specs.Answers.{padded}
 use Rattle.grammar.proofs.Written.{expression_formed}
 use Rattle.trees.specs.Parts.{EndsVector, vector_at}
 use Rattle.steady_pins.specs.Finding.{Tree}
-use Rattle.acceptance.specs.declared.sizes.Measured.{Measured}
-use Rattle.acceptance.specs.declared.sizes.Measured.TheVariants as size
+use Rattle.acceptance.specs.Sizes.{Measured}
 use Rattle.acceptance.specs.declared.sizes.Size.{Size}
 use Rattle.acceptance.specs.Sizes.{measured}
 use Rattle.reader.specs.declared.Read.{Read}
 use Rattle.sorting.specs.Lookup.{number_at}
 use Rattle.sorting.specs.Sorts.{Sorted, is, faulty, given, asked, sorted, sorted_for}
 use Rattle.sorting.specs.Passes.{is_vector}
-use Rattle.reader.specs.Reads.{made, refused_by, refused_with, has_sort}
-use Rattle.reader.specs.Reading.{too_large, ReadsText, Clear, Unlimited, refused, unlimited}
+use Rattle.reader.specs.Reads.{made, refused_with, has_sort}
+use Rattle.reader.specs.Reading.{too_large, ReadsText, Clear, Unlimited, unlimited}
 use Rattle.reader.proofs.Texts.{nodes_inside}
 use Rattle.reader.proofs.Unknowns.{names_numbered}
 use Rattle.names.proofs.Few.{names_few}
@@ -39,24 +41,24 @@ use Rattle.reader.proofs.Limits.{call_over, vector_ends, vector_is}
 -- what `measure` says
 module _ (v : Vector) {m : Measured} (e : m ≡ measured v) where
   abbrev told : Bool → Measured
-  told b = if b then size.Over else size.Within
+  told b = if b then None else Some
       (record { alternatives = number_of_alternatives v; steps = steps_of v; tests = tests_of v })
 
   is_told : m ≡ told (over_limit (alternatives v))
   unfolding measured
   is_told = e
 
-  pub over_told : m ≡ size.Over → true ≡ over_limit (alternatives v)
+  pub over_told : m ≡ None → true ≡ over_limit (alternatives v)
   over_told f = go (over_limit (alternatives v)) (sym f ∙ is_told)
     where
-      go : (b : Bool) → size.Over ≡ told b → true ≡ b
+      go : (b : Bool) → None ≡ told b → true ≡ b
       go true h = refl
       go false h = let z : ◌≡◌ {A = ℕ} 0 1 = cc in absurd (omega arith)
 
-  pub within_told : {y : Size} → m ≡ size.Within y → false ≡ over_limit (alternatives v)
+  pub within_told : {y : Size} → m ≡ Some y → false ≡ over_limit (alternatives v)
   within_told {y} f = go (over_limit (alternatives v)) (sym f ∙ is_told)
     where
-      go : (b : Bool) → size.Within y ≡ told b → false ≡ b
+      go : (b : Bool) → Some y ≡ told b → false ≡ b
       go true h = let z : ◌≡◌ {A = ℕ} 0 1 = cc in absurd (omega arith)
       go false h = refl
 
@@ -103,7 +105,7 @@ module _ {names text : List ℕ} {sort : Sort} {x : Expression} (k : Clear names
       call_over (names_in names) (number_at names text) sort (length text) (expression_formed k.whole)
       (nodes_inside k.whole (names_numbered names text k.tokens k.known)) k.sorts
 
-  small_read : (ρ : Rules) → ((p : ℕ) → too_large ρ (is x) p → ⊥) → ReadsText ρ names text sort (made x)
+  small_read : (ρ : Rules) → ((p : ℕ) → too_large ρ (is x) p → ⊥) → ReadsText ρ names text sort (Ok (made x))
   small_read ρ h = read_clear ρ names text sort k.good k.clear k.read k.whole k.known k.sorts h
 
   large : (ρ : Rules) (p : ℕ) → too_large ρ (is x) p → ReadsText ρ names text sort (refused_with 8 p)
@@ -131,29 +133,19 @@ module _ {names text : List ℕ} {sort : Sort} {x : Expression} (k : Clear names
     not_large ρ e p h = let g = rw v.is_it at h in never (e ∙ g.given)
 
 -- the ways of `limit`
-pub limit_refused : {ρ : Rules} {names text : List ℕ} {sort : Sort} {r : Read} → Unlimited ρ names text sort r
-    → r.refused ≡ true
-    → ReadsText ρ names text sort r
-unfolding made refused_by
-limit_refused (refused f h) e = h
-limit_refused (unlimited k) e = never e
-
 pub record Left (names text : List ℕ) (sort : Sort) (r : Read) : Type 0 where
   pub it : Expression
   pub clear : Clear names text sort it
   pub is_made : r ≡ made it
 
-pub left_over : {ρ : Rules} {names text : List ℕ} {sort : Sort} {r : Read} → Unlimited ρ names text sort r
-    → r.refused ≡ false
+pub left_over : {ρ : Rules} {names text : List ℕ} {sort : Sort} {r : Read} → Unlimited ρ names text sort (Ok r)
     → Left names text sort r
-unfolding made refused_by
-left_over (refused f h) e = never (sym e)
-left_over (unlimited {x = x} k) e = record { it = x; clear = k; is_made = refl }
+left_over (unlimited {x = x} k) = record { it = x; clear = k; is_made = refl }
 
 module _ (ρ : Rules) {names text : List ℕ} {sort : Sort} {r : Read} (l : Left names text sort r) where
-  pub limit_boolean : has_sort sort false ≡ true → ReadsText ρ names text sort r
+  pub limit_boolean : has_sort sort false ≡ true → ReadsText ρ names text sort (Ok r)
   limit_boolean e =
-      subst (ReadsText ρ names text sort) (sym l.is_made)
+      subst (λ (y : Read). ReadsText ρ names text sort (Ok y)) (sym l.is_made)
       (small_read l.clear ρ (never_large ρ sort l.it e (sort_is l.clear)))
 
   module _ (e : has_sort sort false ≡ false) where
@@ -184,12 +176,10 @@ module _ (ρ : Rules) {names text : List ℕ} {sort : Sort} {r : Read} (l : Left
           f ∙ ap (λ (t : List ℕ). over_limit (alternatives (meant ρ (vector_at t (names_in names) r.len)))) copied
           ∙ ap (λ (v : Vector). over_limit (alternatives (meant ρ v))) measured_is
 
-      pub limit_over : b ≡ true → {s : Read} → s ≡ refused_with 8 0 → ReadsText ρ names text sort s
-      limit_over o g =
-          subst (ReadsText ρ names text sort) (sym g)
-          (large l.clear ρ 0 (too_large_lem l.clear it_vector ρ (sym o ∙ by_limit)))
+      pub limit_over : b ≡ true → {f : Refusal} → f ≡ refusal 8 0 → ReadsText ρ names text sort (Err f)
+      limit_over o g = rw g (large l.clear ρ 0 (too_large_lem l.clear it_vector ρ (sym o ∙ by_limit)))
 
-      pub limit_within : b ≡ false → ReadsText ρ names text sort r
+      pub limit_within : b ≡ false → ReadsText ρ names text sort (Ok r)
       limit_within o =
-          subst (ReadsText ρ names text sort) (sym l.is_made)
+          subst (λ (y : Read). ReadsText ρ names text sort (Ok y)) (sym l.is_made)
           (small_read l.clear ρ (not_large l.clear it_vector ρ (sym o ∙ by_limit)))

@@ -1,6 +1,7 @@
 -- What a text is read as, from what the parts of the call found.
 --   names_refused, tokens_refused, five, six, seven, eight    refused, by the first row of the order that is given
 --   read_clear                                                read
+use Rattle.std.specs.Prelude.{Ok, Err}
 use mathlib.Core.Path.{◌≡◌, refl}
 use mathlib.Core.List.{List, ◌++◌}
 use mathlib.Core.Logic.{inl, inr}
@@ -21,7 +22,7 @@ use Rattle.grammar.proofs.Unique.{parses_unique}
 use Rattle.sorting.specs.Lookup.{number_at}
 use Rattle.sorting.specs.Sorts.{is, faulty}
 use Rattle.reader.specs.Texts.{tokens_of}
-use Rattle.reader.specs.Reads.{made, refused_by, refused_with, refused_at}
+use Rattle.reader.specs.Reads.{made, refused_with, refused_at}
 use Rattle.reader.specs.Reading.{Unknown, unsorted, too_large, OfTree, stuck, unknown, sorted_in, faults_in}
 use Rattle.reader.specs.Reading.{tree_order, Gives, ReadsText, refused, read}
 use Rattle.reader.proofs.Faults.{call_agree, row_seven, seven_never}
@@ -37,18 +38,18 @@ use Rattle.reader.proofs.ShownTokens.{At, Held, tokens_held, end_held, stuck_pla
 use Rattle.reader.proofs.ShownTokens.{call_within, within_at}
 
 module _ (ρ : Rules) (names text : List ℕ) (sort : Sort) where
-  pub names_refused : (r : Refusal) → RefusedBy (names_order names) r → ReadsText ρ names text sort (refused_by r)
+  pub names_refused : (r : Refusal) → RefusedBy (names_order names) r → ReadsText ρ names text sort (Err r)
   unfolding all numbers_of among
   names_refused r h = refused r (in_first text (names_order names) _ (in_silent text (names_order names) refl h))
 
   module _ (good : Passed (names_order names)) where
-    pub tokens_refused : (r : Refusal) → RefusedIn text (order text) r → ReadsText ρ names text sort (refused_by r)
+    pub tokens_refused : (r : Refusal) → RefusedIn text (order text) r → ReadsText ρ names text sort (Err r)
     tokens_refused r h =
         refused r (in_then text (names_order names) _ good (in_first text (order text) _ h))
 
     module _ {ts : List Token} (clear : Passed (order text)) (r : Reads 0 text ts) where
       in_tree : (n p k : ℕ) → Extent text n p k → RefusedWith (tree_order ρ names text sort) n p
-          → ReadsText ρ names text sort (refused_by (refusal_over_lem n p k))
+          → ReadsText ρ names text sort (Err (refusal_over_lem n p k))
       in_tree n p k x h =
           refused _
           (in_then text (names_order names) _ good (in_then text (order text) _ clear (record { by = h; shows = x })))
@@ -150,7 +151,7 @@ module _ (ρ : Rules) (names text : List ℕ) (sort : Sort) where
                     small = small;
                   }
 
-              pub read_clear : ReadsText ρ names text sort (made x)
+              pub read_clear : ReadsText ρ names text sort (Ok (made x))
               unfolding Passed tree_order
               read_clear =
                   read

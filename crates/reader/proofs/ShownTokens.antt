@@ -38,7 +38,7 @@ use Rattle.sorting.specs.declared.sorts.Sorting.{Sorting}
 use Rattle.sorting.specs.Sorts.{Sorted, is, faulty, of_one, of_two, of_three, given, asked, sorted, sorted_for}
 use Rattle.sorting.specs.Passes.{settled, Shows, goes, stops}
 use Rattle.reader.specs.Texts.{tokens_of}
-use Rattle.reader.specs.Reads.{shown_at}
+use Rattle.reader.specs.Reads.{size_of, shown_at}
 use Rattle.reader.specs.Reading.{Stands, here, there}
 
 -- the bytes counted at p are those that 5, 6 or 7 shows there
@@ -49,7 +49,7 @@ taken_held : (text : List ℕ) (p : ℕ) {b c : ℕ} {bs w after : List ℕ} →
     → Taken (b ∷ bs) w c after → Held text p
 taken_held text p {c = c} {w = w} {after = after} e t n h =
     extents.token {w = w} {after = after} {c = c} h (rw e t)
-    (ap (λ (ds : List ℕ). (step_of ds).size) e ∙ ap (λ s. s.size) (step_complete_taken t))
+    (ap (λ (ds : List ℕ). size_of (step_of ds)) e ∙ ap size_of (step_complete_taken t))
 
 -- what is left behind the first bytes
 pub behind_first : (text : List ℕ) (p : ℕ) (w : List ℕ) {after : List ℕ} → drop p text ≡ w ++ after
@@ -66,14 +66,14 @@ tokens_held text (token {p = p} {c = c} {w = w} {after = after} h t r) e =
     more {x = record { code = c; place = p }} (taken_held text p e t)
     (tokens_held text r (behind_first text p w (e ∙ t.there)))
 
-none_there : (step_of []).size ≡ 0
+none_there : size_of (step_of []) ≡ 0
 unfolding step_of plain_step first_of spellings starts starts_name is_letter half_of among
 none_there = refl
 
 pub end_held : (text : List ℕ) → Held text (length text)
 end_held text n h =
     let end = drop_of_length-le text {i = length text} (omega arith) in
-    extents.at_end h refl (ap (λ (ds : List ℕ). (step_of ds).size) end ∙ none_there)
+    extents.at_end h refl (ap (λ (ds : List ℕ). size_of (step_of ds)) end ∙ none_there)
 
 -- what holds at each token's place
 module _ (P : ℕ → Type 0) where

@@ -2,6 +2,9 @@
 --   listed, handed-over     what the search for names and the parser ask of the tokens
 --   grown                   what the pass over the nodes asks of the parser's answer
 --   whole_five, whole_six, whole_sorted     what each way comes to
+use Rattle.std.specs.Prelude.{Result, Err}
+use Rattle.basics.specs.declared.Refusal.{Refusal}
+use Rattle.basics.specs.Refusing.{refusal_over_lem}
 use mathlib.Core.Path.{◌≡◌, refl, sym, ap, ◌∙◌}
 use mathlib.Core.Bool.{true, false}
 use mathlib.Core.List.{List, map}
@@ -36,7 +39,7 @@ use Rattle.sorting.specs.Lookup.{is_unknown, unknown_at}
 use Rattle.sorting.specs.Sorts.{Sorted, is, faulty}
 use Rattle.reader.specs.Texts.{tokens_of}
 use Rattle.sorting.specs.Passes.{Listed}
-use Rattle.reader.specs.Reads.{refused_at, answered, Grown, Answered}
+use Rattle.reader.specs.Reads.{shown_at, answered, Grown, Answered}
 use Rattle.reader.specs.Reading.{sorted_in, Unknown, Unlimited, refused, unlimited}
 use Rattle.reader.specs.Tokened.{Tokened}
 use Rattle.sorting.proofs.SlotNumbers.{first_same}
@@ -146,16 +149,17 @@ module _ {names bytes : List ℕ} {t : Tokens} (k : Tokened names bytes t) where
         stuck_place (λ q. q ≤ length bytes) (reads_inside (length bytes) k.read (omega arith)) (omega arith)
         (stuck_there o).given
 
-    pub whole_five : (ρ : Rules) → p.ok ≡ false → {r : Read} → r ≡ refused_at bytes 5 p.place
-        → Unlimited ρ names bytes sort r
+    pub whole_five : (ρ : Rules) → p.ok ≡ false → {r : Refusal}
+        → r ≡ refusal_over_lem 5 p.place (shown_at bytes p.place) → Unlimited ρ names bytes sort (Err r)
     whole_five ρ o e =
         rw e
         (refused _
         (five ρ names bytes sort k.good k.clear k.read p.place (stuck_there o)))
 
     module _ (o : p.ok ≡ true) {u : ℕ} (f : u ≡ unknown_at names bytes t.codes t.places t.count) where
-      pub whole_six : (ρ : Rules) → u < t.count → {r : Read} → r ≡ refused_at bytes 6 (get_or t.places u 0)
-          → Unlimited ρ names bytes sort r
+      pub whole_six : (ρ : Rules) → u < t.count → {r : Refusal}
+          → r ≡ refusal_over_lem 6 (get_or t.places u 0) (shown_at bytes (get_or t.places u 0))
+          → Unlimited ρ names bytes sort (Err r)
       whole_six ρ l e =
           let (tree, w, q) = parse_sound answer o in
           let g = found_at f in
@@ -177,7 +181,7 @@ module _ {names bytes : List ℕ} {t : Tokens} (k : Tokened names bytes t) where
             is_tree = q;
           }
 
-      pub whole_sorted : (ρ : Rules) → t.count ≤ u → {r : Read} → Answered names bytes p sort r
+      pub whole_sorted : (ρ : Rules) → t.count ≤ u → {r : Result Read Refusal} → Answered names bytes p sort r
           → Unlimited ρ names bytes sort r
       unfolding answered
       whole_sorted ρ l {r} h =

@@ -4,6 +4,8 @@
 --   nodes_handed      what the pass asks of them
 --   pass_tree, answer_stopped, answer_wrong, answer_read     what the pass comes to: 7 at an operator, 7 at the text's
 --                     length, the tree
+use Rattle.std.specs.Prelude.{Ok, Err}
+use Rattle.basics.specs.declared.Refusal.{Refusal}
 use mathlib.Core.Path.{◌≡◌, refl, sym, ap, ◌∙◌}
 use mathlib.Core.Bool.{true, false}
 use mathlib.Core.List.{List, [], ◌∷◌, ◌++◌, map}
@@ -14,7 +16,7 @@ use Rattle.alf.specs.declared.Sort.{Sort}
 use Rattle.alf.specs.declared.Sort.TheVariants as the_sort
 use Rattle.alf.specs.Expressions.{Expression, boolean, vector}
 use Rattle.basics.proofs.Bools.{never}
-use Rattle.basics.specs.Refusing.{refusal}
+use Rattle.basics.specs.Refusing.{refusal_over_lem}
 use Rattle.basics.proofs.AllEntries.{All, none, more}
 use Rattle.basics.proofs.Stores.{front_take, front_length}
 use Rattle.grammar.specs.declared.Token.{Token}
@@ -23,13 +25,12 @@ use Rattle.grammar.specs.Tokens.{tokens}
 use Rattle.grammar.specs.Grammar.{Tree, nodes}
 use Rattle.grammar.specs.Answers.{padded, handed, codes_of, places_of, accepted}
 use Rattle.grammar.specs.Written.{Formed}
-use Rattle.reader.specs.declared.Read.{Read}
 use Rattle.sorting.specs.declared.sorts.Sorting.{Sorting}
 use Rattle.sorting.specs.Lookup.{number_at}
 use Rattle.sorting.specs.Sorts.{Sorted, is, faulty, given, asked, sorted}
 use Rattle.sorting.specs.Passes.{going, stopped, settled, is_node, is_vector, stack_bytes}
 use Rattle.sorting.specs.Passes.{Shows, goes, stops, Handed, Shown, sort_at}
-use Rattle.reader.specs.Reads.{made, refused_at, answered, has_sort, Grown}
+use Rattle.reader.specs.Reads.{made, shown_at, refused_at, answered, has_sort, Grown}
 use Rattle.reader.proofs.ShownTokens.{sorted_within, stopped_within}
 use Rattle.sorting.proofs.NodeCodes.{formed_nodes}
 use Rattle.sorting.proofs.NodeRuns.{run_tree}
@@ -130,7 +131,7 @@ sort_taken the_sort.Vector (vector p) bytes e = refl
 
 -- what is shown at the end is what is read
 shown_made : {s : Sorting} (x : Expression) → Shows s (going (x ∷ []))
-    → record { refused = false; refusal = refusal 0 0; len = s.len; tree = s.tree } ≡ made x
+    → record { len = s.len; tree = s.tree } ≡ made x
 unfolding made stack_bytes
 shown_made x (goes o d k l t) = rw (l, t)
 
@@ -139,11 +140,12 @@ module _ {s : Sorting} (sort : Sort) (text : List ℕ) where
   stopped_at_lem (stops o) = refl
 
   pub answer_stopped :
-      (q : Sorted) → Shows s (settled q []) → s.ok ≡ false → {r : Read} → r ≡ refused_at text 7 s.place
-      → r ≡ answered text (given q (asked sort (length text)))
+      (q : Sorted) → Shows s (settled q []) → s.ok ≡ false → {r : Refusal}
+      → r ≡ refusal_over_lem 7 s.place (shown_at text s.place)
+      → Err r ≡ answered text (given q (asked sort (length text)))
   unfolding settled given answered
   answer_stopped (is x) (goes o d k l t) e f = never (sym e ∙ o)
-  answer_stopped (faulty p) w e f = f ∙ ap (refused_at text 7) (sym (stopped_at_lem w))
+  answer_stopped (faulty p) w e f = ap Err f ∙ ap (refused_at text 7) (sym (stopped_at_lem w))
 
   top_is : {x : Expression} → Shows s (going (x ∷ [])) → get_or s.sorts 0 false ≡ is_vector x
   unfolding sort_at
@@ -155,11 +157,12 @@ module _ {s : Sorting} (sort : Sort) (text : List ℕ) where
       Shows s (settled q []) →
       s.ok ≡ true →
       has_sort sort (get_or s.sorts 0 false) ≡ false →
-      {r : Read} →
-      r ≡ refused_at text 7 (length text) →
-      r ≡ answered text (given q (asked sort (length text)))
+      {r : Refusal} →
+      r ≡ refusal_over_lem 7 (length text) (shown_at text (length text)) →
+      Err r ≡ answered text (given q (asked sort (length text)))
   unfolding settled given answered
-  answer_wrong (is x) w o e f = f ∙ ap (answered text) (sym (sort_refused sort x (length text) (rw (top_is w) at e)))
+  answer_wrong (is x) w o e f =
+      ap Err f ∙ ap (answered text) (sym (sort_refused sort x (length text) (rw (top_is w) at e)))
   answer_wrong (faulty p) w o e f = never (sym (shows_stopped w) ∙ o)
 
   pub answer_read :
@@ -167,9 +170,8 @@ module _ {s : Sorting} (sort : Sort) (text : List ℕ) where
       Shows s (settled q []) →
       s.ok ≡ true →
       has_sort sort (get_or s.sorts 0 false) ≡ true →
-      record { refused = false; refusal = refusal 0 0; len = s.len; tree = s.tree }
-      ≡ answered text (given q (asked sort (length text)))
+      Ok (record { len = s.len; tree = s.tree }) ≡ answered text (given q (asked sort (length text)))
   unfolding settled given answered
   answer_read (is x) w o e =
-      shown_made x w ∙ ap (answered text) (sym (sort_taken sort x (length text) (rw (top_is w) at e)))
+      ap Ok (shown_made x w) ∙ ap (answered text) (sym (sort_taken sort x (length text) (rw (top_is w) at e)))
   answer_read (faulty p) w o e = never (sym (shows_stopped w) ∙ o)

@@ -5,8 +5,9 @@
 --   read_sound      what is read is what the text gives; the list of names is good and the text has at most 4,096 bytes
 --   gives_read      and a text that gives an expression, with such names and such a length, is read as it
 --   read_complete   and as nothing else
+use Rattle.std.specs.Prelude.{Result, Ok, Err}
+use Rattle.basics.specs.declared.Refusal.{Refusal}
 use mathlib.Core.Path.{◌≡◌, refl, sym, ap, ◌∙◌}
-use mathlib.Core.Bool.{false}
 use mathlib.Core.List.{List, ◌++◌}
 use Prim.Native.Nat.{ℕ, ◌≤◌}
 use native.Mathlib.Omega.{arith}
@@ -15,7 +16,6 @@ use Rattle.alf.specs.declared.Rules.{Rules}
 use Rattle.alf.specs.declared.Sort.{Sort}
 use Rattle.alf.specs.Expressions.{Expression, boolean, vector}
 use Rattle.alf.specs.Refusals.{Row, Passed}
-use Rattle.basics.proofs.Bools.{never}
 use Rattle.alf.proofs.Outcomes.{Fixed, AllFixed, at_fixed, first_fixed, first_of_fixed, refused_passed}
 use Rattle.names.specs.Check.{names_order}
 use Rattle.alf.proofs.Orders.{fixed_both, sole_fixed, passed_left, passed_right}
@@ -27,7 +27,7 @@ use Rattle.grammar.specs.Grammar.{Tree}
 use Rattle.grammar.proofs.Unique.{parses_unique}
 use Rattle.reader.specs.declared.Read.{Read}
 use Rattle.sorting.specs.Sorts.{Sorted, is, faulty}
-use Rattle.reader.specs.Reads.{made, refused_by}
+use Rattle.reader.specs.Reads.{made}
 use Rattle.reader.specs.Reading.{too_large, OfTree, stuck, unknown, sorted_in, tree_order, read_order}
 use Rattle.reader.specs.Reading.{Gives, ReadsText, refused, read}
 use Rattle.reader.proofs.Readings.{read_clear}
@@ -73,16 +73,16 @@ gives_unique {ρ} {names} {text} {sort} a b =
     let s = rw e at b.sorts in
     let t = sym a.sorts ∙ s in cc
 
-pub read_unique : {ρ : Rules} {names text : List ℕ} {sort : Sort} {r s : Read} → ReadsText ρ names text sort r
-    → ReadsText ρ names text sort s → r ≡ s
+pub read_unique : {ρ : Rules} {names text : List ℕ} {sort : Sort} {r s : Result Read Refusal}
+    → ReadsText ρ names text sort r → ReadsText ρ names text sort s → r ≡ s
 read_unique {ρ} {names} {text} {sort} (refused r a) (refused s b) =
     let o = read_order ρ names text sort in
-    ap refused_by (refused_in_unique text o (sole_fixed o (read_fixed ρ names text sort)) a b)
+    ap Err (refused_in_unique text o (sole_fixed o (read_fixed ρ names text sort)) a b)
 read_unique {ρ} {names} {text} {sort} (refused r a) (read b g) =
     absurd (refused_passed (read_order ρ names text sort) _ _ b a.by)
 read_unique {ρ} {names} {text} {sort} (read a g) (refused r b) =
     absurd (refused_passed (read_order ρ names text sort) _ _ a b.by)
-read_unique (read a g) (read b h) = ap made (gives_unique g h)
+read_unique (read a g) (read b h) = ap (λ x. Ok (made x)) (gives_unique g h)
 
 -- what is read is what the text gives
 pub record ReadAs (ρ : Rules) (names text : List ℕ) (sort : Sort) (r : Read) : Type 0 where
@@ -92,11 +92,9 @@ pub record ReadAs (ρ : Rules) (names text : List ℕ) (sort : Sort) (r : Read) 
   pub gives : Gives ρ names text sort it
   pub is_it : r ≡ made it
 
-pub read_sound : {ρ : Rules} {names text : List ℕ} {sort : Sort} {r : Read} → ReadsText ρ names text sort r
-    → r.refused ≡ false → ReadAs ρ names text sort r
-unfolding made refused_by
-read_sound (refused r a) e = never (sym e)
-read_sound {ρ} {names} {text} {sort} (read {x = x} a g) e =
+pub read_sound : {ρ : Rules} {names text : List ℕ} {sort : Sort} {r : Read} → ReadsText ρ names text sort (Ok r)
+    → ReadAs ρ names text sort r
+read_sound {ρ} {names} {text} {sort} (read {x = x} a g) =
     record {
       good = passed_left (names_order names) _ a;
       short = text_short text (passed_left (order text) _ (passed_right (names_order names) _ a));
@@ -124,16 +122,16 @@ pub gives_read :
     Passed (names_order names) →
     length text ≤ 4096 →
     Gives ρ names text sort x →
-    ReadsText ρ names text sort (made x)
+    ReadsText ρ names text sort (Ok (made x))
 gives_read {ρ} {names} {text} {sort} n l g =
     read_clear ρ names text sort n (text_clear text l g.read g.shallow g.few) g.read g.whole g.known
     g.sorts g.small
 
 pub read_complete :
-    {ρ : Rules} {names text : List ℕ} {sort : Sort} {r : Read} {x : Expression} →
+    {ρ : Rules} {names text : List ℕ} {sort : Sort} {r : Result Read Refusal} {x : Expression} →
     Passed (names_order names) →
     length text ≤ 4096 →
     Gives ρ names text sort x →
     ReadsText ρ names text sort r →
-    r ≡ made x
+    r ≡ Ok (made x)
 read_complete n l g h = read_unique h (gives_read n l g)

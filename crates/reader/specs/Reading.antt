@@ -8,7 +8,7 @@
 --   tree_order, read_order                rows 5 to 8; all rows in their order
 --   Gives, ReadsText                    what a text gives, and what is read
 --   Clear, Unlimited                    the same, limit 8 aside
-use Rattle.std.specs.Prelude.{ℕ, ◌<◌, ◌≡◌, List, [], ◌∷◌, ◌++◌, length, get_or}
+use Rattle.std.specs.Prelude.{Result, Ok, Err, ℕ, ◌<◌, ◌≡◌, List, [], ◌∷◌, ◌++◌, length, get_or}
 use Rattle.alf.specs.declared.Rules.{Rules}
 use Rattle.alf.specs.declared.Sort.{Sort}
 use Rattle.alf.specs.Names.{names_in, name_at}
@@ -28,7 +28,7 @@ use Rattle.reader.specs.declared.Read.{Read}
 use Rattle.sorting.specs.Lookup.{word, number_at}
 use Rattle.sorting.specs.Sorts.{Sorted, is, faulty, of_one, of_two, of_three, asked, sorted, sorted_for}
 use Rattle.reader.specs.Texts.{tokens_of}
-use Rattle.reader.specs.Reads.{made, refused_by}
+use Rattle.reader.specs.Reads.{made}
 
 -- 6: a name stands at byte p
 pub data Stands (p : ℕ) : List Token → Type 0 where
@@ -121,10 +121,10 @@ pub record Gives (ρ : Rules) (names text : List ℕ) (sort : Sort) (x : Express
   pub small : (p : ℕ) → too_large ρ (is x) p → ⊥
 
 -- what is read
-pub data ReadsText (ρ : Rules) (names text : List ℕ) (sort : Sort) : Read → Type 0 where
-  refused : (r : Refusal) → RefusedIn text (read_order ρ names text sort) r → ReadsText ρ names text sort (refused_by r)
+pub data ReadsText (ρ : Rules) (names text : List ℕ) (sort : Sort) : Result Read Refusal → Type 0 where
+  refused : (r : Refusal) → RefusedIn text (read_order ρ names text sort) r → ReadsText ρ names text sort (Err r)
   read : {x : Expression} → refusals.Passed (read_order ρ names text sort) → Gives ρ names text sort x
-      → ReadsText ρ names text sort (made x)
+      → ReadsText ρ names text sort (Ok (made x))
 
 -- the same, limit 8 aside: what is left to be asked of a text that 18, 12 and 1 to 7 let through
 pub record Clear (names text : List ℕ) (sort : Sort) (x : Expression) : Type 0 where
@@ -137,6 +137,6 @@ pub record Clear (names text : List ℕ) (sort : Sort) (x : Expression) : Type 0
   pub known : (p : ℕ) → Unknown names text tokens p → ⊥
   pub sorts : sorted_in names text sort tree ≡ is x
 
-pub data Unlimited (ρ : Rules) (names text : List ℕ) (sort : Sort) : Read → Type 0 where
-  refused : (r : Refusal) → ReadsText ρ names text sort (refused_by r) → Unlimited ρ names text sort (refused_by r)
-  unlimited : {x : Expression} → Clear names text sort x → Unlimited ρ names text sort (made x)
+pub data Unlimited (ρ : Rules) (names text : List ℕ) (sort : Sort) : Result Read Refusal → Type 0 where
+  refused : (r : Refusal) → ReadsText ρ names text sort (Err r) → Unlimited ρ names text sort (Err r)
+  unlimited : {x : Expression} → Clear names text sort x → Unlimited ρ names text sort (Ok (made x))

@@ -7,18 +7,15 @@ use native.Mathlib.Omega.{arith}
 use native.Mathlib.Numerals.{add-one}
 use lib.ListN.{length, get_or}
 use borrow.Author.Count.{below_none, below_more}
-use Rattle.basics.specs.declared.Outcome.TheVariants.{Done}
-use Rattle.alf.specs.Refusals.{Comes, Passed}
 use Rattle.record_checks.specs.declared.Cursor.{Cursor}
-use Rattle.trace_format.specs.declared.Mark.{Mark}
-use Rattle.trace_format.specs.declared.Mark.TheVariants.{Name, Row, End, Other}
-use Rattle.trace_format.specs.Records.{place, name_end, width_in, time_in, number_at, mark_at_lem, mark_here}
-use Rattle.trace_format.specs.Records.{record_order, Good, GoodRow, Before}
+use Rattle.trace_format.specs.declared.Mark.TheVariants.{Name, Row}
+use Rattle.trace_format.specs.Records.{place, name_end, width_in, time_in, number_at}
+use Rattle.trace_format.specs.Records.{GoodRow, Before}
 use Rattle.trace_format.specs.Parts.{ByteIs, TimeThere}
-use Rattle.trace_format.proofs.MarkBytes.{row_kind, row_long}
-use Rattle.record_checks.specs.Steps.{Stands, StandsAt, Checks, kind_of, GoesOn, Next}
+use Rattle.trace_format.proofs.MarkBytes.{row_kind}
+use Rattle.record_checks.specs.Steps.{Stands, StandsAt, GoodHere, Next}
 use Rattle.record_checks.proofs.NameWalk.{end_zero, end_suc}
-use Rattle.record_checks.proofs.GoodRecords.{NameFacts, RowFacts, good_name, good_row, name_first, other_bad}
+use Rattle.record_checks.proofs.GoodRecords.{NameFacts, RowFacts, good_name, good_row, name_first}
 use Rattle.record_checks.proofs.RowCursors.{time_here}
 
 pub place_zero : (file : List ℕ) (k : ℕ) → place file k 0 ≡ name_end file k
@@ -33,45 +30,14 @@ pub place_row : (file : List ℕ) (k r : ℕ) → place file k (r + 1) ≡ place
 unfolding place
 place_row file k r = rw add-one
 
--- a row's time has four bytes or eight, so the number of a row's kind is that of no other
-kind_name : (file : List ℕ) (p : ℕ) → kind_of (mark_at_lem file p) ≡ 1 → mark_at_lem file p ≡ Name
-kind_name file p e = go (mark_at_lem file p) refl
-  where
-    go : (m : Mark) → mark_at_lem file p ≡ m → mark_at_lem file p ≡ Name
-    go Name f = f
-    go (Row w) f = absurd (omega (arith, rw f at e, row_long _ _ f))
-    go End f = absurd (omega (arith, rw f at e))
-    go Other f = absurd (omega (arith, rw f at e))
-
-kind_end : (file : List ℕ) (p : ℕ) → kind_of (mark_at_lem file p) ≡ 3 → mark_at_lem file p ≡ End
-kind_end file p e = go (mark_at_lem file p) refl
-  where
-    go : (m : Mark) → mark_at_lem file p ≡ m → mark_at_lem file p ≡ End
-    go Name f = absurd (omega (arith, rw f at e))
-    go (Row w) f = absurd (omega (arith, rw f at e, row_long _ _ f))
-    go End f = f
-    go Other f = absurd (omega (arith, rw f at e))
-
-module _ {file : List ℕ} {s : Cursor} {kind : ℕ} (goes : GoesOn file s kind) where
-  number : kind ≡ kind_of (mark_here file s.names s.rows)
-  unfolding Comes
-  number = goes.checked.1
-
-  passed : Passed (record_order file s.names s.rows)
-  unfolding Comes
-  passed = goes.checked.0
-
+module _ {file : List ℕ} {s : Cursor} where
   -- past a name
-  module _ (named : kind ≡ 1) where
-    name_there : Good Name file s.names s.rows
-    name_there =
-        record { mark = kind_name file (place file s.names s.rows) (sym number ∙ named); passed = passed }
-
+  module _ (goes : GoodHere Name file s) where
     none : s.rows ≡ 0
-    none = name_first file s.names s.rows name_there
+    none = name_first file s.names s.rows goes.good
 
     pub name_facts : NameFacts file s.names
-    name_facts = good_name file s.names (rw none at name_there)
+    name_facts = good_name file s.names (rw none at goes.good)
 
     here : s.place ≡ place file s.names 0
     here = goes.stands.there ∙ ap (place file s.names) none
@@ -96,7 +62,7 @@ module _ {file : List ℕ} {s : Cursor} {kind : ℕ} (goes : GoesOn file s kind)
           before =
               λ f.
               record {
-                names = below_more _ _ f.names (rw none at name_there);
+                names = below_more _ _ f.names (rw none at goes.good);
                 rows = λ i l. absurd (omega (arith, none));
               };
           further = omega arith;
@@ -107,39 +73,30 @@ module _ {file : List ℕ} {s : Cursor} {kind : ℕ} (goes : GoesOn file s kind)
             rw (none, place_name file s.names, ← here) (omega (arith, byte.is))
 
   -- past a row
-  module _ (other : kind ≡ 1 → ⊥) where
-    row_mark : mark_here file s.names s.rows ≡ Row kind
-    row_mark = go (mark_here file s.names s.rows) refl
-      where
-        go : (m : Mark) → mark_here file s.names s.rows ≡ m → mark_here file s.names s.rows ≡ Row kind
-        go Name e = absurd (other (number ∙ ap kind_of e))
-        go (Row w) e = e ∙ ap Row (sym (number ∙ ap kind_of e))
-        go End e = absurd (goes.more (number ∙ ap kind_of e))
-        go Other e = absurd (other_bad file s.names s.rows (record { mark = e; passed = passed }))
+  module _ {w : ℕ} (goes : GoodHere (Row w) file s) where
+    pub stands_row : s.place + 2 ≤ length file → StandsAt (Row w) file s
+    stands_row h = record { stands = goes.stands; marked = h; mark = goes.good.mark }
 
-    pub stands_row : s.place + 2 ≤ length file → StandsAt (Row kind) file s
-    stands_row h = record { stands = goes.stands; marked = h; mark = row_mark }
-
-    width : width_in file s.names s.rows ≡ kind
+    width : width_in file s.names s.rows ≡ w
     unfolding Rattle.trace_format.specs.Records.time_bytes
-    width = ap Rattle.trace_format.specs.Records.time_bytes row_mark
+    width = ap Rattle.trace_format.specs.Records.time_bytes goes.good.mark
 
     row_there : GoodRow file s.names s.rows
-    row_there = record { mark = row_mark ∙ ap Row (sym width); passed = passed }
+    row_there = record { mark = goes.good.mark ∙ ap Row (sym width); passed = goes.good.passed }
 
     pub row_facts : RowFacts file s.names s.rows
     row_facts = good_row file s.names s.rows row_there
 
-    pub row_fits : s.place + 2 + kind + s.names ≤ length file
+    pub row_fits : s.place + 2 + w + s.names ≤ length file
     row_fits = omega (arith, width, goes.stands.there, row_facts.fits)
 
-    pub time_there : TimeThere kind file (s.place + 2)
-    time_there = record { kind = row_kind _ _ row_mark; whole = omega (arith, row_fits) }
+    pub time_there : TimeThere w file (s.place + 2)
+    time_there = record { kind = row_kind _ _ goes.good.mark; whole = omega (arith, row_fits) }
 
     pub pass_row :
         {t : ℕ} →
-        t ≡ number_at kind file (s.place + 2) →
-        Next file s (record { place = s.place + 2 + kind + s.names; names = s.names; rows = s.rows + 1; last = t })
+        t ≡ number_at w file (s.place + 2) →
+        Next file s (record { place = s.place + 2 + w + s.names; names = s.names; rows = s.rows + 1; last = t })
     pass_row {t} read =
         record {
           stands =
@@ -171,10 +128,3 @@ start_stands file =
 
 pub start_before : (file : List ℕ) → Before file 0 0
 start_before file = record { names = below_none _; rows = below_none _ }
-
--- a record whose kind is 3 is a good `EN`
-pub good_end_marked : (file : List ℕ) (s : Cursor) (kind : ℕ) → kind ≡ 3 → Checks file s (Done kind)
-    → Good End file s.names s.rows
-unfolding Comes
-good_end_marked file s kind e d =
-    record { mark = kind_end file (place file s.names s.rows) (sym d.1 ∙ e); passed = d.0 }

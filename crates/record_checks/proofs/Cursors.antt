@@ -1,6 +1,7 @@
 -- What a check of the record at a cursor comes to, with the tests that the code makes.
 --   undue, cut, inside, done    for any mark
 --   name-..                     for `NM`
+use Rattle.std.specs.Prelude.{Err, Ok}
 use mathlib.Core.Path.{◌≡◌, refl, sym, ap, ◌∙◌}
 use mathlib.Core.Bool.{Bool, true, false}
 use mathlib.Core.List.{List}
@@ -10,24 +11,22 @@ use native.Mathlib.Omega.{arith}
 use lib.ListN.{length, get_or, take, drop}
 use Rattle.basics.specs.Deciding.{Decides}
 use Rattle.basics.proofs.Deciding.{told, not_told}
-use Rattle.basics.specs.declared.Outcome.{Outcome}
-use Rattle.basics.specs.declared.Outcome.TheVariants.{Done, Refused}
 use Rattle.basics.specs.Refusing.{refusal}
 use Rattle.alf.specs.Names.{is_name}
 use Rattle.alf.specs.Refusals.{RefusedWith, Passed}
-use Rattle.alf.proofs.Orders.{Is}
 use Rattle.record_checks.specs.declared.Cursor.{Cursor}
+use Rattle.record_checks.specs.declared.Record.{Record}
 use Rattle.trace_format.specs.declared.Mark.{Mark}
 use Rattle.trace_format.specs.declared.Mark.TheVariants.{Name}
 use Rattle.trace_format.specs.Records.{place, name_end, name_in, mark_at_lem, Due, size_of, contents, GoodName}
 use Rattle.trace_format.specs.Parts.{ByteIs}
-use Rattle.record_checks.specs.Steps.{Stands, StandsAt, Checks, kind_of, NameStands, NewName}
-use Rattle.record_checks.proofs.Orders.{cut_mark, not_due, cut_record, in_contents, passes}
+use Rattle.record_checks.specs.Steps.{Stands, StandsAt, RecordOutcome, Checks, mark_of_record, NameStands, NewName}
+use Rattle.record_checks.proofs.Orders.{Is, cut_mark, not_due, cut_record, in_contents, passes}
 use Rattle.record_checks.proofs.NameWalk.{name_is}
 
-pub cut_short : {file : List ℕ} {s : Cursor} → Stands file s → {o : Outcome} → Is o 14
+pub cut_short : {file : List ℕ} {s : Cursor} → Stands file s → {o : RecordOutcome} → Is o 14
     (length file) → length file - s.place < 2 → Checks file s o
-cut_short {file} {s} st e h = cut_mark file s.names s.rows _ e (omega (arith, st.there))
+cut_short {file} {s} st e h = cut_mark file s.names s.rows e (omega (arith, st.there))
 
 pub stands_at :
     {file : List ℕ} {s : Cursor} →
@@ -48,41 +47,39 @@ module _ {m : Mark} {file : List ℕ} {s : Cursor} (st : StandsAt m file s) wher
   marked : place file s.names s.rows + 2 ≤ length file
   marked = omega (arith, st.stands.there, st.marked)
 
-  pub undue : {o : Outcome} → Is o 11 s.place → (Due s.names s.rows m → ⊥) → Checks file s o
+  pub undue : {o : RecordOutcome} → Is o 11 s.place → (Due s.names s.rows m → ⊥) → Checks file s o
   undue {o} e n =
-      not_due file s.names s.rows _ marked st.mark
-      (e ∙ ap (λ (p : ℕ). Refused (refusal 11 p)) st.stands.there) n
+      not_due file s.names s.rows marked st.mark
+      (e ∙ ap (λ (p : ℕ). Err (refusal 11 p)) st.stands.there) n
 
   module _ (due : Due s.names s.rows m) where
     pub cut :
-        {o : Outcome} →
+        {o : RecordOutcome} →
         Is o 14 (length file) →
         length file < s.place + size_of file s.names s.rows m →
         Checks file s o
     cut e h =
-        cut_record file s.names s.rows _ marked st.mark due e (rw (← st.stands.there) h)
+        cut_record file s.names s.rows marked st.mark due e (rw (← st.stands.there) h)
 
     module _ (fits : s.place + size_of file s.names s.rows m ≤ length file) where
       pub inside :
-          {o : Outcome} (number p : ℕ) →
+          {o : RecordOutcome} (number p : ℕ) →
           Is o number p →
           RefusedWith (contents file s.names s.rows m) number p →
           Checks file s o
       inside number p e h =
-          in_contents file s.names s.rows _ marked st.mark due (rw (← st.stands.there) fits) number p e h
+          in_contents file s.names s.rows marked st.mark due (rw (← st.stands.there) fits) number p e h
 
-      pub done : Passed (contents file s.names s.rows m) → Checks file s (Done (kind_of m))
-      done h =
-          passes file s.names s.rows _ marked st.mark due (rw (← st.stands.there) fits) (kind_of m)
-          (ap kind_of (sym st.mark)) h
+      pub done : (j : Record) → m ≡ mark_of_record j → Passed (contents file s.names s.rows m) → Checks file s (Ok j)
+      done = passes file s.names s.rows marked st.mark due (rw (← st.stands.there) fits)
 
 -- `NM`
 module _ {file : List ℕ} {s : Cursor} (st : StandsAt Name file s) where
-  pub name_late : {o : Outcome} → Is o 11 s.place → (s.rows ≡ 0 → ⊥) → Checks file s o
+  pub name_late : {o : RecordOutcome} → Is o 11 s.place → (s.rows ≡ 0 → ⊥) → Checks file s o
   unfolding Due
   name_late e n = undue st e (λ d. n d.0)
 
-  pub name_33rd : {o : Outcome} → Is o 11 s.place → 31 < s.names → Checks file s o
+  pub name_33rd : {o : RecordOutcome} → Is o 11 s.place → 31 < s.names → Checks file s o
   unfolding Due
   name_33rd e n = undue st e (λ d. omega (arith, d.1))
 
@@ -99,11 +96,11 @@ module _ {file : List ℕ} {s : Cursor} (st : StandsAt Name file s) where
     unfolding place
     name_here = st.stands.there ∙ rw none
 
-    pub name_unmeasured : {o : Outcome} → Is o 14 (length file) → length file - s.place < 3 → Checks file s o
+    pub name_unmeasured : {o : RecordOutcome} → Is o 14 (length file) → length file - s.place < 3 → Checks file s o
     name_unmeasured e h = cut st name_due e (omega (arith, name_size_lem))
 
     module _ {n : ℕ} (byte : ByteIs (get_or file (s.place + 2) 0) n) (measured : 3 ≤ length file - s.place) where
-      pub name_cut : {o : Outcome} → Is o 14 (length file) → length file - (s.place + 3) < n → Checks file s o
+      pub name_cut : {o : RecordOutcome} → Is o 14 (length file) → length file - (s.place + 3) < n → Checks file s o
       name_cut e h = cut st name_due e (omega (arith, name_size_lem, byte.is))
 
       module _ (whole : n ≤ length file - (s.place + 3)) where
@@ -113,7 +110,7 @@ module _ {file : List ℕ} {s : Cursor} (st : StandsAt Name file s) where
         pub name_stands : NameStands file s.names s.place
         name_stands = record { there = name_here; whole = omega (arith, byte.is) }
 
-        name_bad : {o : Outcome} → Is o 12 (s.place + 2) → (GoodName file s.names → ⊥) → Checks file s o
+        name_bad : {o : RecordOutcome} → Is o 12 (s.place + 2) → (GoodName file s.names → ⊥) → Checks file s o
         unfolding RefusedWith contents
         name_bad e n =
             inside st name_due name_fits 12 (s.place + 2) e
@@ -124,7 +121,7 @@ module _ {file : List ℕ} {s : Cursor} (st : StandsAt Name file s) where
           named : b ≡ is_name (name_in file s.names)
           named = tested ∙ ap is_name (name_is file s.names name_here byte)
 
-          pub name_not : {o : Outcome} → Is o 12 (s.place + 2) → b ≡ false → Checks file s o
+          pub name_not : {o : RecordOutcome} → Is o 12 (s.place + 2) → b ≡ false → Checks file s o
           name_not e f =
               name_bad e
               (λ g.
@@ -133,11 +130,11 @@ module _ {file : List ℕ} {s : Cursor} (st : StandsAt Name file s) where
               omega arith)
 
           module _ {w : Bool} (new : Decides w (NewName file s.names)) where
-            pub name_old : {o : Outcome} → Is o 12 (s.place + 2) → w ≡ false → Checks file s o
+            pub name_old : {o : RecordOutcome} → Is o 12 (s.place + 2) → w ≡ false → Checks file s o
             name_old e f = name_bad e (λ g. not_told _ new f g.new)
 
-            pub name_good : b ≡ true → w ≡ true → Checks file s (Done 1)
+            pub name_good : b ≡ true → w ≡ true → Checks file s (Ok Record.Name)
             unfolding Passed contents
             name_good y z =
-                done st name_due name_fits
+                done st name_due name_fits Record.Name refl
                 ((λ p a. a.given (record { named = sym named ∙ y; new = told _ new z })), tt)

@@ -1,19 +1,19 @@
 -- The cursor's way past many good rows.
---   row_goes                            a row that the check found good is one to go on from
+--   row_good_here                       a row that the check found good
 --   onward_none, onward_next, onward_then    no record, one more, and as many as two ways passed
+use Rattle.std.specs.Prelude.{Err, Ok, is_ok}
 use mathlib.Core.Path.{◌≡◌, refl}
+use mathlib.Core.Bool.{true}
 use mathlib.Core.List.{List}
-use mathlib.Core.Logic.{⊎_elim}
 use Prim.Native.Nat.{ℕ, ◌-◌, ◌≤◌}
 use native.Mathlib.Omega.{arith}
 use lib.ListN.{length}
-use Rattle.basics.specs.declared.Outcome.{Outcome}
-use Rattle.basics.specs.declared.Outcome.TheVariants.{Done}
+use Rattle.basics.proofs.Bools.{never}
 use Rattle.record_checks.specs.declared.Cursor.{Cursor}
 use Rattle.trace_format.specs.declared.Mark.TheVariants.{Row}
 use Rattle.trace_format.specs.Records.{mark_at_lem}
-use Rattle.trace_format.proofs.MarkBytes.{row_kind}
-use Rattle.record_checks.specs.Steps.{Stands, StandsAt, RowStands, Checks, GoesOn, Next, Onward}
+use Rattle.record_checks.specs.Steps.{Stands, StandsAt, RowStands, RecordOutcome, ChecksRecord, Checks}
+use Rattle.record_checks.specs.Steps.{GoodHere, Next, Onward}
 use Rattle.record_checks.proofs.Cursors.{stands_at}
 use Rattle.record_checks.proofs.RowCursors.{row_stands}
 
@@ -25,13 +25,10 @@ module _ {w : ℕ} {file : List ℕ} {s : Cursor} (st : Stands file s) (there : 
   pub marked_stands : RowStands w file s
   marked_stands = row_stands at_row
 
-  pub row_goes : {o : Outcome} {m : ℕ} → Checks file s o → o ≡ Done m → m ≡ w → GoesOn file s w
-  row_goes {o} {m} checked e f =
-      record {
-        stands = st;
-        checked = rw (← f) (rw e at checked);
-        more = λ g. ⊎_elim (λ h. omega arith) (λ h. omega arith) (row_kind _ _ at_row.mark);
-      }
+  pub row_good_here : (o : RecordOutcome) → Checks file s o → is_ok o ≡ true → GoodHere (Row w) file s
+  unfolding ChecksRecord
+  row_good_here (Ok m) checked e = record { stands = st; good = record { mark = at_row.mark; passed = checked.passed } }
+  row_good_here (Err r) checked e = never e
 
 module _ {file : List ℕ} where
   pub onward_none : {s : Cursor} → Stands file s → Onward file s s

@@ -1,6 +1,7 @@
 -- What a check of the record at a cursor comes to, with the tests that the code makes.
 --   row-..    for `RW` and `RL`
 --   end-..    for `EN`
+use Rattle.std.specs.Prelude.{Ok}
 use mathlib.Core.Path.{◌≡◌, refl, sym, ap, ◌∙◌}
 use mathlib.Core.Bool.{Bool, true, false}
 use mathlib.Core.List.{List}
@@ -10,17 +11,16 @@ use native.Mathlib.Omega.{arith}
 use lib.ListN.{length}
 use Rattle.basics.specs.Deciding.{Decides}
 use Rattle.basics.proofs.Deciding.{told, not_told, holds, fails}
-use Rattle.basics.specs.declared.Outcome.{Outcome}
-use Rattle.basics.specs.declared.Outcome.TheVariants.{Done}
 use Rattle.alf.specs.Refusals.{RefusedWith, Passed}
-use Rattle.alf.proofs.Orders.{Is}
 use Rattle.record_checks.specs.declared.Cursor.{Cursor}
+use Rattle.record_checks.specs.declared.Record.{Record}
 use Rattle.trace_format.specs.declared.Mark.TheVariants.{Row, End}
 use Rattle.trace_format.specs.Records.{place, time_bytes, width_in, time_in, number_at, Due, size_of, contents, BadCode}
 use Rattle.trace_format.proofs.RowByRow.{not_above}
 use Rattle.trace_format.specs.Parts.{CodesTo}
 use Rattle.trace_format.proofs.MarkBytes.{row_kind}
-use Rattle.record_checks.specs.Steps.{StandsAt, RowStands, TimeStands, Checks, Above}
+use Rattle.record_checks.specs.Steps.{StandsAt, RowStands, TimeStands, RecordOutcome, Checks, Above}
+use Rattle.record_checks.proofs.Orders.{Is}
 use Rattle.record_checks.proofs.Cursors.{undue, cut, inside, done}
 
 -- the width of the row where the cursor stands, and its time
@@ -56,11 +56,11 @@ module _ {w : ℕ} {file : List ℕ} {s : Cursor} (st : StandsAt (Row w) file s)
 
 -- `RW` and `RL`
 module _ {w : ℕ} {file : List ℕ} {s : Cursor} (st : StandsAt (Row w) file s) where
-  pub row_unnamed : {o : Outcome} → Is o 11 s.place → s.names ≡ 0 → Checks file s o
+  pub row_unnamed : {o : RecordOutcome} → Is o 11 s.place → s.names ≡ 0 → Checks file s o
   unfolding Due
   row_unnamed e z = undue st e (λ d. omega (arith, d.0))
 
-  pub row_65536th : {o : Outcome} → Is o 11 s.place → 65534 < s.rows → Checks file s o
+  pub row_65536th : {o : RecordOutcome} → Is o 11 s.place → 65534 < s.rows → Checks file s o
   unfolding Due
   row_65536th e z = undue st e (λ d. omega (arith, d.1))
 
@@ -72,7 +72,8 @@ module _ {w : ℕ} {file : List ℕ} {s : Cursor} (st : StandsAt (Row w) file s)
     unfolding Due
     row_due = (omega arith, omega arith)
 
-    pub row_cut : {o : Outcome} → Is o 14 (length file) → length file - s.place < 2 + w + s.names → Checks file s o
+    pub row_cut : {o : RecordOutcome} → Is o 14 (length file) → length file - s.place < 2 + w + s.names
+        → Checks file s o
     unfolding size_of
     row_cut e h = cut st row_due e (omega arith)
 
@@ -89,7 +90,7 @@ module _ {w : ℕ} {file : List ℕ} {s : Cursor} (st : StandsAt (Row w) file s)
           }
 
       module _ {b : Bool} (tested : Decides b (Above file s.names s.rows)) where
-        pub row_not_above : {o : Outcome} → Is o 13 (s.place + 2) → b ≡ false → Checks file s o
+        pub row_not_above : {o : RecordOutcome} → Is o 13 (s.place + 2) → b ≡ false → Checks file s o
         unfolding RefusedWith contents
         row_not_above e f =
             inside st row_due row_fits 13 (s.place + 2) e
@@ -111,7 +112,7 @@ module _ {w : ℕ} {file : List ℕ} {s : Cursor} (st : StandsAt (Row w) file s)
             no_code p l b =
                 omega (arith, codes.good p (omega (arith, b.from, codes_here)) l, b.above)
 
-            pub row_code : {o : Outcome} → Is o 15 bad → bad < s.place + 2 + w + s.names → Checks file s o
+            pub row_code : {o : RecordOutcome} → Is o 15 bad → bad < s.place + 2 + w + s.names → Checks file s o
             unfolding RefusedWith contents
             row_code e l =
                 inside st row_due row_fits 15 bad e
@@ -131,17 +132,17 @@ module _ {w : ℕ} {file : List ℕ} {s : Cursor} (st : StandsAt (Row w) file s)
                   ),
                 ))
 
-            pub row_good : s.place + 2 + w + s.names ≤ bad → Checks file s (Done w)
+            pub row_good : s.place + 2 + w + s.names ≤ bad → Checks file s (Ok (Record.Row w))
             unfolding Passed contents
             row_good l =
-                done st row_due row_fits (
+                done st row_due row_fits (Record.Row w) refl (
                   rising,
                   ((λ p a. no_code p (omega (arith, a.given.to, codes_here)) a.given), tt),
                 )
 
 -- `EN`
 module _ {file : List ℕ} {s : Cursor} (st : StandsAt End file s) where
-  pub end_early : {o : Outcome} → Is o 11 s.place → s.rows ≡ 0 → Checks file s o
+  pub end_early : {o : RecordOutcome} → Is o 11 s.place → s.rows ≡ 0 → Checks file s o
   unfolding Due
   end_early e z = undue st e (λ d. omega (arith, d))
 
@@ -150,7 +151,7 @@ module _ {file : List ℕ} {s : Cursor} (st : StandsAt End file s) where
     unfolding Due
     end_due = omega arith
 
-    pub end_cut : {o : Outcome} → Is o 14 (length file) → length file - s.place < 6 → Checks file s o
+    pub end_cut : {o : RecordOutcome} → Is o 14 (length file) → length file - s.place < 6 → Checks file s o
     unfolding size_of
     end_cut e h = cut st end_due e (omega arith)
 
@@ -163,7 +164,7 @@ module _ {file : List ℕ} {s : Cursor} (st : StandsAt End file s) where
         count_here : n ≡ number_at 4 file (place file s.names s.rows + 2)
         count_here = rw (← st.stands.there) read
 
-        pub end_count : {o : Outcome} → Is o 16 (s.place + 2) → (n ≡ s.rows → ⊥) → Checks file s o
+        pub end_count : {o : RecordOutcome} → Is o 16 (s.place + 2) → (n ≡ s.rows → ⊥) → Checks file s o
         unfolding RefusedWith contents
         end_count e w =
             inside st end_due end_fits 16 (s.place + 2) e
@@ -175,7 +176,7 @@ module _ {file : List ℕ} {s : Cursor} (st : StandsAt End file s) where
               (number_at 4 file (place file s.names s.rows + 2) ≡ s.rows → ⊥) p → ⊥
           counted p a = a.given (sym count_here ∙ right)
 
-          pub end_after : {o : Outcome} → Is o 17 (s.place + 6) → 6 < length file - s.place → Checks file s o
+          pub end_after : {o : RecordOutcome} → Is o 17 (s.place + 6) → 6 < length file - s.place → Checks file s o
           unfolding RefusedWith contents
           end_after e l =
               inside st end_due end_fits 17 (s.place + 6) e
@@ -190,8 +191,8 @@ module _ {file : List ℕ} {s : Cursor} (st : StandsAt End file s) where
                 ),
               ))
 
-          pub end_good : length file - s.place ≤ 6 → Checks file s (Done 3)
+          pub end_good : length file - s.place ≤ 6 → Checks file s (Ok Record.End)
           unfolding Passed contents
           end_good l =
-              done st end_due end_fits
+              done st end_due end_fits Record.End refl
               (counted, ((λ p a. omega (arith, a.given, st.stands.there, st.stands.within)), tt))

@@ -1,11 +1,11 @@
 // The first pass over a file, record by record: each is checked, and nothing is written.
 ghost use Rattle.basics.specs.Deciding.{Decides};
-ghost use Rattle.trace_format.specs.declared.Mark.TheVariants.{Name, End};
+ghost use Rattle.trace_format.specs.declared.Mark.TheVariants.{Name, Row, End};
 ghost use Rattle.record_checks.specs.Steps.{Stands, StandsAt, RowStands, TimeStands, Checks};
-ghost use Rattle.record_checks.specs.Steps.{NameStands, NewName, Above, GoesOn, Next};
+ghost use Rattle.record_checks.specs.Steps.{NameStands, NewName, Above, GoodHere, Next};
 
-use crate::Cursor;
-use basics::Outcome;
+use crate::{Cursor, Record};
+use basics::Refusal;
 use basics::refusing::refuse;
 use names::is_name;
 use trace_format::Mark;
@@ -19,21 +19,19 @@ fn is_new(file: &[u8], k: usize, at: usize) -> bool
     let from = at + 3;
     let to = from + byte_at(file, at + 2);
     let mut q = 0;
-    let mut j = 0;
-    while j < k {
+    for j in 0..k {
         let a = q + 3;
         let b = a + byte_at(file, q + 2);
         if check::same(&file[a..b], &file[from..to]) {
             return false;
         }
         q = b;
-        j += 1;
     }
     true
 }
 
 // A record marked `NM`.
-fn check_name(file: &[u8], s: Cursor) -> Outcome
+fn check_name(file: &[u8], s: Cursor) -> Result<Record, Refusal>
     requires { StandsAt Name file.now s }
     ensures { Checks file.now s result }
 {
@@ -60,7 +58,7 @@ fn check_name(file: &[u8], s: Cursor) -> Outcome
     if !is_new(file, k, at) {
         return refuse(12, at + 2);
     }
-    Outcome::Done(1)
+    Ok(Record::Name)
 }
 
 // Whether the time of the row where the cursor stands, of w bytes, is above the last row's.
@@ -79,7 +77,7 @@ fn is_above(file: &[u8], s: Cursor, w: usize) -> bool
 }
 
 // A record marked `RW` or `RL`: its time has w bytes, four or eight.
-pub fn check_row(file: &[u8], s: Cursor, w: usize) -> Outcome
+pub fn check_row(file: &[u8], s: Cursor, w: usize) -> Result<Record, Refusal>
     requires { RowStands w file.now s }
     ensures { Checks file.now s result }
 {
@@ -103,11 +101,11 @@ pub fn check_row(file: &[u8], s: Cursor, w: usize) -> Outcome
     if bad < to {
         return refuse(15, bad);
     }
-    Outcome::Done(w)
+    Ok(Record::Row(w))
 }
 
 // A record marked `EN`.
-fn check_end(file: &[u8], s: Cursor) -> Outcome
+fn check_end(file: &[u8], s: Cursor) -> Result<Record, Refusal>
     requires { StandsAt End file.now s }
     ensures { Checks file.now s result }
 {
@@ -125,11 +123,11 @@ fn check_end(file: &[u8], s: Cursor) -> Outcome
     if 6 < file.len() - at {
         return refuse(17, at + 6);
     }
-    Outcome::Done(3)
+    Ok(Record::End)
 }
 
 // The record where the cursor stands.
-pub fn check_record(file: &[u8], s: Cursor) -> Outcome
+pub fn check_record(file: &[u8], s: Cursor) -> Result<Record, Refusal>
     requires { Stands file.now s }
     ensures { Checks file.now s result }
 {
@@ -145,28 +143,30 @@ pub fn check_record(file: &[u8], s: Cursor) -> Outcome
     }
 }
 
-// The cursor behind a good record: a name's, or a row's whose time has so many bytes.
-pub fn pass(file: &[u8], s: Cursor, kind: usize) -> Cursor
-    requires { GoesOn file.now s kind }
+// The cursor behind a good name.
+pub fn pass_name(file: &[u8], s: Cursor) -> Cursor
+    requires { GoodHere Name file.now s }
     ensures { Next file.now s result }
 {
-    let at = s.place;
-    let k = s.names;
-    let n = s.rows;
-    if kind == 1 {
-        let size = 3 + byte_at(file, at + 2);
-        return Cursor {
-            place: at + size,
-            names: k + 1,
-            rows: n,
-            last: s.last,
-        };
-    }
-    let time = time_at(file, at + 2, kind);
+    let size = 3 + byte_at(file, s.place + 2);
     Cursor {
-        place: at + 2 + kind + k,
-        names: k,
-        rows: n + 1,
+        place: s.place + size,
+        names: s.names + 1,
+        rows: s.rows,
+        last: s.last,
+    }
+}
+
+// The cursor behind a good row, whose time has w bytes.
+pub fn pass_row(file: &[u8], s: Cursor, w: usize) -> Cursor
+    requires { GoodHere (Row w) file.now s }
+    ensures { Next file.now s result }
+{
+    let time = time_at(file, s.place + 2, w);
+    Cursor {
+        place: s.place + 2 + w + s.names,
+        names: s.names,
+        rows: s.rows + 1,
         last: time,
     }
 }

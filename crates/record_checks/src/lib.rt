@@ -12,3 +12,11 @@ pub struct Cursor {
     pub rows: usize,
     pub last: u64,
 }
+
+// What a good record is: a name's, a row's whose time has so many bytes, or the one that ends the file.
+#[derive(Clone, Copy)]
+pub enum Record {
+    Name,
+    Row(usize),
+    End,
+}

@@ -4,8 +4,7 @@ ghost use Rattle.std.specs.Prelude.{◌+◌, ◌≤◌, length};
 ghost use Rattle.record_checks.specs.Steps.{Stands, MarkTold, RowTold, Onward};
 
 use crate::Cursor;
-use crate::checks::{check_row, pass};
-use basics::Outcome;
+use crate::checks::{check_row, pass_row};
 use trace_format::Mark;
 use trace_format::parts::mark_at;
 
@@ -34,10 +33,7 @@ fn is_row(file: &[u8], s: Cursor, w: usize) -> bool
     if !is_marked(file, at, w) {
         return false;
     }
-    match check_row(file, s, w) {
-        Outcome::Done(m) => m == w,
-        Outcome::Refused(_) => false,
-    }
+    check_row(file, s, w).is_ok()
 }
 
 // The cursor behind the good rows whose time has w bytes. With one w for all of them, where the next row stands is
@@ -47,8 +43,9 @@ fn pass_marked(file: &[u8], from: Cursor, w: usize) -> Cursor
     ensures { Onward file.now from result }
 {
     let mut s = from;
+    // How many rows are good is known behind them: no range to go over.
     while is_row(file, s, w) {
-        s = pass(file, s, w);
+        s = pass_row(file, s, w);
     }
     s
 }

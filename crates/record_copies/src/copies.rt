@@ -13,12 +13,8 @@ fn clear(out: &mut [u8], at: usize, n: usize) -> usize
     requires { at + n ≤ length out.old }
     ensures { Put out.old at (replicate n 0) out.new result }
 {
-    let mut i: usize = 0;
-    while i < n {
-        out[at + i] = 0;
-        i += 1;
-    }
-    at + i
+    out[at..at + n].fill(0);
+    at + n
 }
 
 // Writes a name as a slot: its bytes, then zeros.
@@ -37,13 +33,11 @@ pub fn copy_names(file: &[u8], k: usize, out: &mut [u8]) -> usize
 {
     let mut q = 0;
     let mut at = 0;
-    let mut i = 0;
-    while i < k {
+    for i in 0..k {
         let from = q + 3;
         let to = from + byte_at(file, q + 2);
         at = put_slot(&file[from..to], out, at);
         q = to;
-        i += 1;
     }
     q
 }
@@ -64,15 +58,12 @@ pub fn copy_times(file: &[u8], k: usize, at: usize, n: usize, out: &mut [u64])
     ensures { out.new ≡ front (times_of file.now k n) out.old }
 {
     let mut q = at;
-    let mut r = 0;
-    while r < n {
+    for r in 0..n {
         let w = width_at(file, q);
         if w == 4 {
             q = copy_time(file, k, q, 4, out, r);
-            r += 1;
         } else {
             q = copy_time(file, k, q, w, out, r);
-            r += 1;
         }
     }
 }
@@ -94,17 +85,14 @@ pub fn copy_states(file: &[u8], k: usize, at: usize, n: usize, out: &mut [u8])
 {
     let mut q = at;
     let mut to = 0;
-    let mut r = 0;
-    while r < n {
+    for r in 0..n {
         let w = width_at(file, q);
         if w == 4 {
             to = copy_codes(file, k, q, 4, out, to);
             q = q + 6 + k;
-            r += 1;
         } else {
             to = copy_codes(file, k, q, w, out, to);
             q = q + 2 + w + k;
-            r += 1;
         }
     }
 }

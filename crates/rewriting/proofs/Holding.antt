@@ -8,6 +8,7 @@
 --   holds                           what is filled, as long as the counts say, holds the alternatives
 --   holds_number                    how many alternatives there are
 --   steps_within, tests_within, edges_within, operands_within    what is in use stands in the arrays
+--   stand_for                       so do the lists that are lent
 --   holds_unique                    two such values of a tree are equal
 use Prim.Native.Nat.{ℕ, ◌≤◌}
 use native.Mathlib.Omega.{arith}
@@ -22,6 +23,7 @@ use Rattle.alf.specs.declared.Rules.{Rules}
 use Rattle.alf.specs.declared.Sort.TheVariants as sort
 use Rattle.acceptance.specs.Accepted.{Accepted}
 use Rattle.acceptance.proofs.Acceptance.{accepted_vector, accepted_tree}
+use Rattle.alternatives.specs.declared.lists.Lists.{Lists}
 use Rattle.rewriting.specs.declared.lists.Alternatives.{Alternatives}
 use Rattle.steady_pins.specs.Finding.{pins_of}
 use Rattle.steady_pins.proofs.Found.{found_means}
@@ -31,6 +33,7 @@ use Rattle.trees.specs.Parts.{vector_at, boolean_at}
 use Rattle.step_tests.specs.OperandPlaces.{edge_of, end_of}
 use Rattle.rewriting.specs.Lists.{joined, alternatives_at, step_list, test_list, edge_list, operand_list}
 use Rattle.rewriting.specs.Lists.{Ready, Long, Filled, Fillable, InUse, Holds}
+use Rattle.rewriting.specs.Lists.{Lends, StandFor}
 use Rattle.rewriting.proofs.Bounds.{ready_pins, ready_bounded, few_steps, few_tests}
 use Rattle.rewriting.proofs.Meaning.{lists_stand, lists_shape}
 use Rattle.alternatives.specs.InMemory.{alternatives_of_lem}
@@ -161,6 +164,13 @@ module _ {ρ : Rules} {tree : List ℕ} {names : ℕ} {v : Alternatives} (h : Ho
   unfolding alternatives_of_lem
   holds_number =
       h.steps_used.many ∙ sym (cut_length (take v.count v.steps) _) ∙ ap length h.stands
+
+  pub stand_for : {l : Lists} → Lends v l → StandFor ρ tree names l
+  stand_for e =
+      record {
+        shape = rw (e.steps_are, e.tests_are, e.edges_are, e.operands_are) h.shape;
+        stands = rw (e.steps_are, e.tests_are, e.edges_are, e.operands_are) h.stands;
+      }
 
   pub steps_within : v.count ≤ length v.steps
   steps_within = h.steps_used.within

@@ -8,6 +8,7 @@
 --   Long, Filled, Fillable         how long the lists are, the lists at the front of four others, their room
 --   alternative_of, Adding, Added   the steps of one alternative behind others
 --   InUse, Holds                   the lists of a tree by value
+--   Fronts, Lends, StandFor        the same lists without what stands behind them, lent
 use Rattle.std.specs.Prelude.{ℕ, ◌+◌, ◌<◌, ◌≤◌, ◌≡◌, List, [], ◌∷◌, ◌++◌, map, length, get_or, take, replicate}
 use Rattle.std.proofs.lemmas.List.Edits.{sets}
 use Rattle.alf.specs.Expressions.{name}
@@ -17,6 +18,8 @@ use Rattle.alf.specs.declared.Rules.{Rules}
 use Rattle.alf.specs.declared.Sort.TheVariants.{Vector}
 use Rattle.trees.specs.Parts.{vector_at}
 use Rattle.acceptance.specs.Accepted.{Accepted}
+use Rattle.alternatives.specs.declared.lists.Lists.{Lists}
+use Rattle.alternatives.specs.Listed.{alternatives_listed}
 use Rattle.alternatives.specs.InMemory.{alternatives_of_lem, Shape}
 use Rattle.rewriting.specs.declared.lists.Alternatives.{Alternatives}
 use Rattle.steady_pins.specs.Pinned.{by_places}
@@ -118,3 +121,21 @@ pub record Holds (ρ : Rules) (tree : List ℕ) (names : ℕ) (a : Alternatives)
   pub stands : alternatives_of_lem tree names (take a.count a.steps) (take a.step_count a.tests)
       (take a.test_count a.edges) (take a.test_count a.operands)
       ≡ alternatives (meant ρ (vector_at tree names (length tree)))
+
+-- the lists without what stands behind them
+pub record Fronts (a : Alternatives) : Type 0 where
+  pub steps_within : a.count ≤ length a.steps
+  pub tests_within : a.step_count ≤ length a.tests
+  pub edges_within : a.test_count ≤ length a.edges
+  pub operands_within : a.test_count ≤ length a.operands
+
+pub record Lends (a : Alternatives) (l : Lists) : Type 0 where
+  pub steps_are : l.steps.now ≡ take a.count a.steps
+  pub tests_are : l.tests.now ≡ take a.step_count a.tests
+  pub edges_are : l.edges.now ≡ take a.test_count a.edges
+  pub operands_are : l.operands.now ≡ take a.test_count a.operands
+
+-- They have the shape that matching asks for, and stand for the alternatives of the expression as the rules read it.
+pub record StandFor (ρ : Rules) (tree : List ℕ) (names : ℕ) (l : Lists) : Type 0 where
+  pub shape : Shape tree names l.steps.now l.tests.now l.edges.now l.operands.now
+  pub stands : alternatives_listed tree names l ≡ alternatives (meant ρ (vector_at tree names (length tree)))

@@ -5,9 +5,11 @@ ghost use Rattle.std.specs.Prelude.{length};
 ghost use Rattle.acceptance.specs.Accepted.{Accepted};
 ghost use Rattle.acceptance.specs.Notes.{Noted};
 ghost use Rattle.rewriting.specs.Lists.{alternatives_by, Ready, Adding, Added, Fillable, Filled, Long, Holds};
+ghost use Rattle.rewriting.specs.Lists.{Fronts, Lends};
 
 use acceptance::{notes, sizes};
 use alf::Rules;
+use alternatives::lists::Lists;
 use steady_pins::finding::find;
 use step_tests::steps::put_step;
 
@@ -31,6 +33,21 @@ pub struct Alternatives {
     pub operands: [u16; 4096],
 }
 
+impl Alternatives {
+    // The lists without the zeros behind them.
+    pub fn lists(&self) -> Lists<'_>
+        requires { Fronts self.now }
+        ensures { Lends self.now result }
+    {
+        Lists {
+            steps: &self.steps[..self.count],
+            tests: &self.tests[..self.step_count],
+            edges: &self.edges[..self.test_count],
+            operands: &self.operands[..self.test_count],
+        }
+    }
+}
+
 // How long the lists are.
 pub fn lengths_of(tree: &[u8], pins: &[u8; 8192], notes: &[u8; 768], names: usize) -> Lengths
     requires { Ready pins.now tree.now names
@@ -42,12 +59,10 @@ pub fn lengths_of(tree: &[u8], pins: &[u8; 8192], notes: &[u8; 768], names: usiz
     let n = notes::count_at(tree, notes, end, names);
     let mut steps: usize = 0;
     let mut tests: usize = 0;
-    let mut t: usize = 0;
-    while t < n {
+    for t in 0..n {
         let x = sizes::shape_of(tree, pins, notes, end, names, t);
         steps += x.steps;
         tests += x.tests;
-        t += 1;
     }
     Lengths {
         alternatives: n,
@@ -79,12 +94,10 @@ fn put_alternative(
 {
     let end = tree.len();
     let mut at = from;
-    let mut j: usize = 0;
-    while j < n {
+    for j in 0..n {
         let next = put_step(tree, pins, notes, end, names, t, n, j, edges, operands, at);
         tests[s + j] = (next - at) as u8;
         at = next;
-        j += 1;
     }
     at
 }
@@ -110,8 +123,7 @@ pub fn fill(
     let count = notes::count_at(tree, notes, end, names);
     let mut s: usize = 0;
     let mut from: usize = 0;
-    let mut t: usize = 0;
-    while t < count {
+    for t in 0..count {
         let x = sizes::shape_of(tree, pins, notes, end, names, t);
         let n = x.steps;
         steps[t] = n as u8;
@@ -119,7 +131,6 @@ pub fn fill(
             tree, pins, notes, names, t, n, tests, s, edges, operands, from,
         );
         s += n;
-        t += 1;
     }
 }
 

@@ -1,6 +1,7 @@
 -- What the calls come to, return by return.
 -- Main names: short_steps, short_tests, short_edges, short_operands, delivered, enough;
 -- comes_18, comes_10, comes_on; refused_18, refused_10, passed_on.
+use Rattle.std.specs.Prelude.{Err, Ok}
 use Prim.Native.Nat.{ℕ, ◌<◌, ◌≤◌}
 use native.Mathlib.Omega.{arith}
 use mathlib.Core.Path.{◌≡◌, refl, sym, ◌∙◌}
@@ -11,8 +12,7 @@ use lib.Dec.{leb}
 use lib.ListN.{length}
 use borrow.Author.Tests.{leb-true, leb-false}
 use Rattle.basics.specs.Refusing.{refusal}
-use Rattle.basics.specs.declared.Outcome.{Outcome}
-use Rattle.basics.specs.declared.Outcome.TheVariants.{Done, Refused}
+use Rattle.basics.specs.Refusing.{Outcome}
 use Rattle.alf.specs.declared.Rules.{Rules}
 use Rattle.alf.specs.declared.Sort.TheVariants.{Vector}
 use Rattle.alf.specs.Alternatives.{Alternative, number_of_alternatives}
@@ -40,7 +40,7 @@ some_names_lem n f = go (leb n 32) refl
 
 -- refused: all lists stay
 stay : {xs : List Alternative} {steps tests edges operands : List ℕ} {n p : ℕ}
-    → After xs steps tests edges operands steps tests edges operands (Refused (refusal n p))
+    → After xs steps tests edges operands steps tests edges operands (Err (refusal n p))
 unfolding after
 stay = record { steps_are = refl; tests_are = refl; edges_are = refl; operands_are = refl }
 
@@ -60,7 +60,7 @@ module _ {xs : List Alternative} {n m k : ℕ} (l : Long xs n m k) where
 
 module _ {xs : List Alternative} (steps tests edges operands : List ℕ) {n m k : ℕ} (l : Long xs n m k) where
   abbrev Refuses : ℕ → Outcome → Type 0
-  Refuses p r = r ≡ Refused (refusal 9 p)
+  Refuses p r = r ≡ Err (refusal 9 p)
       → Delivers xs steps tests edges operands steps tests edges operands r
 
   pub short_steps : {r : Outcome} → length steps < n → Refuses n r
@@ -127,7 +127,7 @@ module _ {xs : List Alternative} (steps tests edges operands : List ℕ) {n m k 
 
           pub delivered : {steps' tests' edges' operands' : List ℕ}
               → Filled xs steps tests edges operands steps' tests' edges' operands'
-              → Delivers xs steps tests edges operands steps' tests' edges' operands' (Done n)
+              → Delivers xs steps tests edges operands steps' tests' edges' operands' (Ok n)
           unfolding Comes Passed room_order after
           delivered f =
               record {
@@ -158,13 +158,13 @@ enough a l b c d e =
 -- 18 and 10 before it
 module _ (ρ : Rules) (names : ℕ) (tree : List ℕ) (others : Order) (made : ℕ → Type 0) where
   pub comes_18 : (NameCount names → ⊥)
-      → Comes (tree_order ρ names tree others) made (Refused (refusal 18 0))
+      → Comes (tree_order ρ names tree others) made (Err (refusal 18 0))
   unfolding Comes RefusedWith tree_order
   comes_18 f = record { by = inl (refl, record { given = f; there = refl }); bare = refl }
 
   module _ (n : NameCount names) where
     pub comes_10 : (Accepted ρ names Vector tree → ⊥)
-        → Comes (tree_order ρ names tree others) made (Refused (refusal 10 0))
+        → Comes (tree_order ρ names tree others) made (Err (refusal 10 0))
     unfolding Comes RefusedWith tree_order
     comes_10 f =
         record { by = inr ((λ p r. r.given n), inl (refl, record { given = f; there = refl })); bare = refl }
@@ -172,27 +172,27 @@ module _ (ρ : Rules) (names : ℕ) (tree : List ℕ) (others : Order) (made : �
     pub comes_on : Accepted ρ names Vector tree → (r : Outcome) → Comes others made r
         → Comes (tree_order ρ names tree others) made r
     unfolding Comes RefusedWith Passed tree_order
-    comes_on a (Done k) x = (((λ p r. r.given n), ((λ p r. r.given a), x.0)), x.1)
-    comes_on a (Refused q) x =
+    comes_on a (Ok k) x = (((λ p r. r.given n), ((λ p r. r.given a), x.0)), x.1)
+    comes_on a (Err q) x =
         record { by = inr ((λ p r. r.given n), inr ((λ p r. r.given a), x.by)); bare = x.bare }
 
 -- the number that is made, said in another way
 pub comes_made : (o : Order) {made made' : ℕ → Type 0} → ((k : ℕ) → made k → made' k) → (r : Outcome)
     → Comes o made r → Comes o made' r
 unfolding Comes
-comes_made o f (Done k) x = (x.0, f k x.1)
-comes_made o f (Refused q) x = x
+comes_made o f (Ok k) x = (x.0, f k x.1)
+comes_made o f (Err q) x = x
 
 module _ (ρ : Rules) (names : ℕ) (tree steps tests edges operands : List ℕ) where
   abbrev Stays : Outcome → Type 0
   Stays r = Rewrites ρ names tree steps tests edges operands steps tests edges operands r
 
-  pub refused_18 : {r : Outcome} → (NameCount names → ⊥) → r ≡ Refused (refusal 18 0)
+  pub refused_18 : {r : Outcome} → (NameCount names → ⊥) → r ≡ Err (refusal 18 0)
       → Stays r
   refused_18 f e = rw e (record { outcome = comes_18 ρ names tree _ _ f; memory = stay })
 
   pub refused_10 : {r : Outcome} → NameCount names → (Accepted ρ names Vector tree → ⊥)
-      → r ≡ Refused (refusal 10 0) → Stays r
+      → r ≡ Err (refusal 10 0) → Stays r
   refused_10 n f e = rw e (record { outcome = comes_10 ρ names tree _ _ n f; memory = stay })
 
   pub passed_on : {steps' tests' edges' operands' : List ℕ} {r : Outcome} → NameCount names

@@ -4,7 +4,7 @@
 --   After                    the lent lists then
 --   Delivers, Rewrites       the call for an accepted tree, and for any tree
 use Rattle.std.specs.Prelude.{ℕ, ◌≡◌, List, [], ◌∷◌, length}
-use Rattle.basics.specs.declared.Outcome.{Outcome}
+use Rattle.basics.specs.Refusing.{Outcome}
 use Rattle.alf.specs.declared.Rules.{Rules}
 use Rattle.alf.specs.declared.Sort.TheVariants.{Vector}
 use Rattle.alf.specs.Alternatives.{Alternative, number_of_alternatives}

@@ -11,7 +11,7 @@ ghost use Rattle.rewriting_calls.specs.Calls.{Delivers, Rewrites};
 use acceptance::accepting::accepts;
 use acceptance::notes::note;
 use alf::{Rules, Sort};
-use basics::Outcome;
+use basics::Refusal;
 use basics::refusing::refuse;
 use rewriting::lists::{fill, lengths_of};
 use steady_pins::finding::find;
@@ -20,10 +20,7 @@ use steady_pins::finding::find;
 pub fn names_fit(names: usize) -> bool
     ensures { Decides result (NameCount names) }
 {
-    if names == 0 {
-        return false;
-    }
-    names <= 32
+    0 < names && names <= 32
 }
 
 // The lists of an accepted tree with its pins: 9 for the first short one, or all of them.
@@ -36,7 +33,7 @@ fn deliver(
     tests: &mut [u8],
     edges: &mut [u8],
     operands: &mut [u16],
-) -> Outcome
+) -> Result<usize, Refusal>
     requires { Ready pins.now tree.now names
         × Noted pins.now notes.now tree.now names (length tree.now) }
     ensures { Delivers (alternatives_by pins.now tree.now names) steps.old
@@ -57,7 +54,7 @@ fn deliver(
         return refuse(9, l.tests);
     }
     fill(tree, pins, notes, names, steps, tests, edges, operands);
-    Outcome::Done(l.alternatives)
+    Ok(l.alternatives)
 }
 
 // The alternatives of a tree, as the rules read it, into four lent lists; how many. Refused with 18, 10 or 9, in this
@@ -70,7 +67,7 @@ pub fn rewrite(
     tests: &mut [u8],
     edges: &mut [u8],
     operands: &mut [u16],
-) -> Outcome
+) -> Result<usize, Refusal>
     ensures { Rewrites rules names tree.now steps.old tests.old
         edges.old operands.old steps.new tests.new edges.new
         operands.new result }

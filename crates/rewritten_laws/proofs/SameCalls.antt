@@ -2,13 +2,13 @@
 -- by the tree comes to: the same refusals, the same answers, the same memory.
 --   passed_same, refused_same                      the orders of the calls, where 10 is asked in another way
 --   match_same, all_same, totals_same, push_same
+use Rattle.std.specs.Prelude.{Err, Ok}
 use Prim.Native.Nat.{ℕ}
 use mathlib.Core.Path.{◌≡◌, ap, ◌∙◌}
 use mathlib.Core.Logic.{inl, inr}
 use mathlib.Core.List.{List}
 use Rattle.basics.specs.declared.Refusal.{Refusal}
-use Rattle.basics.specs.declared.Outcome.{Outcome}
-use Rattle.basics.specs.declared.Outcome.TheVariants as outcome
+use Rattle.basics.specs.Refusing.{Outcome}
 use Rattle.basics.specs.Memory.{after}
 use Rattle.basics.specs.Words.{listed}
 use Rattle.alf.specs.declared.Rules.{Rules}
@@ -19,17 +19,15 @@ use Rattle.alf.specs.Alternatives.{Alternative, alternatives, tries, steps_of, a
 use Rattle.alf.specs.Refusals.{Order, RefusedWith, RefusedBy, Passed, Comes}
 use Rattle.acceptance.specs.Accepted.{Accepted}
 use Rattle.alternatives.specs.InMemory.{alternatives_of_lem, longest_of}
-use Rattle.alf.specs.declared.Began.{Began}
+use Rattle.alf.specs.Beginnings.{Began}
 use Rattle.alf.specs.Beginnings.{began}
 use Rattle.beginnings.specs.Dated.{Dates, flags_on, times_on}
 use Rattle.matcher.proofs.Agreement.{matches_windows, totals_windows}
 use Rattle.timed_queue.specs.declared.queues.Queue.{Queue}
 use Rattle.timed_queue.specs.TimedQueues.{Pushes}
 use Rattle.judging.specs.Orders.{order}
-use Rattle.matching_calls.specs.declared.matching.Matching.{Matching}
-use Rattle.matching_calls.specs.declared.matching.Matching.TheVariants.{Found, Refused}
-use Rattle.matching_calls.specs.declared.matching.Counting.{Counting}
-use Rattle.matching_calls.specs.declared.matching.Counting.TheVariants as counting
+use Rattle.matching_calls.specs.Matching.{Matching}
+use Rattle.matching_calls.specs.Matching.{Counting}
 use Rattle.matching_calls.specs.Matching.{expression, MatchesTree, Finds, RowMatch, AllMatched, Counts, RowTotals}
 use Rattle.matching_calls.proofs.ByAlternatives.{answers_on_lem}
 use Rattle.queue_calls.specs.Pushing.{PushesTree, Push}
@@ -83,28 +81,28 @@ module _ {ρ : Rules} {names : ℕ} {tree steps tests edges operands : List ℕ}
         → ListedMatch ρ names n tree steps tests edges operands states times row r
         → RowMatch ρ names n tree times states row r
     unfolding Finds
-    match_same (Found m) w =
+    match_same (Ok m) w =
         record { comes = (passed_same _ _ to_tree to_lists w.comes.0, matches_tree w.comes.1) }
-    match_same (Refused r) w = record { comes = refused_same _ _ to_tree to_lists r w.comes }
+    match_same (Err r) w = record { comes = refused_same _ _ to_tree to_lists r w.comes }
 
     pub totals_same : (r : Counting) → ListedTotals ρ names n tree steps tests edges operands states r
         → RowTotals ρ names n tree states r
     unfolding Counts
-    totals_same (counting.Counted t) w =
+    totals_same (Ok t) w =
         record {
           comes = (
             passed_same _ _ to_tree to_lists w.comes.0,
             totals_windows (state_at ρ names states) (expression ρ tree names) stand w.comes.1,
           );
         }
-    totals_same (counting.Refused r) w = record { comes = refused_same _ _ to_tree to_lists r w.comes }
+    totals_same (Err r) w = record { comes = refused_same _ _ to_tree to_lists r w.comes }
 
     pub all_same : {times answers tried given since answers' tried' given' since' : List ℕ} (r : Outcome)
         → ListedAll ρ names n tree steps tests edges operands states times answers tried given since answers' tried'
         given' since' r
         → AllMatched ρ names n tree times states answers tried given since answers' tried' given' since' r
     unfolding Comes after
-    all_same {times} (outcome.Done k) w =
+    all_same {times} (Ok k) w =
         record {
           comes = (passed_same _ _ to_tree to_lists w.comes.0, w.comes.1);
           answers_memory =
@@ -121,7 +119,7 @@ module _ {ρ : Rules} {names : ℕ} {tree steps tests edges operands : List ℕ}
               w.began_memory
               ∙ ap (λ (ys : List Alternative). listed 0 n (times_on (state_at ρ names states) times ys)) stand;
         }
-    all_same (outcome.Refused r) w =
+    all_same (Err r) w =
         record {
           comes = refused_same _ _ to_tree to_lists r w.comes;
           answers_memory = w.answers_memory;
@@ -156,7 +154,7 @@ module _ {ρ : Rules} {names : ℕ} {tree steps tests edges operands : List ℕ}
     pub push_same : {time : ℕ} {row : List ℕ} {q' : Queue} (z : Matching)
         → ListedPush ρ names tree steps tests edges operands q time row z q' → Push ρ names tree q time row z q'
     unfolding Takes pushing.Takes
-    push_same (Found m) w =
+    push_same (Ok m) w =
         record { comes = (passed_same _ _ handed_tree handed_lists w.comes.0, pushes_tree w.comes.1) }
-    push_same (Refused r) w =
+    push_same (Err r) w =
         record { comes = (refused_same _ _ handed_tree handed_lists r w.comes.0, w.comes.1) }

@@ -11,13 +11,13 @@
 --   rewritten_filled                     the lists of all answers and all numbers tried
 --   rewritten_counted                    the totals
 --   rewritten_pushed, rewritten_never_refused      a feed of any length
+use Rattle.std.specs.Prelude.{Err, Ok}
 use Prim.Native.Nat.{ℕ, suc, ◌<◌, ◌≤◌}
 use native.Mathlib.Omega.{arith}
 use mathlib.Core.Path.{◌≡◌, refl, ap, sym, ◌∙◌}
 use mathlib.Core.List.{List}
 use lib.ListN.{length}
-use Rattle.basics.specs.declared.Outcome.{Outcome}
-use Rattle.basics.specs.declared.Outcome.TheVariants as outcome
+use Rattle.basics.specs.Refusing.{Outcome}
 use Rattle.basics.specs.Memory.{after}
 use Rattle.basics.specs.Words.{listed}
 use Rattle.basics.proofs.Stable.{le_stable}
@@ -41,10 +41,8 @@ use Rattle.rewriting.proofs.Holding.{step_entries, test_entries, edge_entries, o
 use Rattle.rewriting.proofs.Joining.{lengths_sum}
 use Rattle.rewriting_calls.proofs.Theorems.{rewritten_stand, steps_own}
 use Rattle.judging.specs.Orders.{Rows}
-use Rattle.matching_calls.specs.declared.matching.Matching.{Matching}
-use Rattle.matching_calls.specs.declared.matching.Matching.TheVariants.{Found}
-use Rattle.matching_calls.specs.declared.matching.Counting.{Counting}
-use Rattle.matching_calls.specs.declared.matching.Counting.TheVariants as counting
+use Rattle.matching_calls.specs.Matching.{Matching}
+use Rattle.matching_calls.specs.Matching.{Counting}
 use Rattle.matching_calls.specs.Matching.{expression, Lent, RowMatch, FillsTree, AllMatched}
 use Rattle.matching_calls.specs.Matching.{TotalsTree, Counts, RowTotals}
 use Rattle.queue_calls.specs.Pushing.{Push}
@@ -62,10 +60,10 @@ pub rewrite_done : {ρ : Rules} {names : ℕ} {tree steps tests edges operands s
     → NameCount names → Accepted ρ names Vector tree → 64 ≤ length steps → 1024 ≤ length tests
     → 4096 ≤ length edges → 4096 ≤ length operands → (r : Outcome)
     → Rewrites ρ names tree steps tests edges operands steps' tests' edges' operands' r
-    → r ≡ outcome.Done (number_of_alternatives (expression ρ tree names))
+    → r ≡ Ok (number_of_alternatives (expression ρ tree names))
 unfolding Comes Passed tree_order room_order
-rewrite_done n a s t e o (outcome.Done k) w = ap outcome.Done w.outcome.1
-rewrite_done {ρ} {names} {tree} n a s t e o (outcome.Refused r) w =
+rewrite_done n a s t e o (Ok k) w = ap Ok w.outcome.1
+rewrite_done {ρ} {names} {tree} n a s t e o (Err r) w =
     let xs = alternatives_at ρ tree names in
     let b = ready_bounded (pins_of ρ tree names (length tree)) tree names
     (record { rules = ρ; accepted = a; found = refl }) in
@@ -186,11 +184,11 @@ module _ {ρ : Rules} {names : ℕ} {tree steps tests edges operands : List ℕ}
           → length tried ≡ n → length given ≡ n → length began ≡ n → (r : Outcome)
           → ListedAll ρ names n tree steps tests edges operands states times answers tried given began answers' tried'
           given' began' r
-          → (r ≡ outcome.Done n) × FillsTree ρ names n tree times states answers' tried' given' began'
+          → (r ≡ Ok n) × FillsTree ρ names n tree times states answers' tried' given' began'
       unfolding Comes after
-      rewritten_filled a t g b (outcome.Done k) m =
-          let x = all_as_tree (outcome.Done k) m in (
-            ap outcome.Done x.comes.1,
+      rewritten_filled a t g b (Ok k) m =
+          let x = all_as_tree (Ok k) m in (
+            ap Ok x.comes.1,
             record {
               answers = x.answers_memory;
               counts = x.tried_memory;
@@ -198,8 +196,8 @@ module _ {ρ : Rules} {names : ℕ} {tree steps tests edges operands : List ℕ}
               stamps = x.began_memory;
             },
           )
-      rewritten_filled a t g b (outcome.Refused r) m =
-          let x = all_as_tree (outcome.Refused r) m in
+      rewritten_filled a t g b (Err r) m =
+          let x = all_as_tree (Err r) m in
           let lent : Lent n (length times) _ _ _ _ =
           record { times_all = stamped; answers_all = a; tried_all = t; given_all = g; began_all = b } in
           absurd
@@ -207,11 +205,11 @@ module _ {ρ : Rules} {names : ℕ} {tree steps tests edges operands : List ℕ}
 
     pub rewritten_counted : (z : Counting)
         → ListedTotals ρ names n tree steps tests edges operands states z
-        → (t : Total) × ((z ≡ counting.Counted t) × TotalsTree ρ names n tree states t.yes t.no t.unknown)
+        → (t : Total) × ((z ≡ Ok t) × TotalsTree ρ names n tree states t.yes t.no t.unknown)
     unfolding Counts
-    rewritten_counted (counting.Counted t) m = (t, (refl, (totals_as_tree (counting.Counted t) m).comes.1))
-    rewritten_counted (counting.Refused r) m =
-        let x = totals_as_tree (counting.Refused r) m in
+    rewritten_counted (Ok t) m = (t, (refl, (totals_as_tree (Ok t) m).comes.1))
+    rewritten_counted (Err r) m =
+        let x = totals_as_tree (Err r) m in
         absurd (refused_passed _ _ _ (codes_passed states fit written_tree codes) x.comes.by)
 
   -- and for every feed of rows that hold codes, with times that rise, the first pushed into a queue that keeps nothing
@@ -224,7 +222,7 @@ module _ {ρ : Rules} {names : ℕ} {tree steps tests edges operands : List ℕ}
       pushed_tree : (i : ℕ) → i < n → Push ρ names tree (queues i) (times i) (rows i) (results i) (queues (suc i))
       pushed_tree i l = push_as_tree (results i) (pushed i l)
 
-      pub rewritten_never_refused : (i : ℕ) → i < n → results i ≡ Found (told_by (results i))
+      pub rewritten_never_refused : (i : ℕ) → i < n → results i ≡ Ok (told_by (results i))
       rewritten_never_refused = never_refused written_names written_tree first full good rise pushed_tree
 
       pub rewritten_pushed : (i : ℕ) → i < n

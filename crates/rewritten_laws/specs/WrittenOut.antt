@@ -2,9 +2,9 @@
 -- that take alternatives as lists.
 --   Lists          four lists
 --   WrittenOut     four lists that some call of `rewrite` wrote for a tree
+use Rattle.std.specs.Prelude.{Ok}
 use Rattle.std.specs.Prelude.{ℕ, ◌≡◌, List, take}
 use Rattle.alf.specs.declared.Rules.{Rules}
-use Rattle.basics.specs.declared.Outcome.TheVariants.{Done}
 use Rattle.alternatives.specs.InMemory.{sum}
 use Rattle.rewriting_calls.specs.Calls.{Rewrites}
 
@@ -22,7 +22,7 @@ pub record WrittenOut (ρ : Rules) (names : ℕ) (tree steps tests edges operand
   pub after : Lists
   pub number : ℕ
   pub done : Rewrites ρ names tree lent.steps lent.tests lent.edges lent.operands
-      after.steps after.tests after.edges after.operands (Done number)
+      after.steps after.tests after.edges after.operands (Ok number)
   pub steps_are : steps ≡ take number after.steps
   pub tests_are : tests ≡ take (sum steps) after.tests
   pub edges_are : edges ≡ take (sum tests) after.edges

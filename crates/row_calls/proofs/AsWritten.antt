@@ -1,4 +1,5 @@
 -- What the calls that answer as the tree is written come to, case by case.
+use Rattle.std.specs.Prelude.{Err, Ok}
 use mathlib.Core.Path.{◌≡◌, refl, sym, ◌∙◌}
 use mathlib.Core.List.{List}
 use mathlib.Core.Bool.{Bool, true, false}
@@ -10,7 +11,6 @@ use Rattle.alf.specs.declared.Answer.{Answer}
 use Rattle.basics.specs.declared.Refusal.{Refusal}
 use Rattle.alf.specs.declared.Sort.{Sort}
 use Rattle.alf.specs.declared.Sort.TheVariants.{Boolean, Vector}
-use Rattle.basics.specs.declared.Outcome.TheVariants as outcome
 use Rattle.alf.specs.Refusals.{Comes}
 use Rattle.basics.specs.Words.{listed}
 use Rattle.alf.specs.Values.{state_at}
@@ -31,9 +31,7 @@ use Rattle.evaluator.proofs.Traces.{trace_row, trace_filling}
 use Rattle.window_answers.specs.Spans.{Pattern}
 use Rattle.window_answers.proofs.Tops.{top_vector_lem}
 use Rattle.window_answers.proofs.LongestSteps.{longest_limited}
-use Rattle.judging.specs.declared.checks.Verdict.{Verdict}
-use Rattle.judging.specs.declared.checks.Verdict.TheVariants.{Good, Refused}
-use Rattle.row_calls.specs.declared.written.Told.TheVariants as told
+use Rattle.judging.specs.Orders.{Verdict}
 use Rattle.judging.specs.Orders.{Rows, rows_order, Judged, ChecksRow, ChecksRows}
 use Rattle.row_calls.specs.Written.{RowState, RowValue, AllValues, Tells, RowAnswer}
 use Rattle.basics.specs.Memory.{front, after}
@@ -69,7 +67,7 @@ module _ {ρ : Rules} (tree : List ℕ) (names : ℕ) (a : Accepted ρ names Vec
       }
 
 module _ {ρ : Rules} {names n : ℕ} {tree : List ℕ} {sort : Sort} {states : List ℕ} {row : ℕ} {v : Verdict}
-    (c : ChecksRow ρ names n tree sort states row v) (e : v ≡ Good) where
+    (c : ChecksRow ρ names n tree sort states row v) (e : v ≡ (Ok tt)) where
   pub row_there : Within states names row
   row_there =
       let (l, a, (s, h)) = (judged_good c.is e).1 in
@@ -80,41 +78,41 @@ module _ {ρ : Rules} {names n : ℕ} {tree : List ℕ} {sort : Sort} {states : 
 
 module _ {ρ : Rules} {names n : ℕ} {tree states : List ℕ} {row : ℕ} {v : Verdict}
     (c : ChecksRow ρ names n tree Boolean states row v) where
-  pub boolean_ends : v ≡ Good → EndsBoolean tree names (length tree)
+  pub boolean_ends : v ≡ (Ok tt) → EndsBoolean tree names (length tree)
   boolean_ends e = accepted_boolean tree names (row_accepted c e)
 
-  pub state_refused : {r : Refusal} → v ≡ Refused r
-      → RowState ρ names n tree states row (outcome.Refused r)
+  pub state_refused : {r : Refusal} → v ≡ Err r
+      → RowState ρ names n tree states row (Err r)
   unfolding Comes
   state_refused e = record { comes = judged_not c.is e }
 
-  pub value_refused : {r : Refusal} → v ≡ Refused r
-      → RowValue ρ names n tree states row (outcome.Refused r)
+  pub value_refused : {r : Refusal} → v ≡ Err r
+      → RowValue ρ names n tree states row (Err r)
   unfolding Comes
   value_refused e = record { comes = judged_not c.is e }
 
-  pub state_told : {k : ℕ} → v ≡ Good → IsState (state_of ρ tree names states (length tree) row) k
-      → RowState ρ names n tree states row (outcome.Done k)
+  pub state_told : {k : ℕ} → v ≡ (Ok tt) → IsState (state_of ρ tree names states (length tree) row) k
+      → RowState ρ names n tree states row (Ok k)
   unfolding Comes
   state_told e s = record { comes = ((judged_good c.is e).0, s.is) }
 
-  pub value_told : {k : ℕ} → v ≡ Good → IsState (value_of ρ tree names states (length tree) row) k
-      → RowValue ρ names n tree states row (outcome.Done k)
+  pub value_told : {k : ℕ} → v ≡ (Ok tt) → IsState (value_of ρ tree names states (length tree) row) k
+      → RowValue ρ names n tree states row (Ok k)
   unfolding Comes
   value_told e s = record { comes = ((judged_good c.is e).0, s.is) }
 
 module _ {ρ : Rules} {names n : ℕ} {tree states : List ℕ} {row : ℕ} {v : Verdict}
     (c : ChecksRow ρ names n tree Vector states row v) where
-  pub pattern_there : v ≡ Good → Pattern tree names (length tree)
+  pub pattern_there : v ≡ (Ok tt) → Pattern tree names (length tree)
   pattern_there e = accepted_pattern tree names (row_accepted c e)
 
-  pub answer_refused : {r : Refusal} → v ≡ Refused r → RowAnswer ρ names n tree states row (told.Refused r)
+  pub answer_refused : {r : Refusal} → v ≡ Err r → RowAnswer ρ names n tree states row (Err r)
   unfolding Tells
   answer_refused e = record { comes = judged_not c.is e }
 
-  pub answer_told : {a : Answer} → v ≡ Good
+  pub answer_told : {a : Answer} → v ≡ (Ok tt)
       → number_of a ≡ row_answer (state_at ρ names states) (meant ρ (vector_at tree names (length tree))) row
-      → RowAnswer ρ names n tree states row (told.Answered a)
+      → RowAnswer ρ names n tree states row (Ok a)
   unfolding Tells
   answer_told e s = record { comes = ((judged_good c.is e).0, s) }
 
@@ -125,12 +123,12 @@ module _ {ρ : Rules} {names n : ℕ} {tree states : List ℕ} (out : List ℕ) 
       (((length out ≡ n) × Rows names n (length states)) × Accepted ρ names Boolean tree × Codes states) v
   as_lists = lent_as ρ names n tree Boolean states (eqb (length out) n) (length out ≡ n) (eqb_decides (length out) n) c
 
-  pub values_refused : {r : Refusal} → v ≡ Refused r
-      → AllValues ρ names n tree states out out (outcome.Refused r)
+  pub values_refused : {r : Refusal} → v ≡ Err r
+      → AllValues ρ names n tree states out out (Err r)
   unfolding Comes after
   values_refused e = record { comes = judged_not as_lists e; memory = refl }
 
-  module _ (e : v ≡ Good) where
+  module _ (e : v ≡ (Ok tt)) where
     pub values_ends : EndsBoolean tree names (length tree)
     values_ends = accepted_boolean tree names (judged_good as_lists e).1.1
 
@@ -141,7 +139,7 @@ module _ {ρ : Rules} {names n : ℕ} {tree states : List ℕ} (out : List ℕ) 
 
     pub values_told : {out' : List ℕ}
         → out' ≡ front (listed 0 n (value_of ρ tree names states (length tree))) out
-        → AllValues ρ names n tree states out out' (outcome.Done n)
+        → AllValues ρ names n tree states out out' (Ok n)
     unfolding Comes after
     values_told h =
         let (p, ((k, l), a, s)) = judged_good as_lists e in

@@ -12,7 +12,7 @@ use Rattle.alf.specs.Windows.{Rank, answer, numbered}
 use Rattle.trees.specs.Parts.{vector_at}
 use Rattle.evaluator.specs.Rows.{Within}
 use Rattle.window_answers.specs.Spans.{Pattern}
-use Rattle.row_calls.specs.declared.written.Told.{Told}
+use Rattle.row_calls.specs.Written.{Answering}
 use Rattle.judging.specs.Orders.{row_order}
 use Rattle.row_calls.specs.Written.{Tells}
 
@@ -20,7 +20,7 @@ use Rattle.row_calls.specs.Written.{Tells}
 abbrev pub answer_over : Rules → ℕ → List ℕ → List ℕ → ℕ → ℕ → Rank
 answer_over ρ names tree states = answer (state_at ρ names states) (meant ρ (vector_at tree names (length tree)))
 
-pub record WindowAnswer (ρ : Rules) (names n : ℕ) (tree states : List ℕ) (a b : ℕ) (r : Told) : Type 0 where
+pub record WindowAnswer (ρ : Rules) (names n : ℕ) (tree states : List ℕ) (a b : ℕ) (r : Answering) : Type 0 where
   pub comes : Tells (row_order ρ names n tree Vector states (max a b)) (numbered (answer_over ρ names tree states a b)) r
 
 -- What the function inside asks: a vector expression within the limits, and a trace that has row b.

@@ -1,19 +1,12 @@
 // The answer as written on one window of rows, by recursion over the tree.
-ghost use Rattle.std.specs.Prelude.{◌≡◌, max};
+ghost use Rattle.std.specs.Prelude.{◌≡◌};
 ghost use Rattle.alf.specs.Windows.{numbered};
 ghost use Rattle.alf.specs.Answers.{number_of};
 ghost use Rattle.row_calls.specs.Windows.{TreeWindow, answer_over, WindowAnswer};
 
-use crate::written::Told;
 use alf::{Answer, RowNo, Rules, Sort};
-use judging::checks::{Verdict, check_row};
-
-// The later of two rows.
-pub fn later(a: usize, b: usize) -> usize
-    ensures { result ≡ max a b }
-{
-    if a < b { b } else { a }
-}
+use basics::Refusal;
+use judging::checks::check_row;
 
 // An accepted tree, on a window of rows that are there.
 fn answer_tree(rules: Rules, names: usize, tree: &[u8], states: &[u8], a: usize, b: usize) -> Answer
@@ -33,15 +26,12 @@ pub fn window_answer(
     states: &[u8],
     a: RowNo,
     b: RowNo,
-) -> Told
+) -> Result<Answer, Refusal>
     ensures { WindowAnswer rules names n tree.now states.now a.0 b.0 result }
 {
     let from = a.0 as usize;
     let to = b.0 as usize;
-    let last = later(from, to);
-    let v = check_row(rules, names, n, tree, Sort::Vector, states, last);
-    match v {
-        Verdict::Refused(r) => Told::Refused(r),
-        Verdict::Good => Told::Answered(answer_tree(rules, names, tree, states, from, to)),
-    }
+    let last = from.max(to);
+    check_row(rules, names, n, tree, Sort::Vector, states, last)?;
+    Ok(answer_tree(rules, names, tree, states, from, to))
 }

@@ -2,15 +2,8 @@
 ghost use Rattle.row_calls.specs.Written.{RowState, RowValue, AllValues, RowAnswer};
 
 use alf::{Answer, RowNo, Rules, Sort};
-use basics::{Outcome, Refusal};
-use judging::checks::{Verdict, check_row, check_rows};
-
-// A row's answer, or a refusal.
-#[derive(Clone, Copy)]
-pub enum Told {
-    Answered(Answer),
-    Refused(Refusal),
-}
+use basics::Refusal;
+use judging::checks::{check_row, check_rows};
 
 // The state of a boolean expression at a row.
 pub fn row_state(
@@ -20,18 +13,13 @@ pub fn row_state(
     tree: &[u8],
     states: &[u8],
     row: RowNo,
-) -> Outcome
+) -> Result<usize, Refusal>
     ensures { RowState rules names n tree.now states.now row.0 result }
 {
     let at = row.0 as usize;
-    let v = check_row(rules, names, n, tree, Sort::Boolean, states, at);
-    match v {
-        Verdict::Refused(r) => Outcome::Refused(r),
-        Verdict::Good => {
-            let s = evaluator::values::state(rules, tree, tree.len(), states, names, at);
-            Outcome::Done(s as usize)
-        }
-    }
+    check_row(rules, names, n, tree, Sort::Boolean, states, at)?;
+    let s = evaluator::values::state(rules, tree, tree.len(), states, names, at);
+    Ok(s as usize)
 }
 
 // Its value.
@@ -42,18 +30,13 @@ pub fn row_value(
     tree: &[u8],
     states: &[u8],
     row: RowNo,
-) -> Outcome
+) -> Result<usize, Refusal>
     ensures { RowValue rules names n tree.now states.now row.0 result }
 {
     let at = row.0 as usize;
-    let v = check_row(rules, names, n, tree, Sort::Boolean, states, at);
-    match v {
-        Verdict::Refused(r) => Outcome::Refused(r),
-        Verdict::Good => {
-            let s = evaluator::values::value(rules, tree, tree.len(), states, names, at);
-            Outcome::Done(s as usize)
-        }
-    }
+    check_row(rules, names, n, tree, Sort::Boolean, states, at)?;
+    let s = evaluator::values::value(rules, tree, tree.len(), states, names, at);
+    Ok(s as usize)
 }
 
 // Its values at all rows; how many.
@@ -64,19 +47,14 @@ pub fn values(
     tree: &[u8],
     states: &[u8],
     out: &mut [u8],
-) -> Outcome
+) -> Result<usize, Refusal>
     ensures { AllValues rules names n tree.now states.now out.old
         out.new result }
 {
     let lent = out.len() == n;
-    let v = check_rows(rules, names, n, lent, tree, Sort::Boolean, states);
-    match v {
-        Verdict::Refused(r) => Outcome::Refused(r),
-        Verdict::Good => {
-            evaluator::values::values(rules, tree, tree.len(), states, names, n, out);
-            Outcome::Done(n)
-        }
-    }
+    check_rows(rules, names, n, lent, tree, Sort::Boolean, states)?;
+    evaluator::values::values(rules, tree, tree.len(), states, names, n, out);
+    Ok(n)
 }
 
 // The answer of a vector expression at a row: the greatest over the windows that end there.
@@ -87,20 +65,10 @@ pub fn row_answer(
     tree: &[u8],
     states: &[u8],
     row: RowNo,
-) -> Told
+) -> Result<Answer, Refusal>
     ensures { RowAnswer rules names n tree.now states.now row.0 result }
 {
     let at = row.0 as usize;
-    let v = check_row(rules, names, n, tree, Sort::Vector, states, at);
-    match v {
-        Verdict::Refused(r) => Told::Refused(r),
-        Verdict::Good => Told::Answered(window_answers::rows::row_answer(
-            rules,
-            tree,
-            tree.len(),
-            states,
-            names,
-            at,
-        )),
-    }
+    check_row(rules, names, n, tree, Sort::Vector, states, at)?;
+    Ok(window_answers::rows::row_answer(rules, tree, tree.len(), states, names, at))
 }

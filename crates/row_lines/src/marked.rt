@@ -52,10 +52,8 @@ pub fn members_size(names: &[u8], k: usize, mask: u32) -> usize
     ensures { Sized (members names.now k (marked mask)) (k * 33) result }
 {
     let mut size: usize = 0;
-    let mut i: usize = 0;
-    while i < k {
+    for i in 0..k {
         size += member_size(names, mask, i);
-        i += 1;
     }
     size
 }
@@ -66,10 +64,8 @@ pub fn put_members(names: &[u8], k: usize, mask: u32, out: &mut [u8], at: usize)
     ensures { Put out.old at (members names.now k (marked mask)) out.new result }
 {
     let mut p = at;
-    let mut i: usize = 0;
-    while i < k {
+    for i in 0..k {
         p = put_member(names, mask, i, out, p);
-        i += 1;
     }
     p
 }

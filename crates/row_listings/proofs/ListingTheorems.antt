@@ -1,6 +1,7 @@
 -- What the listings of texts come to.
 --   list_text_unique, values_text_unique    result and buffer afterwards follow from the input
 --   lists_stays                             refused, the buffer is as before
+use Rattle.std.specs.Prelude.{Err, Ok}
 use Prim.Native.Nat.{ℕ, ◌/◌}
 use mathlib.Core.Path.{◌≡◌, ap, sym, ◌∙◌}
 use mathlib.Core.List.{List, [], ◌∷◌, ◌++◌}
@@ -10,8 +11,7 @@ use Rattle.alf.specs.declared.Rules.{Rules}
 use Rattle.alf.specs.declared.Sort.{Sort}
 use Rattle.alf.specs.declared.Sort.TheVariants as the_sort
 use Rattle.basics.specs.declared.Refusal.{Refusal}
-use Rattle.basics.specs.declared.Outcome.{Outcome}
-use Rattle.basics.specs.declared.Outcome.TheVariants.{Done, Refused}
+use Rattle.basics.specs.Refusing.{Outcome}
 use Rattle.alf.specs.Expressions.{Expression, boolean, vector}
 use Rattle.alf.specs.Refusals.{check, no_room}
 use Rattle.alf.proofs.Outcomes.{Fixed, at_fixed, first_fixed, refused_passed}
@@ -48,13 +48,13 @@ module _ {A : Type 0} (ρ : Rules) (into : A → Expression) (one : (a b : A) �
   unfolding after
   lists_unique {out} (lists a p g k h) (lists b q j l i) =
       let e = given_one_lem g j in (
-        ap Done (k ∙ ap (λ (z : A). length (shown z)) e ∙ sym l),
+        ap Ok (k ∙ ap (λ (z : A). length (shown z)) e ∙ sym l),
         h ∙ ap (λ (z : A). shown z ++ drop (length (shown z)) out) e ∙ sym i,
       )
   lists_unique (lists a p g k h) (refuses b i) = absurd (refused_passed _ _ _ p b.by)
   lists_unique (refuses a h) (lists b q j l i) = absurd (refused_passed _ _ _ q a.by)
   lists_unique {out} (refuses a h) (refuses b i) =
-      (ap Refused (refused_in_unique text _ (order_sole (length out)) a b), h ∙ sym i)
+      (ap Err (refused_in_unique text _ (order_sole (length out)) a b), h ∙ sym i)
 
 module _ {names times states text out x y : List ℕ} {r s : Outcome} where
   pub list_text_unique : (ρ : Rules) → ListsPattern ρ names times states text out x r
@@ -69,5 +69,5 @@ module _ {names times states text out x y : List ℕ} {r s : Outcome} where
 
 pub lists_stays : {A : Type 0} {ρ : Rules} {into : A → Expression} {sort : Sort} {shown : A → List ℕ}
     {names times states text out out' : List ℕ} {r : Refusal}
-    → Lists ρ into sort shown names times states text out out' (Refused r) → out' ≡ out
+    → Lists ρ into sort shown names times states text out out' (Err r) → out' ≡ out
 lists_stays (refuses h e) = e

@@ -5,17 +5,16 @@
 --   pattern_lists, values_lists  for a pattern, for a boolean expression
 --   sort_refused, sort_lists     for either, by the sort
 --   vector_one, boolean_one      either is one expression
+use Rattle.std.specs.Prelude.{Err, Ok}
 use Prim.Native.Nat.{ℕ, ◌/◌}
 use mathlib.Core.Path.{◌≡◌, refl, ap, ◌∙◌}
-use mathlib.Core.Bool.{true}
 use mathlib.Core.Logic.{inl, inr}
 use mathlib.Core.List.{List, [], ◌∷◌}
 use lib.ListN.{length, take}
 use Rattle.alf.specs.declared.Rules.{Rules}
 use Rattle.alf.specs.declared.Sort.{Sort}
 use Rattle.alf.specs.declared.Sort.TheVariants as the_sort
-use Rattle.basics.specs.declared.Outcome.{Outcome}
-use Rattle.basics.specs.declared.Outcome.TheVariants.{Done, Refused}
+use Rattle.basics.specs.Refusing.{Outcome}
 use Rattle.alf.specs.Expressions.{Boolean, Vector, Expression, boolean, vector}
 use Rattle.alf.specs.Steady.{meant}
 use Rattle.basics.specs.Words.{all}
@@ -51,9 +50,9 @@ found_listing ρ {names} {r = r} f times states =
 -- the contract, for what the text gives
 module _ {A : Type 0} (ρ : Rules) (into : A → Expression) (one : (a b : A) → into a ≡ into b → a ≡ b)
     (sort : Sort) (shown : A → List ℕ) (names times states text : List ℕ) where
-  text_refused : {r : Read} {out : List ℕ} → ReadsText ρ names text sort r → r.refused ≡ true
-      → Lists ρ into sort shown names times states text out out (Refused r.refusal)
-  text_refused h e = refuses (in_first text (read_order ρ names text sort) _ (read_refused h e)) refl
+  text_refused : {r : Refusal} {out : List ℕ} → ReadsText ρ names text sort (Err r)
+      → Lists ρ into sort shown names times states text out out (Err r)
+  text_refused h = refuses (in_first text (read_order ρ names text sort) _ (read_refused h)) refl
 
   module _ (x : A) (g : Gives ρ names text sort (into x)) where
     room_refused : (room q p : ℕ)
@@ -93,9 +92,9 @@ module _ {A : Type 0} (ρ : Rules) (into : A → Expression) (one : (a b : A) �
         → out' ≡ after (front (shown x) out) out r
         → Lists ρ into sort shown names times states text out out' r
     unfolding Comes after
-    comes_listed out out' p (Done m) h e =
+    comes_listed out out' p (Ok m) h e =
         lists x (passed_both (read_order ρ names text sort) _ p (room_passed (length out) h.0)) g h.1 e
-    comes_listed out out' p (Refused r) h e =
+    comes_listed out out' p (Err r) h e =
         refuses (in_then text (read_order ρ names text sort) _ p (rows_shown (length out) h)) e
 
     pub text_lists : {out out' : List ℕ} {r : Outcome} → Passed (read_order ρ names text sort)
@@ -110,13 +109,13 @@ vector_one p q e = cc
 pub boolean_one : (b c : Boolean) → boolean b ≡ boolean c → b ≡ c
 boolean_one b c e = cc
 
-module _ {names times states text out : List ℕ} {rd : Read} where
-  pub pattern_refused : (ρ : Rules) → ReadsText ρ names text the_sort.Vector rd → rd.refused ≡ true
-      → ListsPattern ρ names times states text out out (Refused rd.refusal)
+module _ {names times states text out : List ℕ} {r : Refusal} where
+  pub pattern_refused : (ρ : Rules) → ReadsText ρ names text the_sort.Vector (Err r)
+      → ListsPattern ρ names times states text out out (Err r)
   pattern_refused ρ = text_refused ρ vector vector_one the_sort.Vector _ names times states text
 
-  pub values_refused : (ρ : Rules) → ReadsText ρ names text the_sort.Boolean rd → rd.refused ≡ true
-      → ListsValues ρ names times states text out out (Refused rd.refusal)
+  pub values_refused : (ρ : Rules) → ReadsText ρ names text the_sort.Boolean (Err r)
+      → ListsValues ρ names times states text out out (Err r)
   values_refused ρ = text_refused ρ boolean boolean_one the_sort.Boolean _ names times states text
 
 module _ {names times states text out out' : List ℕ} {rd : Read} {r : Outcome} where
@@ -144,13 +143,12 @@ module _ {names times states text out out' : List ℕ} {rd : Read} {r : Outcome}
       (text_as (found_listing ρ f times states ∙ ap (listing_of ρ (length names / 32) times states) b.is_boolean_lem) h)
 
 -- by the sort
-pub sort_refused : (ρ : Rules) (sort : Sort) {names text : List ℕ} (times states out : List ℕ) {rd : Read}
-    → ReadsText ρ names text sort rd
-    → rd.refused ≡ true
-    → ListsAs ρ sort names times states text out out (Refused rd.refusal)
+pub sort_refused : (ρ : Rules) (sort : Sort) {names text : List ℕ} (times states out : List ℕ) {r : Refusal}
+    → ReadsText ρ names text sort (Err r)
+    → ListsAs ρ sort names times states text out out (Err r)
 unfolding ListsAs
-sort_refused ρ the_sort.Vector times states out h e = pattern_refused _ h e
-sort_refused ρ the_sort.Boolean times states out h e = values_refused _ h e
+sort_refused ρ the_sort.Vector times states out h = pattern_refused _ h
+sort_refused ρ the_sort.Boolean times states out h = values_refused _ h
 
 pub sort_lists : (ρ : Rules) (sort : Sort) {names text : List ℕ} {out out' : List ℕ} (times states : List ℕ)
     {rd : Read}

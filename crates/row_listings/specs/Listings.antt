@@ -6,13 +6,13 @@
 --   ListsPattern, ListsValues    what the calls come to: one contract, Lists, over what the text gives
 --   ListsAs                      what the function inside gives
 -- That result and buffer follow from the input is a law.
+use Rattle.std.specs.Prelude.{Err, Ok}
 use Rattle.std.specs.Prelude.{ℕ, ◌/◌, ◌≡◌, List, [], ◌∷◌, ◌++◌, length}
 use Rattle.alf.specs.declared.Rules.{Rules}
 use Rattle.alf.specs.declared.Sort.{Sort}
 use Rattle.alf.specs.declared.Sort.TheVariants as the_sort
 use Rattle.basics.specs.declared.Refusal.{Refusal}
-use Rattle.basics.specs.declared.Outcome.{Outcome}
-use Rattle.basics.specs.declared.Outcome.TheVariants.{Done, Refused}
+use Rattle.basics.specs.Refusing.{Outcome}
 use Rattle.alf.specs.Expressions.{Expression, boolean, vector}
 use Rattle.alf.specs.Steady.{meant}
 use Rattle.alf.specs.Refusals.{Row, Order, check, no_room, Passed}
@@ -47,13 +47,13 @@ pub data Lists {A : Type 0} (ρ : Rules) (into : A → Expression) (sort : Sort)
       Passed (list_order ρ into sort shown names times states text (length out)) →
       Gives ρ names text sort (into x) →
       m ≡ length (shown x) →
-      out' ≡ after (front (shown x) out) out (Done m) →
-      Lists ρ into sort shown names times states text out out' (Done m)
+      out' ≡ after (front (shown x) out) out (Ok m) →
+      Lists ρ into sort shown names times states text out out' (Ok m)
   refuses :
       {r : Refusal} →
       RefusedIn text (list_order ρ into sort shown names times states text (length out)) r →
       out' ≡ out →
-      Lists ρ into sort shown names times states text out out' (Refused r)
+      Lists ρ into sort shown names times states text out out' (Err r)
 
 -- of names, times, states, a text, and the buffer before and after
 abbrev pub ListsPattern : Rules → List ℕ → List ℕ → List ℕ → List ℕ → List ℕ → List ℕ → Outcome

@@ -3,7 +3,7 @@
 ghost use Rattle.row_listings.specs.Listings.{ListsPattern, ListsValues, ListsAs};
 
 use alf::{Rules, Sort};
-use basics::Outcome;
+use basics::Refusal;
 use expression_listings::listings::list_tree;
 use reader::read_expression;
 
@@ -16,16 +16,11 @@ fn list_given(
     states: &[u8],
     text: &[u8],
     out: &mut [u8],
-) -> Outcome
+) -> Result<usize, Refusal>
     ensures { ListsAs rules sort names.now times.now states.now
         text.now out.old out.new result }
 {
-    let read = read_expression(rules, names, text, sort);
-    let no = read.refused;
-    if no {
-        let refusal = read.refusal;
-        return Outcome::Refused(refusal);
-    }
+    let read = read_expression(rules, names, text, sort)?;
     let tree = read.tree;
     let len = read.len;
     list_tree(
@@ -47,7 +42,7 @@ pub fn list_text(
     states: &[u8],
     text: &[u8],
     out: &mut [u8],
-) -> Outcome
+) -> Result<usize, Refusal>
     ensures { ListsPattern rules names.now times.now states.now
         text.now out.old out.new result }
 {
@@ -62,7 +57,7 @@ pub fn values_text(
     states: &[u8],
     text: &[u8],
     out: &mut [u8],
-) -> Outcome
+) -> Result<usize, Refusal>
     ensures { ListsValues rules names.now times.now states.now
         text.now out.old out.new result }
 {

@@ -1,34 +1,34 @@
 // Answers by document 01's numbers, numbers tried, where a match began, totals.
-use alf::Began;
-use matcher::tables::number_of;
-use matching_calls::matching::{Counting, Matching};
-use row_calls::written::Told;
+use alf::{Answer, Stamp};
+use basics::Refusal;
+use beginnings::times::Dated;
+use matcher::tables::{Total, number_of};
 use run_printing::printing::{character, number, refusal, wide, write};
 use run_printing::states::entry;
 use std::io::Stdout;
 
-pub fn told(to: Stdout, r: Told) {
+pub fn told(to: Stdout, r: Result<Answer, Refusal>) {
     match r {
-        Told::Answered(a) => entry(to, number_of(a), false),
-        Told::Refused(f) => refusal(to, f),
+        Ok(a) => entry(to, number_of(a), false),
+        Err(f) => refusal(to, f),
     }
 }
 
 // The time where a match began, behind an `@`, where one is given.
-fn since(to: Stdout, b: Began) {
+fn since(to: Stdout, b: Option<Stamp>) {
     match b {
-        Began::At(t) => {
+        Some(t) => {
             character(to, b'@');
             number(to, t.0 as usize);
         }
-        Began::Nowhere => return,
+        None => return,
     }
 }
 
 // An answer, the number tried, and where the match began.
-pub fn matching(to: Stdout, r: Matching) {
+pub fn matching(to: Stdout, r: Result<Dated, Refusal>) {
     match r {
-        Matching::Found(m) => {
+        Ok(m) => {
             let answer = m.answer;
             let tries = m.tries;
             let began = m.began;
@@ -37,7 +37,7 @@ pub fn matching(to: Stdout, r: Matching) {
             number(to, wide(tries));
             since(to, began);
         }
-        Matching::Refused(f) => refusal(to, f),
+        Err(f) => refusal(to, f),
     }
 }
 
@@ -50,9 +50,9 @@ fn totals(to: Stdout, yes: u32, no: u32, unknown: u32) {
     number(to, wide(unknown));
 }
 
-pub fn counting(to: Stdout, r: Counting) {
+pub fn counting(to: Stdout, r: Result<Total, Refusal>) {
     match r {
-        Counting::Counted(t) => totals(to, t.yes, t.no, t.unknown),
-        Counting::Refused(f) => refusal(to, f),
+        Ok(t) => totals(to, t.yes, t.no, t.unknown),
+        Err(f) => refusal(to, f),
     }
 }

@@ -6,10 +6,7 @@ use run_words::lists::least;
 
 // Whether a line's kind stands behind a mark.
 pub fn is_behind(line: &[u8], mark: u8) -> bool {
-    if line.len() < 2 {
-        return false;
-    }
-    line[0] == mark
+    2 <= line.len() && line[0] == mark
 }
 
 // Document 01: "times 0, 10, 20, 35, 40, 55".
@@ -35,37 +32,17 @@ pub fn time_of(early: bool, row: usize) -> u64 {
 
 // The next row, at most row 64.
 pub fn next_row(row: usize) -> usize {
-    if row < 64 { row + 1 } else { 64 }
-}
-
-fn none() -> [u64; 64] {
-    [0u64; 64]
+    row.saturating_add(1).min(64)
 }
 
 // The times of 64 rows.
 pub fn times_of(early: bool) -> [u64; 64] {
-    let mut out = none();
-    let mut i: usize = 0;
-    while i < 64 {
-        out[i] = time_of(early, i);
-        i += 1;
-    }
-    out
-}
-
-fn none_kept() -> [u64; 16] {
-    [0u64; 16]
+    std::array::from_fn(|i| time_of(early, i))
 }
 
 // The times of the 16 rows that a queue may keep.
 pub fn kept_of(early: bool) -> [u64; 16] {
-    let mut out = none_kept();
-    let mut i: usize = 0;
-    while i < 16 {
-        out[i] = time_of(early, i);
-        i += 1;
-    }
-    out
+    std::array::from_fn(|i| time_of(early, i))
 }
 
 // How many times there are for n rows, at most 64.

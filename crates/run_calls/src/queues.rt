@@ -1,6 +1,6 @@
 // Rows pushed onto a queue, with their times.
 use crate::answers::matching;
-use crate::clocks::{kept_of, next_row, time_of};
+use crate::clocks::{kept_of, time_of};
 use alf::{RowNo, Rules, Stamp};
 use queue_calls::pushing::push;
 use run_printing::printing::{character, number, write};
@@ -14,17 +14,12 @@ pub fn by_queue(to: Stdout, rules: Rules, names: usize, tree: &[u8], early: bool
         return;
     }
     let mut queue = empty();
-    let mut row: usize = 0;
-    let mut at: usize = 0;
-    while names <= states.len() - at {
-        let next = at + names;
+    for (row, states) in states.chunks_exact(names).enumerate() {
         let time = Stamp(time_of(early, row));
-        let p = push(rules, names, tree, queue, time, &states[at..next]);
+        let p = push(rules, names, tree, queue, time, states);
         let found = p.told;
         matching(to, found);
         queue = p.queue;
-        row = next_row(row);
-        at = next;
     }
 }
 

@@ -39,8 +39,7 @@ pub fn at_rows(
     states: &[u8],
     from: usize,
 ) {
-    let mut i = from;
-    while i < n {
+    for i in from..n {
         at_row(
             to,
             rules,
@@ -52,7 +51,6 @@ pub fn at_rows(
             states,
             RowNo(narrow(i)),
         );
-        i += 1;
     }
 }
 

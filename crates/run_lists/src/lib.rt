@@ -5,7 +5,7 @@
 ghost use Rattle.std.specs.Prelude.{◌≤◌};
 
 use alf::{RowNo, Rules};
-use basics::Outcome;
+use basics::Refusal;
 use matching_calls::matching::match_all;
 use run_calls::clocks::{count_of, is_behind, times_of};
 use run_printing::printing::{character, number, outcome, write};
@@ -24,7 +24,7 @@ fn match_in(
     tried: &mut [u32],
     given: &mut [u8],
     began: &mut [u64],
-) -> Outcome {
+) -> Result<usize, Refusal> {
     let n = number_in(line, 2);
     let times = times_of(is_behind(line, b'-'));
     let c = count_of(line, n);
@@ -49,7 +49,7 @@ fn correct_in(
     tree: &[u8],
     states: &mut [u8],
     answers: &mut [u8],
-) -> Outcome {
+) -> Result<usize, Refusal> {
     let row = narrow(number_in(line, 4));
     let names = number_in(line, 1);
     let n = number_in(line, 2);
@@ -66,7 +66,7 @@ fn correct_in(
 }
 
 // The row that is corrected, and what the correction comes to.
-fn show_correction(to: Stdout, line: &[u8], c: Outcome) {
+fn show_correction(to: Stdout, line: &[u8], c: Result<usize, Refusal>) {
     write(to, b", row ");
     number(to, number_in(line, 4));
     list(to, b" becomes", list_in(line, 5), 64, true);
@@ -75,7 +75,14 @@ fn show_correction(to: Stdout, line: &[u8], c: Outcome) {
 }
 
 // All answers and the correction, with the totals in between.
-fn show_both(to: Stdout, rules: Rules, line: &[u8], tree: &[u8], m: Outcome, c: Outcome) {
+fn show_both(
+    to: Stdout,
+    rules: Rules,
+    line: &[u8],
+    tree: &[u8],
+    m: Result<usize, Refusal>,
+    c: Result<usize, Refusal>,
+) {
     outcome(to, m);
     character(to, b',');
     totals_in(to, rules, line, tree);
@@ -90,8 +97,8 @@ fn show_outcomes(
     kind: u8,
     line: &[u8],
     tree: &[u8],
-    m: Outcome,
-    c: Outcome,
+    m: Result<usize, Refusal>,
+    c: Result<usize, Refusal>,
 ) {
     match kind {
         b'v' => write(to, b" all"),
@@ -127,7 +134,7 @@ fn lend_behind(
     kind: u8,
     line: &[u8],
     tree: &[u8],
-    m: Outcome,
+    m: Result<usize, Refusal>,
     given: [u8; 64],
     a: usize,
 )
@@ -177,14 +184,9 @@ fn show_tried(to: Stdout, kind: u8, tried: &[u32; 64], t: usize) {
 // The first times where matches began.
 fn list_began(to: Stdout, entries: &[u64], count: usize) {
     write(to, b" began");
-    let mut i: usize = 0;
-    while i < entries.len() {
-        if i >= count {
-            return;
-        }
+    for time in entries.iter().take(count) {
         character(to, b' ');
-        number(to, entries[i] as usize);
-        i += 1;
+        number(to, *time as usize);
     }
 }
 

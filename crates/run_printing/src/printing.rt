@@ -1,6 +1,6 @@
 // Words, characters, numbers, refusals, and how much is done. What standard output does not take is missed where the
 // output is compared, so no write says whether it failed.
-use basics::{Outcome, Refusal};
+use basics::Refusal;
 use std::io::Stdout;
 
 pub fn write(to: Stdout, text: &[u8]) {
@@ -47,13 +47,13 @@ pub fn refusal(to: Stdout, r: Refusal) {
 }
 
 // How much is done.
-pub fn outcome(to: Stdout, r: Outcome) {
+pub fn outcome(to: Stdout, r: Result<usize, Refusal>) {
     match r {
-        Outcome::Done(n) => {
+        Ok(n) => {
             write(to, b" done ");
             number(to, n);
         }
-        Outcome::Refused(f) => refusal(to, f),
+        Err(f) => refusal(to, f),
     }
 }
 

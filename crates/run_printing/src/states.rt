@@ -1,6 +1,6 @@
 // States by their letters, and lists.
 use crate::printing::{character, number, refusal, small, wide, write};
-use basics::Outcome;
+use basics::Refusal;
 use std::io::Stdout;
 
 // The letter or digit of a state, and of any other byte 0.
@@ -39,38 +39,28 @@ pub fn entry(to: Stdout, code: u8, states: bool) {
 // A word and the first entries of a list, which are states or numbers.
 pub fn list(to: Stdout, word: &[u8], entries: &[u8], count: usize, states: bool) {
     write(to, word);
-    let mut i: usize = 0;
-    while i < entries.len() {
-        if i >= count {
-            return;
-        }
-        entry(to, entries[i], states);
-        i += 1;
+    for code in entries.iter().take(count) {
+        entry(to, *code, states);
     }
 }
 
 // The first numbers tried.
 pub fn list_tried(to: Stdout, entries: &[u32], count: usize) {
     write(to, b" tried");
-    let mut i: usize = 0;
-    while i < entries.len() {
-        if i >= count {
-            return;
-        }
+    for n in entries.iter().take(count) {
         character(to, b' ');
-        number(to, wide(entries[i]));
-        i += 1;
+        number(to, wide(*n));
     }
 }
 
 // A state that is answered.
-pub fn state(to: Stdout, r: Outcome) {
+pub fn state(to: Stdout, r: Result<usize, Refusal>) {
     match r {
-        Outcome::Done(n) => {
+        Ok(n) => {
             if n < 8 {
                 entry(to, n as u8, true);
             }
         }
-        Outcome::Refused(f) => refusal(to, f),
+        Err(f) => refusal(to, f),
     }
 }

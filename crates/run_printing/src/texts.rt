@@ -14,10 +14,8 @@ fn quote_byte(to: Stdout, b: u8) {
 
 // Each byte.
 pub fn quote(to: Stdout, text: &[u8]) {
-    let mut i = 0;
-    while i < text.len() {
-        quote_byte(to, text[i]);
-        i += 1;
+    for b in text {
+        quote_byte(to, *b);
     }
 }
 

@@ -75,14 +75,6 @@ pub fn zeros_in(to: Stdout, rules: Rules, line: &[u8], tree: &[u8]) {
     character(to, b'\n');
 }
 
-// The first entry, or 0.
-fn first_of(list: &[u8]) -> u8 {
-    if list.len() == 0 {
-        return 0;
-    }
-    list[0]
-}
-
 // A push of the new row onto a queue that keeps so many rows as word 2 says, and whose first state is that of word 3.
 pub fn push_in(to: Stdout, rules: Rules, line: &[u8], tree: &[u8]) {
     let names = number_in(line, 1);
@@ -95,7 +87,7 @@ pub fn push_in(to: Stdout, rules: Rules, line: &[u8], tree: &[u8]) {
         tree,
         is_behind(line, b'-'),
         kept,
-        first_of(list_in(line, 3)),
+        list_in(line, 3).first().copied().unwrap_or(0),
         list_in(line, 5),
     );
 }

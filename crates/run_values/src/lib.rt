@@ -3,7 +3,7 @@
 #![tactic(auto)]
 
 use alf::Rules;
-use basics::Outcome;
+use basics::Refusal;
 use row_calls::written::values;
 use run_printing::printing::{character, outcome};
 use run_printing::states::list;
@@ -12,7 +12,7 @@ use run_words::words::{list_in, number_in};
 use std::io::Stdout;
 
 // All values of a case; or what they come to, and the list afterwards.
-fn show_values(to: Stdout, kind: u8, v: Outcome, out: &[u8; 64], a: usize) {
+fn show_values(to: Stdout, kind: u8, v: Result<usize, Refusal>, out: &[u8; 64], a: usize) {
     if kind == b'b' {
         return list(to, b" values", out, a, true);
     }

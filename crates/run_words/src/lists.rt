@@ -2,6 +2,8 @@
 // byte that it stands for. A list that is lent is a copy.
 ghost use Rattle.std.specs.Prelude.{◌≤◌};
 
+use text_parts::puts::put;
+
 // What a character stands for inside a list: a digit for itself, a letter for a state, `F` for 255, in a
 // tree `s` for `->` and `m` for the edge `?-`, any other for its own byte.
 fn code_of(inside: bool, b: u8) -> u8 {
@@ -27,8 +29,7 @@ fn code_of(inside: bool, b: u8) -> u8 {
 fn goes_on(inside: bool, b: u8) -> bool {
     match b {
         b':' => true,
-        b' ' => false,
-        b'\n' => false,
+        b' ' | b'\n' => false,
         _ => inside,
     }
 }
@@ -36,12 +37,10 @@ fn goes_on(inside: bool, b: u8) -> bool {
 // Each list of the input, in place.
 pub fn decode(input: &mut [u8]) {
     let mut inside = false;
-    let mut i: usize = 0;
-    while i < input.len() {
-        let b = input[i];
-        input[i] = code_of(inside, b);
-        inside = goes_on(inside, b);
-        i += 1;
+    for b in input.iter_mut() {
+        let read = *b;
+        *b = code_of(inside, read);
+        inside = goes_on(inside, read);
     }
 }
 
@@ -49,16 +48,12 @@ pub fn decode(input: &mut [u8]) {
 pub fn least(n: usize) -> usize
     ensures { result ≤ 64 }
 {
-    if n < 64 { n } else { 64 }
+    n.min(64)
 }
 
 // A number as a u32, at most the largest.
 pub fn narrow(n: usize) -> u32 {
-    if n <= 4294967295 {
-        n as u32
-    } else {
-        4294967295
-    }
+    u32::try_from(n).unwrap_or(u32::MAX)
 }
 
 pub fn zeros() -> [u8; 64] {
@@ -68,13 +63,6 @@ pub fn zeros() -> [u8; 64] {
 // The first 64 entries of a list, and zeros behind.
 pub fn copy_of(list: &[u8]) -> [u8; 64] {
     let mut out = zeros();
-    let mut i: usize = 0;
-    while i < list.len() {
-        if i >= 64 {
-            return out;
-        }
-        out[i] = list[i];
-        i += 1;
-    }
+    put(&mut out, 0, list);
     out
 }

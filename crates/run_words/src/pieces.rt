@@ -8,10 +8,8 @@ use text_parts::puts::put;
 // A piece so many times.
 fn repeat(out: &mut [u8], at: usize, piece: &[u8], times: usize) -> usize {
     let mut to = at;
-    let mut k = 0;
-    while k < times {
+    for _ in 0..times {
         to = put(out, to, piece);
-        k += 1;
     }
     to
 }
@@ -64,6 +62,7 @@ fn part_end(text: &[u8], i: usize) -> usize
 pub fn expand(out: &mut [u8], text: &[u8]) -> usize {
     let mut to: usize = 0;
     let mut i: usize = 0;
+    // Where a piece ends is known behind it: no range to go over.
     while i < text.len() {
         let next = part_end(text, i);
         to = put_part(out, to, &text[i..next]);

@@ -14,10 +14,8 @@ fn with_digit(n: usize, b: u8) -> usize {
 // The number that the digits from `from` on make.
 pub fn number_from(part: &[u8], from: usize) -> usize {
     let mut n: usize = 0;
-    let mut i = from;
-    while i < part.len() {
-        n = with_digit(n, part[i]);
-        i += 1;
+    for b in part.iter().skip(from) {
+        n = with_digit(n, *b);
     }
     n
 }
@@ -30,11 +28,7 @@ pub fn number_in(line: &[u8], k: usize) -> usize {
 // The list that word k is: what stands behind the colon.
 pub fn list_in(line: &[u8], k: usize) -> &[u8] {
     let word = part(line, k, b' ');
-    let end = word.len();
-    if end < 1 {
-        return word;
-    }
-    &word[1..end]
+    word.get(1..).unwrap_or(word)
 }
 
 // The value of a hexadecimal digit.

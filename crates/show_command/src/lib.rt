@@ -6,7 +6,7 @@
 ghost use Rattle.std.specs.Prelude.{◌≡◌, ◌+◌, ◌<◌, min};
 
 use activity::texts::activity_part;
-use basics::Outcome;
+use basics::Refusal;
 use complaints::refused;
 use console::output::{Console, say_front};
 
@@ -14,10 +14,10 @@ use console::output::{Console, say_front};
 const ROWS: usize = 1000;
 
 // What was made is printed, or it is said why there is nothing.
-fn tell(console: &Console, out: &[u8], o: Outcome) {
+fn tell(console: &Console, out: &[u8], o: Result<usize, Refusal>) {
     match o {
-        Outcome::Done(n) => say_front(console, out, n),
-        Outcome::Refused(r) => refused(console, b"trace", r),
+        Ok(n) => say_front(console, out, n),
+        Err(r) => refused(console, b"trace", r),
     }
 }
 
@@ -25,13 +25,7 @@ fn tell(console: &Console, out: &[u8], o: Outcome) {
 fn end_of(r: usize, n: usize) -> usize
     ensures { r < n → result ≡ min (r + 1000) n }
 {
-    if n <= r {
-        return n;
-    }
-    if n - r <= ROWS {
-        return n;
-    }
-    r + ROWS
+    n.min(r.saturating_add(ROWS))
 }
 
 // The rows from row r on.
@@ -49,23 +43,17 @@ fn show_some(
 }
 
 fn show_all(console: &Console, names: &[u8], times: &[u64], states: &[u8], out: &mut [u8]) {
-    let mut r: usize = 0;
-    while r < times.len() {
+    for r in (0..times.len()).step_by(ROWS) {
         if console.is_unread() {
             return;
         }
         show_some(console, names, times, states, r, out);
-        r += ROWS;
     }
-}
-
-fn lent(console: &Console, names: &[u8], times: &[u64], states: &[u8], out: &mut [u8; 1145069]) {
-    show_all(console, names, times, states, out);
 }
 
 // Room for the longest: the head, and 1,000 rows with times of ten digits and 32 names of 32 bytes that change at each
 // row (part_fits in activity/proofs/Longest).
 pub fn show(console: &Console, names: &[u8], times: &[u64], states: &[u8]) {
     let mut out = [0u8; 1145069];
-    lent(console, names, times, states, &mut out);
+    show_all(console, names, times, states, out.as_mut_slice());
 }

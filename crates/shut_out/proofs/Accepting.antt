@@ -10,6 +10,7 @@
 --   text_4097                a text of 4,097 bytes: 1 at 4,096
 -- Of any call, number and place are `no_other` of Refusing, RefusingRows, RefusingUpdates, RefusingLists,
 -- RefusingTexts.
+use Rattle.std.specs.Prelude.{Result, Err}
 use Prim.Native.Nat.{ℕ, ◌<◌, ◌≤◌}
 use native.Mathlib.Omega.{arith}
 use mathlib.Core.Path.{◌≡◌, refl}
@@ -19,8 +20,7 @@ use lib.ListN.{length}
 use Rattle.alf.specs.declared.Rules.{Rules}
 use Rattle.alf.specs.declared.Sort.{Sort}
 use Rattle.alf.specs.declared.Sort.TheVariants.{Vector}
-use Rattle.basics.specs.declared.Outcome.{Outcome}
-use Rattle.basics.specs.declared.Outcome.TheVariants as outcome
+use Rattle.basics.specs.Refusing.{Outcome}
 use Rattle.alf.specs.Alternatives.{steps_of}
 use Rattle.alf.specs.Refusals.{early_row, Rising, RefusedWith, bad_code}
 use Rattle.acceptance.specs.Accepted.{Accepted}
@@ -29,12 +29,12 @@ use Rattle.alf.specs.States.{among}
 use Rattle.tokens.specs.Extents.{other}
 use Rattle.names.specs.Check.{names_order}
 use Rattle.tokens.specs.Texts.{order}
+use Rattle.basics.specs.declared.Refusal.{Refusal}
 use Rattle.reader.specs.declared.Read.{Read}
 use Rattle.reader.specs.Reads.{refused_with}
 use Rattle.reader.specs.Reading.{tree_order, ReadsText}
 use Rattle.timed_queue.specs.declared.queues.Queue.{Queue}
-use Rattle.matching_calls.specs.declared.matching.Matching.{Matching}
-use Rattle.matching_calls.specs.declared.matching.Matching.TheVariants as matching
+use Rattle.matching_calls.specs.Matching.{Matching}
 use Rattle.matching_calls.specs.Matching.{expression, RowMatch, AllMatched}
 use Rattle.update_calls.specs.Correcting.{Correction}
 use Rattle.queue_calls.specs.Pushing.{RowFits, Handed, Early, Push}
@@ -50,14 +50,14 @@ use Rattle.shut_out.proofs.RefusingUpdates.{correct, push}
 
 module _ {ρ : Rules} {k n : ℕ} {tree times codes : List ℕ} {row : ℕ} (x : Matching)
     (w : RowMatch ρ k n tree times codes row x) where
-  pub names_33 : 32 < k → x ≡ matching.Refused (refusal 18 0)
+  pub names_33 : 32 < k → x ≡ Err (refusal 18 0)
   unfolding RefusedWith
   names_33 h =
       ((match_row_lem k n tree codes row times).no_other (refusal 18 0)
       (plainly _ 18 0 (inl (refl, record { given = λ l. omega (arith, h, l.1.name_count_lem.1); there = refl }))) x tt
       w).0
 
-  pub rows_65536 : 65535 < n → x ≡ matching.Refused (refusal 18 0)
+  pub rows_65536 : 65535 < n → x ≡ Err (refusal 18 0)
   unfolding RefusedWith
   rows_65536 h =
       ((match_row_lem k n tree codes row times).no_other (refusal 18 0)
@@ -65,7 +65,7 @@ module _ {ρ : Rules} {k n : ℕ} {tree times codes : List ℕ} {row : ℕ} (x :
       ).0
 
   module _ (a : Accepted ρ k Vector tree) where
-    pub row_n : GoodTrace k n codes → GoodTimes n times → n ≤ row → x ≡ matching.Refused (refusal 19 0)
+    pub row_n : GoodTrace k n codes → GoodTimes n times → n ≤ row → x ≡ Err (refusal 19 0)
     unfolding RefusedWith
     row_n g s h =
         ((match_row_lem k n tree codes row times).no_other (refusal 19 0)
@@ -82,7 +82,7 @@ module _ {ρ : Rules} {k n : ℕ} {tree times codes : List ℕ} {row : ℕ} (x :
 
     -- a row whose time is not above the last row's
     pub time_not_above : {i : ℕ} → GoodTrace k n codes → length times ≡ n → early_row times i
-        → x ≡ matching.Refused (refusal 13 i)
+        → x ≡ Err (refusal 13 i)
     unfolding RefusedWith
     time_not_above {i} g s b =
         ((match_row_lem k n tree codes row times).no_other (refusal 13 i)
@@ -92,7 +92,7 @@ module _ {ρ : Rules} {k n : ℕ} {tree times codes : List ℕ} {row : ℕ} (x :
         ))) x tt w).0
 
     pub code_8 : {i : ℕ} → length times ≡ n → Rows k n (length codes) → bad_code codes i
-        → x ≡ matching.Refused (refusal 15 i)
+        → x ≡ Err (refusal 15 i)
     unfolding RefusedWith
     code_8 {i} s l b =
         ((match_row_lem k n tree codes row times).no_other (refusal 15 i)
@@ -100,14 +100,14 @@ module _ {ρ : Rules} {k n : ℕ} {tree times codes : List ℕ} {row : ℕ} (x :
 
 module _ {ρ : Rules} {k n : ℕ} {tree codes answers : List ℕ} {row : ℕ} {new codes' answers' : List ℕ} (o : Outcome)
     (w : Correction ρ k n tree codes answers row new codes' answers' o) where
-  pub new_row_short : (length new ≡ k → ⊥) → o ≡ outcome.Refused (refusal 18 0)
+  pub new_row_short : (length new ≡ k → ⊥) → o ≡ Err (refusal 18 0)
   unfolding RefusedWith
   new_row_short h =
       ((correct ρ k n tree codes answers row new).no_other (refusal 18 0)
       (plainly _ 18 0 (inl (refl, record { given = λ l. h l.full; there = refl }))) o (codes', answers') w).0
 
   pub new_code_8 : {i : ℕ} → GoodTrace k n codes → Accepted ρ k Vector tree → length answers ≡ n → length new ≡ k
-      → bad_code new i → o ≡ outcome.Refused (refusal 15 i)
+      → bad_code new i → o ≡ Err (refusal 15 i)
   unfolding RefusedWith
   new_code_8 {i} g a room full b =
       ((correct ρ k n tree codes answers row new).no_other (refusal 15 i)
@@ -119,7 +119,7 @@ module _ {ρ : Rules} {k n : ℕ} {tree codes answers : List ℕ} {row : ℕ} {n
 pub queue_over_K : {ρ : Rules} {k : ℕ} {tree : List ℕ} {queue : Queue} {time : ℕ} {row : List ℕ} {queue' : Queue}
     (x : Matching) → Push ρ k tree queue time row x queue' → RowFits k (length row)
     → steps_of (expression ρ tree k) < queue.rows.kept.0
-    → x ≡ matching.Refused (refusal 10 0)
+    → x ≡ Err (refusal 10 0)
 unfolding RefusedWith
 queue_over_K {ρ} {k} {tree} {queue} {time} {row} {queue'} x w f h =
     ((push ρ k tree queue time row).no_other (refusal 10 0)
@@ -131,7 +131,7 @@ queue_over_K {ρ} {k} {tree} {queue} {time} {row} {queue'} x w f h =
 -- a queue whose times do not rise; a row whose time is not above the last
 module _ {ρ : Rules} {k : ℕ} {tree : List ℕ} {queue : Queue} {time : ℕ} {row : List ℕ} {queue' : Queue} (x : Matching)
     (w : Push ρ k tree queue time row x queue') (f : RowFits k (length row)) where
-  pub queue_not_rising : (Rising (held_times queue) → ⊥) → x ≡ matching.Refused (refusal 10 0)
+  pub queue_not_rising : (Rising (held_times queue) → ⊥) → x ≡ Err (refusal 10 0)
   unfolding RefusedWith
   queue_not_rising h =
       ((push ρ k tree queue time row).no_other (refusal 10 0)
@@ -140,7 +140,7 @@ module _ {ρ : Rules} {k : ℕ} {tree : List ℕ} {queue : Queue} {time : ℕ} {
         inl (refl, record { given = λ g. h g.kept.rising; there = refl }),
       ))) x queue' w).0
 
-  pub push_not_above : Handed ρ k tree queue → Codes row → Early queue time → x ≡ matching.Refused (refusal 13 0)
+  pub push_not_above : Handed ρ k tree queue → Codes row → Early queue time → x ≡ Err (refusal 13 0)
   unfolding RefusedWith
   push_not_above g c h =
       ((push ρ k tree queue time row).no_other (refusal 13 0)
@@ -156,7 +156,7 @@ pub short_tried : {ρ : Rules} {k n : ℕ}
     {tree times codes answers tried given began answers' tried' given' began' : List ℕ}
     (o : Outcome)
     → AllMatched ρ k n tree times codes answers tried given began answers' tried' given' began' o
-    → (length tried ≡ n → ⊥) → o ≡ outcome.Refused (refusal 18 0)
+    → (length tried ≡ n → ⊥) → o ≡ Err (refusal 18 0)
 unfolding RefusedWith
 short_tried {ρ} {k} {n} {tree} {times} {codes} {answers} {tried} {given} {began} {answers'} {tried'} {given'} {began'} o
     w h =
@@ -164,8 +164,8 @@ short_tried {ρ} {k} {n} {tree} {times} {codes} {answers} {tried} {given} {began
     (plainly _ 18 0 (inl (refl, record { given = λ l. h l.0.tried_all; there = refl }))) o
     (answers', tried', given', began') w).0
 
-pub text_4097 : {ρ : Rules} {names text : List ℕ} {sort : Sort} (x : Read) → GoodNames names → 4096 < length text
-    → ReadsText ρ names text sort x → x ≡ refused_with 1 4096
+pub text_4097 : {ρ : Rules} {names text : List ℕ} {sort : Sort} (x : Result Read Refusal) → GoodNames names
+    → 4096 < length text → ReadsText ρ names text sort x → x ≡ refused_with 1 4096
 unfolding RefusedWith order among
 text_4097 {ρ} {names} {text} {sort} x g h w =
     ((read_expression_lem ρ names text sort).no_other (refusal 1 4096)

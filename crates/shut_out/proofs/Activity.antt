@@ -6,6 +6,7 @@
 --   activity_attached       the function's contract
 --   PartShowable, activity_part, part_on_T, no_other_part, part_attached      the same of a part
 --   blocks_shown            a trace in blocks of up to 1,000 rows: no block is refused that has 1,145,069 bytes of room
+use Rattle.std.specs.Prelude.{Err, Ok}
 use Prim.Native.Nat.{ℕ, ◌-◌, ◌≤◌}
 use native.Mathlib.Omega.{arith}
 use mathlib.Core.Path.{◌≡◌, refl}
@@ -14,8 +15,7 @@ use lib.ListN.{length}
 use contract.Lifetimes.{Lfts}
 use borrow.Fn.Kinds.{Dens}
 use Rattle.alf.specs.Values.{old_rules_lem}
-use Rattle.basics.specs.declared.Outcome.{Outcome}
-use Rattle.basics.specs.declared.Outcome.TheVariants as outcome
+use Rattle.basics.specs.Refusing.{Outcome}
 use Rattle.basics.specs.declared.Refusal.{Refusal}
 use Rattle.basics.specs.Memory.{front, after}
 use Rattle.alf.specs.Refusals.{Passed, Comes}
@@ -49,7 +49,7 @@ module _ (names times states : List ℕ) (n : ℕ) (out : List ℕ) where
       passed_both (lists_order names times states n) _ (trace_passes g.trace)
       ((λ p a. omega (arith, a.given, g.room)), tt)
 
-  pub activity : Exactly Showable (activity_order names times states n (length out)) outcome.Refused
+  pub activity : Exactly Showable (activity_order names times states n (length out)) Err
       (λ r m. ListsActivity names times states n out m r) out
   unfolding Comes after
   activity =
@@ -61,14 +61,14 @@ module _ (names times states : List ℕ) (n : ℕ) (out : List ℕ) where
         one = ((demand_1 {ρ = old_rules_lem}).activity names times states n out).one;
       })
 
-  pub no_other_activity : {m : ℕ} {out' : List ℕ} → ListsActivity names times states n out out' (outcome.Done m)
+  pub no_other_activity : {m : ℕ} {out' : List ℕ} → ListsActivity names times states n out out' (Ok m)
       → (m ≡ length (activity_text names times states n)) × (out' ≡ front (activity_text names times states n) out)
   unfolding Comes after
   no_other_activity w = (w.outcome.1, w.memory)
 
 pub activity_on_T : {out out' : List ℕ} (r : Refusal)
     → length (activity_text letters times states rows) ≤ length out
-    → ListsActivity letters times states rows out out' (outcome.Refused r) → ⊥
+    → ListsActivity letters times states rows out out' (Err r) → ⊥
 activity_on_T {out} {out'} r room w =
     (activity letters times states rows out).no_refusal (record { trace = trace_T; room = room }) r out' w
 
@@ -96,7 +96,7 @@ module _ (names times states : List ℕ) (n from to : ℕ) (out : List ℕ) wher
             ((λ p a. omega (arith, a.given, g.room)), tt),
       )
 
-  pub activity_part : Exactly PartShowable (part_order names times states n from to (length out)) outcome.Refused
+  pub activity_part : Exactly PartShowable (part_order names times states n from to (length out)) Err
       (λ r m. ListsPart names times states n from to out m r) out
   unfolding Comes after
   activity_part =
@@ -108,7 +108,7 @@ module _ (names times states : List ℕ) (n from to : ℕ) (out : List ℕ) wher
         one = ((demand_1 {ρ = old_rules_lem}).activity_part names times states n from to out).one;
       })
 
-  pub no_other_part : {m : ℕ} {out' : List ℕ} → ListsPart names times states n from to out out' (outcome.Done m)
+  pub no_other_part : {m : ℕ} {out' : List ℕ} → ListsPart names times states n from to out out' (Ok m)
       → (m ≡ length (part_text names (names_in names) times states from (to - from)))
       × (out' ≡ front (part_text names (names_in names) times states from (to - from)) out)
   unfolding Comes after
@@ -116,14 +116,14 @@ module _ (names times states : List ℕ) (n from to : ℕ) (out : List ℕ) wher
 
   -- the blocks of the program `show`
   pub blocks_shown : Trace names times states n → PartOf n from to → to - from ≤ 1000 → 1145069 ≤ length out
-      → (r : Refusal) (out' : List ℕ) → ListsPart names times states n from to out out' (outcome.Refused r) → ⊥
+      → (r : Refusal) (out' : List ℕ) → ListsPart names times states n from to out out' (Err r) → ⊥
   blocks_shown t p few room =
       activity_part.no_refusal
       (record { trace = t; part = p; room = omega (arith, part_fits t from (to - from), few, room) })
 
 pub part_on_T : {out out' : List ℕ} {from to : ℕ} (r : Refusal) → PartOf rows from to
     → length (part_text letters (names_in letters) times states from (to - from)) ≤ length out
-    → ListsPart letters times states rows from to out out' (outcome.Refused r) → ⊥
+    → ListsPart letters times states rows from to out out' (Err r) → ⊥
 part_on_T {out} {out'} {from} {to} r p room w =
     (activity_part letters times states rows from to out).no_refusal
     (record { trace = trace_T; part = p; room = room }) r out' w

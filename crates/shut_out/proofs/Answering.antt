@@ -6,6 +6,7 @@
 --   unknown_as_no, unknown_as_no_matched, unknown_as_no_listed   row 4 of case 1
 --   flag_turned                                                  01 A is not reported as contradictory
 -- The idea: T answers 3 at row 0, 1 at row 1 and 2 at row 4, which is computed; a contract allows no other.
+use Rattle.std.specs.Prelude.{Err, Ok}
 use Prim.Native.Nat.{ℕ, zero, suc, ◌+◌, ◌<◌}
 use native.Mathlib.Omega.{arith}
 use mathlib.Core.Path.{◌≡◌, refl, sym, ap, ◌∙◌}
@@ -13,10 +14,9 @@ use mathlib.Core.List.{List, [], ◌∷◌, ◌++◌}
 use lib.ListN.{length, get_or, drop, replicate}
 use Rattle.alf.specs.declared.Rules.{Rules}
 use Rattle.alf.specs.declared.Answer.{Answer}
-use Rattle.alf.specs.declared.Began.{Began}
+use Rattle.alf.specs.Beginnings.{Began}
 use Rattle.alf.specs.declared.Answer.TheVariants.{No, NoEvent}
-use Rattle.basics.specs.declared.Outcome.{Outcome}
-use Rattle.basics.specs.declared.Outcome.TheVariants as outcome
+use Rattle.basics.specs.Refusing.{Outcome}
 use Rattle.basics.specs.Words.{greatest, listed, count, some, all}
 use Rattle.alf.specs.States.{reduce}
 use Rattle.alf.specs.Expressions.{Vector}
@@ -37,12 +37,9 @@ use Rattle.beginnings.specs.declared.times.Dated.{Dated}
 use Rattle.contradictions.specs.Possible.{flag_of, flag_list}
 use Rattle.rewriting_calls.specs.Calls as rewriting
 use Rattle.contradictions.specs.Calls.{own_at, Contradicts}
-use Rattle.changes.specs.declared.RowChanges.TheVariants as row_changes
 use Rattle.changes.specs.Call as changes
-use Rattle.row_calls.specs.declared.written.Told.{Told}
-use Rattle.row_calls.specs.declared.written.Told.TheVariants as told
-use Rattle.matching_calls.specs.declared.matching.Matching.{Matching}
-use Rattle.matching_calls.specs.declared.matching.Matching.TheVariants as matching
+use Rattle.row_calls.specs.Written.{Answering}
+use Rattle.matching_calls.specs.Matching.{Matching}
 use Rattle.row_calls.specs.Written.{Tells, RowAnswer, AllValues}
 use Rattle.basics.specs.Memory.{after}
 use Rattle.matching_calls.specs.Matching.{Lent, expression, Finds, RowMatch, AllMatched}
@@ -57,17 +54,17 @@ abbrev pub at : Rules → Vector → ℕ → ℕ
 at ρ p i = row_answer (state_at ρ names states) p i
 
 -- the numbers that are told: of an answer, and of tries
-unfoldable pub number : Told → ℕ
-number (told.Answered a) = number_of a
-number (told.Refused r) = 4
+unfoldable pub number : Answering → ℕ
+number (Ok a) = number_of a
+number (Err r) = 4
 
 unfoldable pub number_found : Matching → ℕ
-number_found (matching.Found m) = number_of m.answer
-number_found (matching.Refused r) = 4
+number_found (Ok m) = number_of m.answer
+number_found (Err r) = 4
 
 unfoldable pub tries_found : Matching → ℕ
-tries_found (matching.Found m) = m.tries
-tries_found (matching.Refused r) = 0
+tries_found (Ok m) = m.tries
+tries_found (Err r) = 0
 
 -- case 1, computed at the rows that are used
 rises_0 : (ρ : Rules) → at ρ rises 0 ≡ 3
@@ -84,7 +81,7 @@ unfolding states row_answer numbered best answer greatest value recorded_or stat
     reduce
 rises_4 ρ = refl
 
-row_number_lem : {ρ : Rules} (i : ℕ) → i < rows → (x : Told) → RowAnswer ρ names rows (T.asked rises) states i x
+row_number_lem : {ρ : Rules} (i : ℕ) → i < rows → (x : Answering) → RowAnswer ρ names rows (T.asked rises) states i x
     → number x ≡ at ρ rises i
 unfolding number
 row_number_lem {ρ} i l x w =
@@ -100,7 +97,7 @@ row_found {ρ} i l x w =
     ap number_found a.is ∙ (rw (rises_is ρ) at a.numbered)
 
 -- "one answer for all rows"
-pub one_answer_for_all : {ρ : Rules} (x : Told)
+pub one_answer_for_all : {ρ : Rules} (x : Answering)
     → ((i : ℕ) → i < rows → RowAnswer ρ names rows (T.asked rises) states i x) → ⊥
 one_answer_for_all {ρ} x w =
     let a = sym (row_number_lem 0 (omega arith) x (w 0 (omega arith)))
@@ -114,13 +111,13 @@ one_match_for_all {ρ} x w =
     omega (arith, a, rises_0 ρ, rises_1 ρ)
 
 -- unknown given as no
-pub unknown_as_no : {ρ : Rules} → RowAnswer ρ names rows (T.asked rises) states 4 (told.Answered No) → ⊥
+pub unknown_as_no : {ρ : Rules} → RowAnswer ρ names rows (T.asked rises) states 4 (Ok No) → ⊥
 unfolding number number_of
 unknown_as_no {ρ} w = omega (arith, row_number_lem 4 (omega arith) _ w, rises_4 ρ)
 
 pub unknown_as_no_matched : {ρ : Rules} (t : ℕ) (b : Began)
     → RowMatch ρ names rows (T.asked rises) times states 4
-    (matching.Found (record { answer = No; tries = t; began = b }))
+    (Ok (record { answer = No; tries = t; began = b }))
     → ⊥
 unfolding number_found number_of
 unknown_as_no_matched {ρ} t b w = omega (arith, row_found 4 (omega arith) _ w, rises_4 ρ)
@@ -135,8 +132,8 @@ module _ {answers tried given began answers' tried' given' began' : List ℕ}
       → AllMatched ρ names rows (T.asked rises) times states answers tried given began answers' tried' given' began' o
       → answers' ≡ listed 0 rows (at ρ (expression ρ (T.asked rises) names))
   unfolding Comes after
-  list_right (outcome.Done k) w = w.answers_memory
-  list_right (outcome.Refused r) w =
+  list_right (Ok k) w = w.answers_memory
+  list_right (Err r) w =
       absurd
       ((match_all names rows (T.asked rises) states times answers tried given began).no_refusal
       (record { trace = trace_good; accepted = rises_accepted; rising = times_good.rising; room = room }) r
@@ -164,13 +161,13 @@ module _ {answers tried given began answers' tried' given' began' : List ℕ}
 
 -- row 0 has no event, no alternative is tried there, and nothing changed; whatever the tree and the trace
 pub row_0_answered : {ρ : Rules} {k n : ℕ} {tree codes : List ℕ} (a : Answer)
-    → RowAnswer ρ k n tree codes 0 (told.Answered a)
+    → RowAnswer ρ k n tree codes 0 (Ok a)
     → (a ≡ NoEvent → ⊥) → ⊥
 unfolding Tells row_answer number_of
 row_0_answered a w differ = differ (number_same a NoEvent w.comes.1)
 
 pub row_0_tried : {ρ : Rules} {k n : ℕ} {tree times codes : List ℕ} (m : Dated)
-    → RowMatch ρ k n tree times codes 0 (matching.Found m)
+    → RowMatch ρ k n tree times codes 0 (Ok m)
     → 0 < m.tries → ⊥
 unfolding Finds tries
 row_0_tried m w h = omega (arith, h, w.comes.1.count)
@@ -180,7 +177,7 @@ unfolding mask changed
 none_changed k codes zero = refl
 none_changed k codes (suc j) = omega (arith, none_changed k codes j)
 
-pub row_0_changed : (k n : ℕ) (codes : List ℕ) (c : Changes) → changes.RowChanged k n codes 0 (row_changes.Changed c)
+pub row_0_changed : (k n : ℕ) (codes : List ℕ) (c : Changes) → changes.RowChanged k n codes 0 (Ok c)
     → (c.mask ≡ 0 → ⊥) → ⊥
 unfolding changes.RowChanged change_mask
 row_0_changed k n codes c w differ = differ (w.1.changed ∙ none_changed k codes k)
@@ -195,7 +192,7 @@ unfolding boolean_bytes bytes_of leaf_at operation_at run stack_at top_boolean s
 A_1 ρ = refl
 
 pub one_value_for_all : {ρ : Rules} {out out' : List ℕ} (v m : ℕ)
-    → AllValues ρ names rows just_A states out out' (outcome.Done m)
+    → AllValues ρ names rows just_A states out out' (Ok m)
     → out' ≡ replicate rows v → ⊥
 unfolding after listed
 one_value_for_all {ρ} v m w e =
@@ -214,7 +211,7 @@ unfolding
 flag_0 = refl
 
 pub flag_turned : {ρ : Rules} {flags flags' : List ℕ} (m : ℕ)
-    → Contradicts ρ names (T.asked rises) flags flags' (outcome.Done m)
+    → Contradicts ρ names (T.asked rises) flags flags' (Ok m)
     → get_or flags' 0 0 ≡ 1 → ⊥
 unfolding after
 flag_turned {ρ} {flags} {flags'} m w e =

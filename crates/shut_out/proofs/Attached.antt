@@ -3,27 +3,29 @@
 -- arguments at exit (e). So what a relation does not allow, the function does not do. And its `requires` (`Pre`) asks
 -- nothing: it holds of any arguments.
 -- Each public call stands here, and in AttachedLists, under its name in Demand1; its function for C in AttachedForC.
+use Rattle.std.specs.Prelude.{Result}
 use Prim.Native.Nat.{◌/◌}
 use mathlib.Core.Path.{◌≡◌}
 use lib.ListN.{length}
 use contract.Lifetimes.{Lfts}
 use borrow.Fn.Kinds.{Dens}
-use Rattle.basics.specs.declared.Outcome.{Outcome}
+use Rattle.basics.specs.Refusing.{Outcome}
 use Rattle.alf.specs.Refusals.{Comes}
 use Rattle.names.specs.Check.{names_order}
+use Rattle.basics.specs.declared.Refusal.{Refusal}
 use Rattle.reader.specs.declared.Read.{Read}
 use Rattle.reader.specs.Reading.{ReadsText}
 use Rattle.writer.specs.Writing as writing
-use Rattle.trace_reader.specs.declared.Reading as files
+use Rattle.trace_reader.specs.Reading.{Reading}
 use Rattle.trace_reader.specs.Reading.{Reads}
 use Rattle.trace_writer.specs.Writing as trace_writing
-use Rattle.changes.specs.declared.RowChanges.{RowChanges}
+use Rattle.changes.specs.Call.{RowChanges}
 use Rattle.changes.specs.Call as changes
 use Rattle.rewriting_calls.specs.Calls.{Rewrites}
 use Rattle.contradictions.specs.Calls.{Contradicts}
-use Rattle.row_calls.specs.declared.written.Told.{Told}
-use Rattle.matching_calls.specs.declared.matching.Matching.{Matching}
-use Rattle.matching_calls.specs.declared.matching.Counting.{Counting}
+use Rattle.row_calls.specs.Written.{Answering}
+use Rattle.matching_calls.specs.Matching.{Matching}
+use Rattle.matching_calls.specs.Matching.{Counting}
 use Rattle.queue_calls.specs.declared.pushing.Pushing.{Pushing}
 use Rattle.row_calls.specs.Written.{RowState, RowValue, AllValues, RowAnswer}
 use Rattle.row_calls.specs.Windows.{WindowAnswer}
@@ -73,7 +75,7 @@ pub check_names_lem : (κs : Lfts 1) (a : Dens κs check_names_kinds.ps) → che
 check_names_lem κs a = (tt, λ r e p. p)
 
 pub read_expression_lem : (κs : Lfts 2) (a : Dens κs read_expression_kinds.ps) → read_expression_says.Pre κs a
-    × ((r : Read) (e : Dens κs read_expression_kinds.ps) → read_expression_says.Post κs a r e
+    × ((r : Result Read Refusal) (e : Dens κs read_expression_kinds.ps) → read_expression_says.Post κs a r e
     → ReadsText a.0 a.1.0.now a.1.1.0.now a.1.1.1.0 r)
 read_expression_lem κs a = (tt, λ r e p. p)
 
@@ -83,7 +85,7 @@ pub write_expression_lem : (κs : Lfts 3) (a : Dens κs write_expression_kinds.p
 write_expression_lem κs a = (tt, λ r e p. p)
 
 pub read_trace : (κs : Lfts 4) (a : Dens κs read_trace_kinds.ps) → read_trace_says.Pre κs a
-    × ((r : files.Reading) (e : Dens κs read_trace_kinds.ps) → read_trace_says.Post κs a r e
+    × ((r : Reading) (e : Dens κs read_trace_kinds.ps) → read_trace_says.Post κs a r e
     → Reads a.0.now a.1.0.now a.1.1.0.now a.1.1.1.0.now e.1.0.now e.1.1.0.now
     e.1.1.1.0.now r)
 read_trace κs a = (tt, λ r e p. p)
@@ -130,13 +132,13 @@ pub values : (κs : Lfts 3) (a : Dens κs values_kinds.ps) → values_says.Pre �
 values κs a = (tt, λ r e p. p)
 
 pub row_answer_lem : (κs : Lfts 2) (a : Dens κs row_answer_kinds.ps) → row_answer_says.Pre κs a
-    × ((r : Told) (e : Dens κs row_answer_kinds.ps) → row_answer_says.Post κs a r e
+    × ((r : Answering) (e : Dens κs row_answer_kinds.ps) → row_answer_says.Post κs a r e
     → RowAnswer a.0 a.1.0 a.1.1.0 a.1.1.1.0.now a.1.1.1.1.0.now
     a.1.1.1.1.1.0.0 r)
 row_answer_lem κs a = (tt, λ r e p. p)
 
 pub window_answer : (κs : Lfts 2) (a : Dens κs window_answer_kinds.ps) → window_answer_says.Pre κs a
-    × ((r : Told) (e : Dens κs window_answer_kinds.ps) → window_answer_says.Post κs a r e
+    × ((r : Answering) (e : Dens κs window_answer_kinds.ps) → window_answer_says.Post κs a r e
     → WindowAnswer a.0 a.1.0 a.1.1.0 a.1.1.1.0.now a.1.1.1.1.0.now
     a.1.1.1.1.1.0.0 a.1.1.1.1.1.1.0.0 r)
 window_answer κs a = (tt, λ r e p. p)

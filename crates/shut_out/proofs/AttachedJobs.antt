@@ -9,8 +9,8 @@ use Prim.Native.Nat.{ℕ}
 use mathlib.Core.Path.{◌≡◌}
 use contract.Lifetimes.{Lfts}
 use borrow.Fn.Kinds.{Dens}
-use Rattle.basics.specs.declared.Outcome.{Outcome}
-use Rattle.matching_calls.specs.declared.matching.Counting.{Counting}
+use Rattle.basics.specs.Refusing.{Outcome}
+use Rattle.matching_calls.specs.Matching.{Counting}
 use Rattle.table_lines.specs.declared.lines.Sums.{Sums}
 use Rattle.column_listings.specs.Calls.{ValuesText}
 use Rattle.alternative_listings.specs.declared.Lines.{Lines}
@@ -18,7 +18,7 @@ use Rattle.alternative_listings.specs.Calls.{WritesAlternatives}
 use Rattle.row_listings.specs.Listings.{ListsPattern, ListsValues}
 use Rattle.began_texts.specs.TextBegan.{ListsBeganText}
 use Rattle.jobs.specs.declared.table.Line.{Line}
-use Rattle.jobs.specs.declared.sums.Adding.{Adding}
+use Rattle.jobs.specs.Sums.{Adding}
 use Rattle.jobs.specs.Counting.{CountsText}
 use Rattle.jobs.specs.Lines.{TableLine}
 use Rattle.jobs.specs.Sums.{no_sums, added_to}

@@ -2,9 +2,9 @@
 -- table.
 use contract.Lifetimes.{Lfts}
 use borrow.Fn.Kinds.{Dens}
-use Rattle.basics.specs.declared.Outcome.{Outcome}
-use Rattle.matching_calls.specs.declared.matching.Matching.{Matching}
-use Rattle.matching_calls.specs.declared.matching.Counting.{Counting}
+use Rattle.basics.specs.Refusing.{Outcome}
+use Rattle.matching_calls.specs.Matching.{Matching}
+use Rattle.matching_calls.specs.Matching.{Counting}
 use Rattle.queue_calls.specs.declared.pushing.Pushing.{Pushing}
 use Rattle.listed_acceptance.specs.Fitting.{ListedFits}
 use Rattle.listed_calls.specs.Listed.{ListedMatch, ListedAll, ListedTotals, ListedPush}

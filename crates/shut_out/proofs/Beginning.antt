@@ -5,6 +5,8 @@
 --   mirror_start         `01 A -> 10 B | 10 B` at row 2 of T, without steady pins: the shorter alternative answers yes
 --                        too, and begins at 10
 -- Its mirror, `10 B | 01 A -> 10 B`, is in LongestStart.antt; the start of its match is computed here (`short_began`).
+use Rattle.std.specs.Prelude.{Ok}
+use Rattle.std.specs.Prelude.{None, Some}
 use Prim.Native.Nat.{ℕ, ◌-◌, ◌<◌}
 use native.Mathlib.Omega.{arith}
 use mathlib.Core.Path.{◌≡◌, refl, ap, sym, ◌∙◌, subst}
@@ -13,8 +15,7 @@ use mathlib.Core.List.{List, []}
 use lib.ListN.{length, get_or}
 use Rattle.alf.specs.declared.Rules.{Rules}
 use Rattle.alf.specs.declared.Stamp.{Stamp}
-use Rattle.alf.specs.declared.Began.{Began}
-use Rattle.alf.specs.declared.Began.TheVariants.{At, Nowhere}
+use Rattle.alf.specs.Beginnings.{Began}
 use Rattle.alf.specs.Expressions.{Vector, edge, join, or_else}
 use Rattle.alf.specs.Answers.{number_of}
 use Rattle.alf.specs.Decoder.{join_at, half_at, edge_at, leaf_at, pair_at, one_at, operation_at}
@@ -33,18 +34,17 @@ use Rattle.steady_laws.proofs.Meant.{meant_off}
 use Rattle.alf.proofs.Beginnings.{began_none, began_tries}
 use Rattle.alf.proofs.RowsAreAlternatives.{same_answer}
 use Rattle.beginnings.specs.declared.times.Dated.{Dated}
-use Rattle.matching_calls.specs.declared.matching.Matching.TheVariants.{Found}
 use Rattle.matching_calls.specs.Matching.{expression, Finds, RowMatch}
 use Rattle.shut_out.specs.Asked as T
 
-given_not : (t : Stamp) → Nowhere ≡ At t → ⊥
+given_not : (t : Stamp) → None ≡ Some t → ⊥
 unfolding is_given
 given_not t e = omega (arith, ap is_given e)
 
 -- whatever the tree, the times and the trace
 module _ {ρ : Rules} {k n : ℕ} {tree stamps codes : List ℕ} {row : ℕ} (m : Dated)
-    (w : RowMatch ρ k n tree stamps codes row (Found m)) where
-  pub time_without_yes : (number_of m.answer ≡ 1 → ⊥) → (t : Stamp) → m.began ≡ At t → ⊥
+    (w : RowMatch ρ k n tree stamps codes row (Ok m)) where
+  pub time_without_yes : (number_of m.answer ≡ 1 → ⊥) → (t : Stamp) → m.began ≡ Some t → ⊥
   unfolding Finds
   time_without_yes other t e =
       let d = w.comes.1 in
@@ -56,7 +56,7 @@ module _ {ρ : Rules} {k n : ℕ} {tree stamps codes : List ℕ} {row : ℕ} (m 
 
   pub time_elsewhere : number_of m.answer ≡ 1
       → (m.began
-      ≡ At (record {
+      ≡ Some (record {
         0 = get_or stamps (row - length (get_or (alternatives (expression ρ tree k)) (m.tries - 1) [])) 0;
       }) → ⊥) → ⊥
   unfolding Finds
@@ -75,7 +75,7 @@ abbrev pub long_first : Vector
 long_first = join or_else pulse (edge fall B)
 
 abbrev pub Begins : Rules → Vector → ℕ → Type 0
-Begins ρ p t = began (state_at ρ names states) times (alternatives p) 2 ≡ At (record { 0 = t })
+Begins ρ p t = began (state_at ρ names states) times (alternatives p) 2 ≡ Some (record { 0 = t })
 
 pub short_began : (ρ : Rules) → Begins ρ short_first 10
 unfolding states times alternatives rewritten each began began_in at_row steps_from step_at test_at least_of value
@@ -100,8 +100,8 @@ unfolding
 long_is ρ = refl
 
 module _ {ρ : Rules} (off : ρ.steady_pins ≡ false) (m : Dated) where
-  pub mirror_start : RowMatch ρ names rows (T.asked long_first) times states 2 (Found m)
-      → m.began ≡ At (record { 0 = 10 }) → ⊥
+  pub mirror_start : RowMatch ρ names rows (T.asked long_first) times states 2 (Ok m)
+      → m.began ≡ Some (record { 0 = 10 }) → ⊥
   unfolding Finds time_of_lem
   mirror_start w e =
       let d = rw (long_is ρ, meant_off ρ long_first off) at w.comes.1.start in

@@ -8,6 +8,7 @@
 --   pin_forgotten              a pin that the text's expression names, and that is not kept
 --   pin_invented               a pin that is kept, though the text does not name it and it was not kept before
 --   blank_attached, keep_text_attached     the contracts
+use Rattle.std.specs.Prelude.{Err, Ok}
 use Rattle.std.specs.Prelude.{if◌then◌else◌}
 use Prim.Native.Nat.{ℕ, ◌<◌}
 use native.Mathlib.Nat.{zero-add}
@@ -19,8 +20,7 @@ use lib.ListN.{length, get_or}
 use contract.Lifetimes.{Lfts}
 use borrow.Fn.Kinds.{Dens}
 use Rattle.basics.specs.declared.Refusal.{Refusal}
-use Rattle.basics.specs.declared.Outcome.{Outcome}
-use Rattle.basics.specs.declared.Outcome.TheVariants as outcome
+use Rattle.basics.specs.Refusing.{Outcome}
 use Rattle.basics.specs.Memory.{after}
 use Rattle.basics.specs.Words.{listed}
 use Rattle.basics.proofs.Bools.{never}
@@ -69,7 +69,7 @@ module _ (k n : ℕ) (codes kept : List ℕ) where
   unfolding Passed
   blank_passes g = (λ p a. a.given (g.full, g.trace.lists), (codes_never codes g.trace.codes, tt))
 
-  pub blank : Exactly BlankGood (blank_order k n codes kept) outcome.Refused (λ r m. Blanks k n codes kept m r) codes
+  pub blank : Exactly BlankGood (blank_order k n codes kept) Err (λ r m. Blanks k n codes kept m r) codes
   unfolding Comes after
   blank =
       exactly blank_passes
@@ -81,7 +81,7 @@ module _ (k n : ℕ) (codes kept : List ℕ) where
       })
 
 -- an entry of the trace that is written
-module _ {k n : ℕ} {codes kept codes' : List ℕ} {m : ℕ} (b : Blanks k n codes kept codes' (outcome.Done m)) (r i : ℕ)
+module _ {k n : ℕ} {codes kept codes' : List ℕ} {m : ℕ} (b : Blanks k n codes kept codes' (Ok m)) (r i : ℕ)
     (there : r < n) (pin : i < k) where
   entry : row_of k codes' r i ≡ (if keeps kept i then row_of k codes r i else X)
   unfolding after blanked_row
@@ -100,11 +100,11 @@ module _ {k n : ℕ} {codes kept codes' : List ℕ} {m : ℕ} (b : Blanks k n co
 
 -- on T, whose rows are 011 111 10X X01 1Z1 10H
 pub T_not_refused : {kept codes' : List ℕ} (r : Refusal) → length kept ≡ names
-    → Blanks names rows states kept codes' (outcome.Refused r) → ⊥
+    → Blanks names rows states kept codes' (Err r) → ⊥
 T_not_refused {kept} {codes'} r full w =
     (blank names rows states kept).no_refusal (record { trace = trace_good; full = full }) r codes' w
 
-pub T_overwritten : {codes' : List ℕ} {m : ℕ} → Blanks names rows states (1 ∷ 0 ∷ 0 ∷ []) codes' (outcome.Done m)
+pub T_overwritten : {codes' : List ℕ} {m : ℕ} → Blanks names rows states (1 ∷ 0 ∷ 0 ∷ []) codes' (Ok m)
     → codes'
     ≡ 0 ∷ X ∷ X ∷ 1 ∷ X ∷ X ∷ 1 ∷ X ∷ X ∷ X ∷ X ∷ X ∷ 1 ∷ X ∷ X ∷ 1 ∷ X ∷ X ∷ []
 unfolding after fed blanked_row listed keeps states
@@ -130,7 +130,7 @@ module _ (ρ : Rules) (list text : List ℕ) (sort : Sort) (kept : List ℕ) whe
   comes (keeping.keeps e p g h is) = p
   comes (refuses a is) = a
 
-  pub keep_text : ExactlyIn text KeepGood whole outcome.Refused (λ r m. KeepsText ρ list text sort kept m r) kept
+  pub keep_text : ExactlyIn text KeepGood whole Err (λ r m. KeepsText ρ list text sort kept m r) kept
   unfolding ComesIn
   keep_text =
       exactly_in text keep_passes
@@ -144,17 +144,17 @@ module _ (ρ : Rules) (list text : List ℕ) (sort : Sort) (kept : List ℕ) whe
   -- an entry of the table
   module _ {x : Expression} (g : Gives ρ list text sort x) {kept' : List ℕ} {m : ℕ} (i : ℕ) (pin : i < length kept)
     where
-      is_joined : KeepsText ρ list text sort kept kept' (outcome.Done m)
+      is_joined : KeepsText ρ list text sort kept kept' (Ok m)
           → get_or kept' i 0 ≡ (if named x i then 1 else get_or kept i 0)
       is_joined (keeping.keeps y p h e is) =
           rw (is, gives_unique h g) (joined_at (named x) kept i pin)
 
-      pub pin_forgotten : KeepsText ρ list text sort kept kept' (outcome.Done m) → named x i ≡ true
+      pub pin_forgotten : KeepsText ρ list text sort kept kept' (Ok m) → named x i ≡ true
           → keeps kept' i ≡ false → ⊥
       unfolding keeps
       pin_forgotten w h e = let z = rw h at (is_joined w) in never (sym (rw z at e))
 
-      pub pin_invented : KeepsText ρ list text sort kept kept' (outcome.Done m) → named x i ≡ false
+      pub pin_invented : KeepsText ρ list text sort kept kept' (Ok m) → named x i ≡ false
           → keeps kept i ≡ false → keeps kept' i ≡ true → ⊥
       unfolding keeps
       pin_invented w h o e = let z = rw h at (is_joined w) in never (sym o ∙ (rw z at e))

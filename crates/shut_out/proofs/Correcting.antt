@@ -6,14 +6,14 @@
 -- and on T, case 12, where the list was right before:
 --   stops_at_row_3        the answer at row 4 does not stay unknown
 -- What follows from `leaves_junk` for the list as a whole is in ChangingNothing.antt.
+use Rattle.std.specs.Prelude.{Err, Ok}
 use Prim.Native.Nat.{ℕ, ◌+◌, ◌-◌, ◌<◌, ◌≤◌}
 use native.Mathlib.Omega.{arith}
 use mathlib.Core.Path.{◌≡◌, refl, sym, ap, ◌∙◌, subst}
 use mathlib.Core.Logic.{◌⊎◌}
 use mathlib.Core.List.{List, [], ◌∷◌}
 use lib.ListN.{length, get_or}
-use Rattle.basics.specs.declared.Outcome.{Outcome}
-use Rattle.basics.specs.declared.Outcome.TheVariants.{Done, Refused}
+use Rattle.basics.specs.Refusing.{Outcome}
 use Rattle.basics.specs.Words.{greatest}
 use Rattle.alf.specs.declared.Rules.{Rules}
 use Rattle.alf.specs.States.{reduce}
@@ -42,15 +42,15 @@ last ρ k n tree r = last_rewritten (steps_of (expression ρ tree k)) n r
 module _ {ρ : Rules} {k n : ℕ} {tree codes answers : List ℕ} {r : ℕ} {new codes' answers' : List ℕ}
     (g : Correctable ρ k n tree codes answers r new) where
   module _ (o : Outcome) (w : Correction ρ k n tree codes answers r new codes' answers' o) where
-    done : Correction ρ k n tree codes answers r new codes' answers' (Done 1)
+    done : Correction ρ k n tree codes answers r new codes' answers' (Ok 1)
     unfolding Comes
     done = go o w
       where
         go : (z : Outcome) → Correction ρ k n tree codes answers r new codes' answers' z
-            → Correction ρ k n tree codes answers r new codes' answers' (Done 1)
-        go (Done m) v =
-            subst (λ (j : ℕ). Correction ρ k n tree codes answers r new codes' answers' (Done j)) v.comes.1 v
-        go (Refused e) v = absurd ((correct ρ k n tree codes answers r new).no_refusal g e (codes', answers') v)
+            → Correction ρ k n tree codes answers r new codes' answers' (Ok 1)
+        go (Ok m) v =
+            subst (λ (j : ℕ). Correction ρ k n tree codes answers r new codes' answers' (Ok j)) v.comes.1 v
+        go (Err e) v = absurd ((correct ρ k n tree codes answers r new).no_refusal g e (codes', answers') v)
 
     pub leaves_junk : (i : ℕ) → r ≤ i → i ≤ last ρ k n tree r → 3 < get_or answers i 0
         → get_or answers' i 0 ≡ get_or answers i 0 → ⊥

@@ -4,6 +4,7 @@
 --   invented_total, totals_nothing, unknown_counted_as_no        no totals but 1, 3, 1
 --   first_event_only                                             a queue that goes on answering its first event
 --   stands_still, keeps_nothing                                  one that keeps nothing, whatever the tree
+use Rattle.std.specs.Prelude.{Err, Ok}
 use Prim.Native.Nat.{◌-◌, ℕ, suc, ◌+◌, ◌*◌, ◌<◌}
 use native.Mathlib.Omega.{arith}
 use mathlib.Core.Path.{◌≡◌, refl, sym, ap, ◌∙◌}
@@ -11,7 +12,7 @@ use mathlib.Core.List.{List}
 use lib.ListN.{get_or, length, drop}
 use Rattle.alf.specs.declared.Rules.{Rules}
 use Rattle.alf.specs.declared.Answer.{Answer}
-use Rattle.alf.specs.declared.Began.{Began}
+use Rattle.alf.specs.Beginnings.{Began}
 use Rattle.basics.specs.Words.{greatest, least_of, count, all}
 use Rattle.alf.specs.States.{reduce}
 use Rattle.alf.specs.Expressions.{Vector}
@@ -29,10 +30,7 @@ use Rattle.timed_queue.specs.declared.queues.Queue.{Queue}
 use Rattle.states.specs.FirstBadCode.{Codes}
 use Rattle.queue.specs.Queues.{fed}
 use Rattle.states.proofs.CodeLists.{codes_take, codes_drop}
-use Rattle.row_calls.specs.declared.written.Told.TheVariants as told
-use Rattle.matching_calls.specs.declared.matching.Matching.{Matching}
-use Rattle.matching_calls.specs.declared.matching.Matching.TheVariants as matching
-use Rattle.matching_calls.specs.declared.matching.Counting.TheVariants as counting
+use Rattle.matching_calls.specs.Matching.{Matching}
 use Rattle.judging.specs.Orders.{Rows}
 use Rattle.row_calls.specs.Written.{Tells}
 use Rattle.matching_calls.specs.Matching.{expression, tries_on, Finds, Counts, RowMatch, RowTotals}
@@ -66,7 +64,7 @@ row_tries {ρ} i l x w =
 pub one_number_of_tries : {ρ : Rules} (t : ℕ) (answers : ℕ → Answer) (begans : ℕ → Began)
     → ((i : ℕ) → 0 < i → i < rows
     → RowMatch ρ names rows (T.asked one_of) times states i
-    (matching.Found (record { answer = answers i; tries = t; began = begans i })))
+    (Ok (record { answer = answers i; tries = t; began = begans i })))
     → ⊥
 unfolding tries_found
 one_number_of_tries {ρ} t answers begans w =
@@ -76,7 +74,7 @@ one_number_of_tries {ρ} t answers begans w =
 
 -- whatever the tree and the trace: no number but that of the alternatives up to the first yes, or of all
 pub tries_unlike : {ρ : Rules} {k n : ℕ} {tree times codes : List ℕ} {row : ℕ} (m : Dated)
-    → RowMatch ρ k n tree times codes row (matching.Found m) → (m.tries ≡ tries_on ρ k tree codes row → ⊥) → ⊥
+    → RowMatch ρ k n tree times codes row (Ok m) → (m.tries ≡ tries_on ρ k tree codes row → ⊥) → ⊥
 unfolding Finds
 tries_unlike m w h = h w.comes.1.count
 
@@ -96,19 +94,19 @@ unfolding total count states row_answer numbered best answer greatest value reco
     letter_asked reduce
 total_unknown ρ = refl
 
-pub invented_total : {ρ : Rules} (t : Total) → RowTotals ρ names rows (T.asked rises) states (counting.Counted t)
+pub invented_total : {ρ : Rules} (t : Total) → RowTotals ρ names rows (T.asked rises) states (Ok t)
     → (t.yes ≡ 1) × (t.no ≡ 3) × (t.unknown ≡ 1)
 unfolding Counts
 invented_total {ρ} t w =
     let c = rw (rises_is ρ) at w.comes.1 in
     (c.yeses ∙ total_yes ρ, c.noes ∙ total_no ρ, c.unknowns ∙ total_unknown ρ)
 
-pub totals_nothing : {ρ : Rules} (t : Total) → RowTotals ρ names rows (T.asked rises) states (counting.Counted t)
+pub totals_nothing : {ρ : Rules} (t : Total) → RowTotals ρ names rows (T.asked rises) states (Ok t)
     → t.yes + t.no + t.unknown ≡ 0 → ⊥
 totals_nothing t w e = omega (arith, e, (invented_total t w).0)
 
 pub unknown_counted_as_no : {ρ : Rules} (t : Total)
-    → RowTotals ρ names rows (T.asked rises) states (counting.Counted t)
+    → RowTotals ρ names rows (T.asked rises) states (Ok t)
     → t.no ≡ 4 → ⊥
 unknown_counted_as_no t w e = omega (arith, e, (invented_total t w).1)
 
@@ -153,9 +151,9 @@ pub stands_still : {ρ : Rules} {k : ℕ} {tree : List ℕ} {queue : Queue} {tim
     → Pushable ρ k tree queue time row → queue.rows.kept.0 < steps_of (expression ρ tree k) → (x : Matching)
     → Push ρ k tree queue time row x queue' → queue'.rows.kept.0 ≡ queue.rows.kept.0 → ⊥
 unfolding Takes steps_of
-stands_still {ρ} {k} {tree} {queue} {time} {row} {queue'} g l (matching.Found m) w e =
+stands_still {ρ} {k} {tree} {queue} {time} {row} {queue'} g l (Ok m) w e =
     omega (arith, l, e, w.comes.1.kept)
-stands_still {ρ} {k} {tree} {queue} {time} {row} {queue'} g l (matching.Refused r) w e =
+stands_still {ρ} {k} {tree} {queue} {time} {row} {queue'} g l (Err r) w e =
     (push ρ k tree queue time row).no_refusal g r queue' w
 
 pub keeps_nothing : {ρ : Rules} {k : ℕ} {tree : List ℕ} {queue : Queue} {time : ℕ} {row : List ℕ} {queue' : Queue}

@@ -1,6 +1,7 @@
 -- Shut out: "refusing everything". Each public call has input, on table T, for which its contract allows no refusal:
 -- so no program meets the contract that refuses all. What good input is, in general, stands in Refusing,
 -- RefusingRows and RefusingUpdates. The calls over texts stand in EveryText, those over lists in EveryList.
+use Rattle.std.specs.Prelude.{Err}
 use Prim.Native.Nat.{ℕ, ◌-◌, ◌<◌, ◌≤◌, max}
 use native.Mathlib.Omega.{arith}
 use mathlib.Core.Path.{◌≡◌, refl, sym, ap, ◌∙◌}
@@ -9,7 +10,6 @@ use lib.ListN.{length}
 use Rattle.basics.specs.declared.Refusal.{Refusal}
 use Rattle.alf.specs.declared.Rules.{Rules}
 use Rattle.alf.specs.declared.Sort.TheVariants as sort
-use Rattle.basics.specs.declared.Outcome.TheVariants as outcome
 use Rattle.alf.specs.Expressions.{Vector, boolean}
 use Rattle.alf.specs.Bytes.{boolean_bytes, bytes_of}
 use Rattle.alf.specs.Decoder.{leaf_at, operation_at, run, stack_at, Decodes}
@@ -29,9 +29,6 @@ use Rattle.rewriting_calls.proofs.Theorems.{steps_own, tests_own, edges_own}
 use Rattle.contradictions.specs.Calls.{own_at, Contradicts}
 use Rattle.timed_queue.specs.declared.queues.Queue.{Queue}
 use Rattle.states.specs.FirstBadCode.{Codes}
-use Rattle.row_calls.specs.declared.written.Told.TheVariants as told
-use Rattle.matching_calls.specs.declared.matching.Matching.TheVariants as matching
-use Rattle.matching_calls.specs.declared.matching.Counting.TheVariants as counting
 use Rattle.row_calls.specs.Written.{RowState, RowValue, AllValues, RowAnswer}
 use Rattle.row_calls.specs.Windows.{WindowAnswer}
 use Rattle.matching_calls.specs.Matching.{Lent, expression, RowMatch, AllMatched, RowTotals}
@@ -79,7 +76,7 @@ pub three : NameCount names
 three = (omega arith, omega arith)
 
 pub rewrite : {ρ : Rules} (s t e o : List ℕ) (r : Refusal) (m : Four) → 1 ≤ length s → 1 ≤ length t → 1 ≤ length e
-    → 1 ≤ length o → Rewrites ρ names (asked rises) s t e o m.0 m.1 m.2 m.3 (outcome.Refused r) → ⊥
+    → 1 ≤ length o → Rewrites ρ names (asked rises) s t e o m.0 m.1 m.2 m.3 (Err r) → ⊥
 rewrite {ρ} s t e o r m a b c d w =
     (texts.rewrite ρ names (asked rises) s t e o).no_refusal
     (record {
@@ -92,7 +89,7 @@ rewrite {ρ} s t e o r m a b c d w =
     }) r m w
 
 pub contradictions : {ρ : Rules} {flags flags' : List ℕ} (r : Refusal) → 1 ≤ length flags
-    → Contradicts ρ names (asked rises) flags flags' (outcome.Refused r) → ⊥
+    → Contradicts ρ names (asked rises) flags flags' (Err r) → ⊥
 contradictions {ρ} {flags} {flags'} r room w =
     (texts.contradictions ρ names (asked rises) flags).no_refusal
     (record { name_count_lem = three; accepted = rises_accepted; room = omega (arith, room, flags_one ρ) }) r flags' w
@@ -119,28 +116,28 @@ module _ (r : Refusal) where
     good_rises : {ρ : Rules} → over_rows.GoodRow ρ names rows (asked rises) sort.Vector states i
     good_rises = record { trace = trace_good; accepted = rises_accepted; there = l }
 
-    pub row_state : {ρ : Rules} → RowState ρ names rows just_A states i (outcome.Refused r) → ⊥
+    pub row_state : {ρ : Rules} → RowState ρ names rows just_A states i (Err r) → ⊥
     row_state w = (over_rows.row_state names rows just_A states i).no_refusal good_A r tt w
 
-    pub row_value : {ρ : Rules} → RowValue ρ names rows just_A states i (outcome.Refused r) → ⊥
+    pub row_value : {ρ : Rules} → RowValue ρ names rows just_A states i (Err r) → ⊥
     row_value w = (over_rows.row_value names rows just_A states i).no_refusal good_A r tt w
 
-    pub row_answer_lem : {ρ : Rules} → RowAnswer ρ names rows (asked rises) states i (told.Refused r) → ⊥
+    pub row_answer_lem : {ρ : Rules} → RowAnswer ρ names rows (asked rises) states i (Err r) → ⊥
     row_answer_lem w = (over_rows.row_answer_lem names rows (asked rises) states i).no_refusal good_rises r tt w
 
-    pub match_row_lem : {ρ : Rules} → RowMatch ρ names rows (asked rises) times states i (matching.Refused r) → ⊥
+    pub match_row_lem : {ρ : Rules} → RowMatch ρ names rows (asked rises) times states i (Err r) → ⊥
     match_row_lem w =
         (over_rows.match_row_lem names rows (asked rises) states i times).no_refusal
         (record { good = good_rises; stamps = times_good }) r tt w
 
   pub window_answer : {ρ : Rules} (a b : ℕ) → max a b < rows
-      → WindowAnswer ρ names rows (asked rises) states a b (told.Refused r)
+      → WindowAnswer ρ names rows (asked rises) states a b (Err r)
       → ⊥
   window_answer a b l w =
       (over_rows.window_answer names rows (asked rises) states a b).no_refusal (good_rises (max a b) l) r tt w
 
   pub values : {ρ : Rules} {out out' : List ℕ} → length out ≡ rows
-      → AllValues ρ names rows just_A states out out' (outcome.Refused r) → ⊥
+      → AllValues ρ names rows just_A states out out' (Err r) → ⊥
   values {ρ} {out} {out'} room w =
       (over_rows.values names rows just_A states out).no_refusal
       (record { trace = trace_good; accepted = A_accepted; room = room }) r out' w
@@ -148,13 +145,13 @@ module _ (r : Refusal) where
   pub match_all : {ρ : Rules} {answers tried given began answers' tried' given' began' : List ℕ}
       → Lent rows (length times) (length answers) (length tried) (length given) (length began)
       → AllMatched ρ names rows (asked rises) times states answers tried given began answers' tried' given' began'
-      (outcome.Refused r) → ⊥
+      (Err r) → ⊥
   match_all {ρ} {answers} {tried} {given} {began} {answers'} {tried'} {given'} {began'} room w =
       (over_rows.match_all names rows (asked rises) states times answers tried given began).no_refusal
       (record { trace = trace_good; accepted = rises_accepted; rising = times_good.rising; room = room }) r
       (answers', tried', given', began') w
 
-  pub totals : {ρ : Rules} → RowTotals ρ names rows (asked rises) states (counting.Refused r) → ⊥
+  pub totals : {ρ : Rules} → RowTotals ρ names rows (asked rises) states (Err r) → ⊥
   totals w =
       (over_rows.totals names rows (asked rises) states).no_refusal
       (record { trace = trace_good; accepted = rises_accepted; room = tt }) r tt w
@@ -162,7 +159,7 @@ module _ (r : Refusal) where
   pub correct : {ρ : Rules} {answers new states' answers' : List ℕ} {i : ℕ} → length answers ≡ rows
       → length new ≡ names
       → Codes new → i < rows
-      → Correction ρ names rows (asked rises) states answers i new states' answers' (outcome.Refused r) → ⊥
+      → Correction ρ names rows (asked rises) states answers i new states' answers' (Err r) → ⊥
   correct {ρ} {answers} {new} {states'} {answers'} {i} a f c l w =
       (updating.correct ρ names rows (asked rises) states answers i new).no_refusal
       (record { trace = trace_good; accepted = rises_accepted; room = a; full = f; codes = c; there = l }) r
@@ -171,7 +168,7 @@ module _ (r : Refusal) where
   -- a queue that keeps nothing yet
   pub push : {ρ : Rules} {queue queue' : Queue} {time : ℕ} {row : List ℕ} → queue.rows.kept.0 ≡ 0
       → length row ≡ names → Codes row
-      → Push ρ names (asked rises) queue time row (matching.Refused r) queue' → ⊥
+      → Push ρ names (asked rises) queue time row (Err r) queue' → ⊥
   push {ρ} {queue} {queue'} {time} {row} e f c w =
       let h = holding_first names 1 queue e in
       (updating.push ρ names (asked rises) queue time row).no_refusal
@@ -196,5 +193,5 @@ module _ (r : Refusal) where
 
   -- Each line of the table but a pattern's: where there is room.
   pub line : {text out out' : List ℕ} → length text ≤ length out
-      → Delivers text out out' (outcome.Refused r) → ⊥
+      → Delivers text out out' (Err r) → ⊥
   line {text} {out} {out'} room w = (texts.line out text).no_refusal room r out' w

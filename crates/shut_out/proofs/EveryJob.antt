@@ -6,6 +6,8 @@
 --   correct_letters, letters_change_nothing                         a row of T, by good letters; its states are stored
 --   invented_total_of_text, one_total_for_all                       no totals of 01 A but 1, 3, 1; ?! B has others
 --   other_sums                                                      no sums but those over a table's patterns
+use Rattle.std.specs.Prelude.{Err, Ok}
+use Rattle.std.specs.Prelude.{Some}
 use Prim.Native.Nat.{ℕ, ◌<◌, ◌≤◌}
 use native.Mathlib.Omega.{arith}
 use mathlib.Core.Path.{◌≡◌, refl, sym, ap, ◌∙◌}
@@ -15,8 +17,7 @@ use Rattle.basics.specs.declared.Refusal.{Refusal}
 use Rattle.alf.specs.declared.Rules.{Rules}
 use Rattle.alf.specs.Names.{names_in}
 use Rattle.alf.specs.declared.Sort.TheVariants as sort
-use Rattle.basics.specs.declared.Outcome.{Outcome}
-use Rattle.basics.specs.declared.Outcome.TheVariants as outcome
+use Rattle.basics.specs.Refusing.{Outcome}
 use Rattle.basics.specs.Words.{greatest, greatest_of, count, sum_of, listed}
 use Rattle.alf.specs.States.{among, reduce}
 use Rattle.alf.specs.Names.{slot, until_zero, slot_of}
@@ -44,8 +45,7 @@ use Rattle.writer.specs.Writing.{Named}
 use Rattle.text_laws.proofs.WrittenGives.{text_gives}
 use Rattle.matcher.specs.declared.tables.Total.{Total}
 use Rattle.states.specs.FirstBadCode.{Codes}
-use Rattle.matching_calls.specs.declared.matching.Counting.{Counting}
-use Rattle.matching_calls.specs.declared.matching.Counting.TheVariants as counting
+use Rattle.matching_calls.specs.Matching.{Counting}
 use Rattle.basics.specs.Memory.{after}
 use Rattle.table_lines.specs.declared.lines.Sums.{Sums}
 use Rattle.basics.specs.Text.{bytes, joined}
@@ -58,7 +58,6 @@ use Rattle.row_listings.specs.Listings.{ListsPattern, ListsValues}
 use Rattle.expression_listings.specs.TreeListings.{value_listing}
 use Rattle.row_listings.proofs.TextListings.{vector_one, boolean_one}
 use Rattle.tree_listings.proofs.Examples.{case_1}
-use Rattle.jobs.specs.declared.sums.Adding.TheVariants.{Added}
 use Rattle.jobs.specs.Counting.{CountsIn, CountsText}
 use Rattle.jobs.specs.Lines.{line_of, TableLine}
 use Rattle.jobs.specs.Sums.{no_sums, added_all, sums_of}
@@ -126,11 +125,11 @@ T_good = rw letters_count trace_good
 countable : {ρ : Rules} → jobs.Countable ρ letters rows states (bytes "01 A")
 countable = record { readable = rises_readable; trace = T_good }
 
-pub count_text_lem : {ρ : Rules} (r : Refusal) → CountsText ρ letters rows states (bytes "01 A") (counting.Refused r) → ⊥
+pub count_text_lem : {ρ : Rules} (r : Refusal) → CountsText ρ letters rows states (bytes "01 A") (Err r) → ⊥
 count_text_lem {ρ} r w = (jobs.count_text_lem ρ letters rows states (bytes "01 A")).no_refusal countable r tt w
 
 pub invented_total_of_text : {ρ : Rules} (t : Total)
-    → CountsText ρ letters rows states (bytes "01 A") (counting.Counted t)
+    → CountsText ρ letters rows states (bytes "01 A") (Ok t)
     → (t.yes ≡ 1) × (t.no ≡ 3) × (t.unknown ≡ 1)
 unfolding CountsIn
 invented_total_of_text {ρ} t w =
@@ -144,8 +143,8 @@ unfolding total count states row_answer numbered best answer greatest value reco
     digit_asked letter_asked reduce
 flips_yes ρ = refl
 
-pub one_total_for_all : {ρ : Rules} (t : Total) → CountsText ρ letters rows states (bytes "01 A") (counting.Counted t)
-    → CountsText ρ letters rows states (bytes "?! B") (counting.Counted t) → ⊥
+pub one_total_for_all : {ρ : Rules} (t : Total) → CountsText ρ letters rows states (bytes "01 A") (Ok t)
+    → CountsText ρ letters rows states (bytes "?! B") (Ok t) → ⊥
 unfolding CountsIn
 one_total_for_all {ρ} t v w =
     let c = w.comes.1 in
@@ -154,26 +153,26 @@ one_total_for_all {ρ} t v w =
     omega (arith, (invented_total_of_text t v).0, s.yeses, flips_yes ρ)
 
 counted_so : {ρ : Rules} (c : Counting) → CountsText ρ letters rows states (bytes "01 A") c
-    → c ≡ counting.Counted (record { yes = 1; no = 3; unknown = 1 })
-counted_so (counting.Counted t) w =
+    → c ≡ Ok (record { yes = 1; no = 3; unknown = 1 })
+counted_so (Ok t) w =
     let e = invented_total_of_text t w in
-    λ i. counting.Counted (record { yes = e.0 i; no = e.1 i; unknown = e.2 i })
-counted_so (counting.Refused r) w = absurd (count_text_lem r w)
+    λ i. Ok (record { yes = e.0 i; no = e.1 i; unknown = e.2 i })
+counted_so (Err r) w = absurd (count_text_lem r w)
 
-line_length : length (line_of (bytes "01 A") rows (counting.Counted (record { yes = 1; no = 3; unknown = 1 }))) ≡ 20
+line_length : length (line_of (bytes "01 A") rows (Ok (record { yes = 1; no = 3; unknown = 1 }))) ≡ 20
 unfolding line_of bytes
 line_length = ap length case_1_line
 
 -- the line of these totals is written: 20 bytes
 pub table_line : {ρ : Rules} {out out' : List ℕ} {c : Counting} (r : Refusal) → 20 ≤ length out
-    → TableLine ρ letters rows states (bytes "01 A") out out' (record { counted = c; written = outcome.Refused r })
+    → TableLine ρ letters rows states (bytes "01 A") out out' (record { counted = c; written = Err r })
     → ⊥
 table_line {ρ} {out} {out'} {c} r room w =
     (jobs.table_line ρ letters rows states (bytes "01 A") out c).no_refusal
     (rw (counted_so c w.counts) (omega (arith, room, line_length))) r out' w
 
 -- Sums: none but those of the table's patterns.
-pub other_sums : (n : ℕ) (cs : List Counting) (s : Sums) → added_all (Added (no_sums n)) cs ≡ Added s
+pub other_sums : (n : ℕ) (cs : List Counting) (s : Sums) → added_all (Some (no_sums n)) cs ≡ Some s
     → (s ≡ sums_of n cs → ⊥) → ⊥
 other_sums n cs s e differ = differ (sums_exact n cs s e)
 
@@ -183,7 +182,7 @@ unfolding bytes
 answers_length ρ = rw letters_count (ap length (case_1 _))
 
 pub list_text : (ρ : Rules) {out out' : List ℕ} (r : Refusal) → 76 ≤ length out
-    → ListsPattern ρ letters times states (bytes "01 A") out out' (outcome.Refused r) → ⊥
+    → ListsPattern ρ letters times states (bytes "01 A") out out' (Err r) → ⊥
 unfolding times
 list_text ρ {out} {out'} r room w =
     (jobs.list_text letters times states (bytes "01 A") out ρ).no_refusal
@@ -201,7 +200,7 @@ unfolding
 values_length ρ = refl
 
 pub values_text : (ρ : Rules) {out out' : List ℕ} (r : Refusal) → 40 ≤ length out
-    → ListsValues ρ letters times states (bytes "A") out out' (outcome.Refused r) → ⊥
+    → ListsValues ρ letters times states (bytes "A") out out' (Err r) → ⊥
 unfolding times
 values_text ρ {out} {out'} r room w =
     (jobs.values_text letters times states (bytes "A") out ρ).no_refusal
@@ -215,7 +214,7 @@ values_text ρ {out} {out'} r room w =
 pub list_values_lem : {values out out' : List ℕ} (r : Refusal) → length values ≡ rows
     → ((i : ℕ) → i < length values → get_or values i 0 ≤ 7)
     → length (values_listing times values) ≤ length out
-    → ValuesText times values out out' (outcome.Refused r) → ⊥
+    → ValuesText times values out out' (Err r) → ⊥
 unfolding times
 list_values_lem {values} {out} {out'} r a k room w =
     (texts.list_values_lem out times values).no_refusal
@@ -224,7 +223,7 @@ list_values_lem {values} {out} {out'} r a k room w =
 -- A row of T, corrected by three letters that are states' letters.
 pub correct_letters : {new states' : List ℕ} {i : ℕ} (r : Refusal) → length new ≡ names
     → Codes (map state_of new) → i < rows
-    → CorrectsLetters names rows states i new states' (outcome.Refused r) → ⊥
+    → CorrectsLetters names rows states i new states' (Err r) → ⊥
 correct_letters {new} {states'} {i} r f c l w =
     (jobs.correct_letters names rows states i new).no_refusal
     (record { trace = trace_good; full = f; known = c; there = l }) r states' w
@@ -237,6 +236,6 @@ zeros_codes = codes_below (map state_of (bytes "001")) refl
 pub letters_change_nothing : {states' : List ℕ} (o : Outcome)
     → CorrectsLetters names rows states 3 (bytes "001") states' o → states' ≡ states → ⊥
 unfolding after corrected state_of among bytes states
-letters_change_nothing (outcome.Done m) w e =
+letters_change_nothing (Ok m) w e =
     let z = ap (λ (l : List ℕ). get_or l 9 0) (sym e ∙ w.memory) in omega (arith, z)
-letters_change_nothing (outcome.Refused r) w e = correct_letters r refl zeros_codes (omega arith) w
+letters_change_nothing (Err r) w e = correct_letters r refl zeros_codes (omega arith) w

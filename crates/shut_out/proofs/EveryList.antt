@@ -1,11 +1,11 @@
 -- Shut out: "refusing everything", for the calls over alternatives handed in: 01 A as lists, on table T.
+use Rattle.std.specs.Prelude.{Err}
 use Prim.Native.Nat.{ℕ, zero, suc, ◌<◌, ◌≤◌}
 use native.Mathlib.Omega.{arith}
 use mathlib.Core.Path.{◌≡◌, refl}
 use mathlib.Core.List.{List, [], ◌∷◌}
 use lib.ListN.{length, get_or}
 use Rattle.basics.specs.declared.Refusal.{Refusal}
-use Rattle.basics.specs.declared.Outcome.TheVariants as outcome
 use Rattle.basics.specs.Words.{greatest_of, sum_of}
 use Rattle.alf.specs.declared.Rules.{Rules}
 use Rattle.alf.specs.Bytes.{half_number, edge_number, boolean_bytes, vector_bytes, bytes_of}
@@ -18,8 +18,6 @@ use Rattle.trees.specs.Parts.{top}
 use Rattle.alternatives.specs.InMemory.{cut, sum, tests_of, alternatives_of_lem}
 use Rattle.timed_queue.specs.declared.queues.Queue.{Queue}
 use Rattle.states.specs.FirstBadCode.{Codes}
-use Rattle.matching_calls.specs.declared.matching.Matching.TheVariants as matching
-use Rattle.matching_calls.specs.declared.matching.Counting.TheVariants as counting
 use Rattle.call_laws.proofs.Routes.{holding_first}
 use Rattle.listed_acceptance.specs.Lists.{Operand, AcceptedAlternatives}
 use Rattle.listed_acceptance.specs.Fitting.{ListedFits}
@@ -76,13 +74,13 @@ one_accepted =
     operand_there (suc k) l = absurd (omega arith)
 
 module _ (r : Refusal) where
-  pub listed_fits : ListedFits names (asked rises) one one edge_01 one (outcome.Refused r) → ⊥
+  pub listed_fits : ListedFits names (asked rises) one one edge_01 one (Err r) → ⊥
   listed_fits w =
       (over_lists.listed_fits names (asked rises) one one edge_01 one).no_refusal
       (record { name_count_lem = three; accepted = one_accepted }) r tt w
 
   pub listed_match_row : {ρ : Rules} (i : ℕ) → i < rows
-      → listed.ListedMatch ρ names rows (asked rises) one one edge_01 one states times i (matching.Refused r) → ⊥
+      → listed.ListedMatch ρ names rows (asked rises) one one edge_01 one states times i (Err r) → ⊥
   listed_match_row i l w =
       (over_lists.listed_match_row names rows (asked rises) one one edge_01 one states times i).no_refusal
       (record { trace = trace_good; accepted = one_accepted; asked = (times_good, l) }) r tt w
@@ -90,21 +88,21 @@ module _ (r : Refusal) where
   pub listed_match_all : {ρ : Rules} {answers tried given began answers' tried' given' began' : List ℕ}
       → Lent rows (length times) (length answers) (length tried) (length given) (length began)
       → listed.ListedAll ρ names rows (asked rises) one one edge_01 one states times answers tried given began answers'
-      tried' given' began' (outcome.Refused r) → ⊥
+      tried' given' began' (Err r) → ⊥
   listed_match_all {ρ} {answers} {tried} {given} {began} {answers'} {tried'} {given'} {began'} room w =
       (over_lists.listed_match_all names rows (asked rises) one one edge_01 one states times answers tried given began
       ).no_refusal (record { trace = trace_good; accepted = one_accepted; asked = (room, times_good.rising) }) r
       (answers', tried', given', began') w
 
   pub listed_totals : {ρ : Rules}
-      → listed.ListedTotals ρ names rows (asked rises) one one edge_01 one states (counting.Refused r) → ⊥
+      → listed.ListedTotals ρ names rows (asked rises) one one edge_01 one states (Err r) → ⊥
   listed_totals w =
       (over_lists.listed_totals names rows (asked rises) one one edge_01 one states).no_refusal
       (record { trace = trace_good; accepted = one_accepted; asked = tt }) r tt w
 
   pub listed_push : {ρ : Rules} {queue queue' : Queue} {time : ℕ} {row : List ℕ} → queue.rows.kept.0 ≡ 0
       → length row ≡ names → Codes row
-      → listed.ListedPush ρ names (asked rises) one one edge_01 one queue time row (matching.Refused r) queue' → ⊥
+      → listed.ListedPush ρ names (asked rises) one one edge_01 one queue time row (Err r) queue' → ⊥
   listed_push {ρ} {queue} {queue'} {time} {row} e f c w =
       let h = holding_first names 1 queue e in
       (over_lists.listed_push names (asked rises) one one edge_01 one queue time row).no_refusal

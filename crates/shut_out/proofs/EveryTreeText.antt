@@ -2,13 +2,13 @@
 -- tree: those of 01 A on table T are not refused where there is room, and no others are written.
 --   list, table_line                  on T, where there is room: 76 bytes, 20 bytes
 --   other_listing, other_line         nothing but document 01's listing of case 1, and its line
+use Rattle.std.specs.Prelude.{Err, Ok}
 use Prim.Native.Nat.{ℕ, ◌≤◌}
 use native.Mathlib.Omega.{arith}
 use mathlib.Core.Path.{◌≡◌, refl, ap, ◌∙◌}
 use mathlib.Core.List.{List}
 use lib.ListN.{length}
 use Rattle.basics.specs.declared.Refusal.{Refusal}
-use Rattle.basics.specs.declared.Outcome.TheVariants.{Done, Refused}
 use Rattle.basics.specs.Text.{bytes}
 use Rattle.basics.specs.Memory.{after, front}
 use Rattle.alf.specs.declared.Rules.{Rules}
@@ -39,7 +39,7 @@ line_length ρ = ap length (line_is _)
 
 module _ {out out' : List ℕ} where
   pub list : {ρ : Rules} (r : Refusal) → 76 ≤ length out
-      → ListsTree ρ names rows (asked rises) times states out out' (Refused r) → ⊥
+      → ListsTree ρ names rows (asked rises) times states out out' (Err r) → ⊥
   unfolding times
   list {ρ} r room w =
       (texts.list names rows (asked rises) states times out).no_refusal
@@ -51,7 +51,7 @@ module _ {out out' : List ℕ} where
       }) r out' w
 
   pub table_line : {ρ : Rules} (r : Refusal) → 20 ≤ length out
-      → LinesTree ρ names rows (asked rises) states (bytes "01 A") out out' (Refused r) → ⊥
+      → LinesTree ρ names rows (asked rises) states (bytes "01 A") out out' (Err r) → ⊥
   table_line {ρ} r room w =
       (texts.table_line names rows (asked rises) states (bytes "01 A") out).no_refusal
       (record {
@@ -61,13 +61,13 @@ module _ {out out' : List ℕ} where
         room = omega (arith, room, line_length ρ);
       }) r out' w
 
-  pub other_listing : {ρ : Rules} {m : ℕ} → ListsTree ρ names rows (asked rises) times states out out' (Done m)
+  pub other_listing : {ρ : Rules} {m : ℕ} → ListsTree ρ names rows (asked rises) times states out out' (Ok m)
       → out' ≡ front (bytes
       "time answer\n0 none\n10 yes\n20 no\n35 no\n40 unknown\n55 no\nyes 1 no 3 unknown 1\n") out
   unfolding after
   other_listing w = w.memory ∙ ap (λ (t : List ℕ). front t out) (listing_is _)
 
-  pub other_line : {ρ : Rules} {m : ℕ} → LinesTree ρ names rows (asked rises) states (bytes "01 A") out out' (Done m)
+  pub other_line : {ρ : Rules} {m : ℕ} → LinesTree ρ names rows (asked rises) states (bytes "01 A") out out' (Ok m)
       → out' ≡ front (bytes "1\t0.200000\t1\t3\t01 A\n") out
   unfolding after
   other_line w = w.memory ∙ ap (λ (t : List ℕ). front t out) (line_is _)

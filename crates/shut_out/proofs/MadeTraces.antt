@@ -6,6 +6,8 @@
 --   wrote_and_refused        where it is refused, the lists are as before
 --   made_on_T                what `show` prints of T, given room, is not refused
 --   make_trace_attached      the contract of `make_trace`
+use Rattle.std.specs.Prelude.{Err, Ok}
+use Rattle.trace_reader.specs.Reading.{size}
 use Prim.Native.Nat.{ℕ, ◌*◌, ◌≤◌}
 use native.Mathlib.Omega.{arith}
 use mathlib.Core.Path.{◌≡◌, refl, ap}
@@ -24,8 +26,7 @@ use Rattle.alf.specs.Refusals.{Passed}
 use Rattle.alf.specs.TableT.{rows, times, states}
 use Rattle.alf.proofs.Orders.{passed_both}
 use Rattle.alf.proofs.Outcomes.{refused_passed}
-use Rattle.trace_reader.specs.declared.Reading.{Reading}
-use Rattle.trace_reader.specs.declared.Reading.TheVariants.{Read, Refused}
+use Rattle.trace_reader.specs.Reading.{Reading}
 use Rattle.trace_reader.specs.Reading.{room_order, Untouched}
 use Rattle.activity.specs.Activity.{activity_text}
 use Rattle.trace_texts.specs.Texts.{names_made, times_made, states_made, text_order}
@@ -63,12 +64,12 @@ module _ (text names times states : List ℕ) where
       (rooms names times states (name_count text) (row_count text) g.names_fit_lem g.times_fit g.states_fit)
 
   made_parts : (x : Reading) (m : Three) → MakesTrace text names times states m.0 m.1 m.2 x
-      → Passed (read_order text names times states) ⊎ IsRefusal Refused x
+      → Passed (read_order text names times states) ⊎ IsRefusal Err x
   unfolding MakesTrace
-  made_parts (Read k n) m w = inl w.passes
-  made_parts (Refused r) m w = inr (r, refl)
+  made_parts (Ok s) m w = inl w.passes
+  made_parts (Err r) m w = inr (r, refl)
 
-  pub make_trace : Exactly {M = Three} Makable (read_order text names times states) Refused
+  pub make_trace : Exactly {M = Three} Makable (read_order text names times states) Err
       (λ r m. MakesTrace text names times states m.0 m.1 m.2 r) (names, times, states)
   unfolding MakesTrace
   make_trace =
@@ -81,14 +82,14 @@ module _ (text names times states : List ℕ) where
       })
 
   module _ (names' times' states' : List ℕ) where
-    pub no_other_trace : {k n : ℕ} → MakesTrace text names times states names' times' states' (Read k n)
+    pub no_other_trace : {k n : ℕ} → MakesTrace text names times states names' times' states' (Ok (size k n))
         → (k ≡ name_count text) × (n ≡ row_count text) × (names' ≡ front (names_made (head_of text)) names)
         × (times' ≡ front (times_made (rows_of text)) times)
         × (states' ≡ front (states_made (name_count text) (rows_of text)) states)
     unfolding MakesTrace
     no_other_trace w = (w.named, w.counted, w.names_now, w.times_now, w.states_now)
 
-    module _ (r : Refusal) (h : MakesTrace text names times states names' times' states' (Refused r)) where
+    module _ (r : Refusal) (h : MakesTrace text names times states names' times' states' (Err r)) where
       pub made_and_refused : Passed (read_order text names times states) → ⊥
       unfolding MakesTrace
       made_and_refused p = refused_passed _ _ _ p h.0.by
@@ -98,17 +99,17 @@ module _ (text names times states : List ℕ) where
       wrote_and_refused = h.1
 
 told : Reading → Bool
-told (Read k n) = true
-told (Refused r) = false
+told (Ok s) = true
+told (Err r) = false
 
 pub made_on_T : (n₀ t₀ s₀ : List ℕ) (n₁ t₁ s₁ : List ℕ) (r : Refusal) → 96 ≤ length n₀ → 6 ≤ length t₀
-    → 18 ≤ length s₀ → MakesTrace (activity_text letters times states rows) n₀ t₀ s₀ n₁ t₁ s₁ (Refused r) → ⊥
+    → 18 ≤ length s₀ → MakesTrace (activity_text letters times states rows) n₀ t₀ s₀ n₁ t₁ s₁ (Err r) → ⊥
 unfolding told
 made_on_T n₀ t₀ s₀ n₁ t₁ s₁ r a b c w =
     let room =
     rooms n₀ t₀ s₀ (names_in letters) rows (omega (arith, a, ap (λ (k : ℕ). k * 32) letters_count)) b
     (omega (arith, c, ap (λ (k : ℕ). 6 * k) letters_count)) in
-    never (ap told (read_back trace_T (shown_read trace_T) n₀ t₀ s₀ room (Refused r) w).told)
+    never (ap told (read_back trace_T (shown_read trace_T) n₀ t₀ s₀ room (Err r) w).told)
 
 pub make_trace_attached : (κs : Lfts 4) (a : Dens κs kinds.ps) → says.Pre κs a
     × ((r : Reading) (e : Dens κs kinds.ps) → says.Post κs a r e

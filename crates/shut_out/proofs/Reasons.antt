@@ -5,13 +5,13 @@
 --   narrowed                what is said of a contract is so of one that allows no more
 --   comes_parts             of a call whose result is an `Outcome`
 --   ComesIn, comes_in_parts     of one that reads a text
+use Rattle.std.specs.Prelude.{Err, Ok}
 use Prim.Native.Nat.{ℕ}
 use mathlib.Core.Path.{◌≡◌, refl}
 use mathlib.Core.Logic.{◌⊎◌, inl, inr}
 use mathlib.Core.List.{List, [], ◌∷◌}
 use Rattle.basics.specs.declared.Refusal.{Refusal}
-use Rattle.basics.specs.declared.Outcome.{Outcome}
-use Rattle.basics.specs.declared.Outcome.TheVariants.{Done, Refused}
+use Rattle.basics.specs.Refusing.{Outcome}
 use Rattle.alf.specs.Refusals.{Order, RefusedWith, RefusedBy, Passed, Comes}
 use Rattle.alf.proofs.Outcomes.{refused_passed}
 use Rattle.demands.specs.Promises.{One}
@@ -65,20 +65,20 @@ module _ {R M : Type 0} {order : Order} {refused : Refusal → R} {allows : R �
         no_other = λ r h x m w. e.no_other r h x m (f x m w);
       }
 
-pub comes_parts : (o : Order) (made : ℕ → Type 0) (x : Outcome) → Comes o made x → Passed o ⊎ IsRefusal Refused x
+pub comes_parts : (o : Order) (made : ℕ → Type 0) (x : Outcome) → Comes o made x → Passed o ⊎ IsRefusal Err x
 unfolding Comes
-comes_parts o made (Done k) w = inl w.0
-comes_parts o made (Refused r) w = inr (r, refl)
+comes_parts o made (Ok k) w = inl w.0
+comes_parts o made (Err r) w = inr (r, refl)
 
 -- a call that reads a text
 unfoldable pub ComesIn : List ℕ → Order → Outcome → Type 0
-ComesIn text o (Done k) = Passed o
-ComesIn text o (Refused r) = RefusedIn text o r
+ComesIn text o (Ok k) = Passed o
+ComesIn text o (Err r) = RefusedIn text o r
 
-pub comes_in_parts : (text : List ℕ) (o : Order) (x : Outcome) → ComesIn text o x → Passed o ⊎ IsRefusal Refused x
+pub comes_in_parts : (text : List ℕ) (o : Order) (x : Outcome) → ComesIn text o x → Passed o ⊎ IsRefusal Err x
 unfolding ComesIn
-comes_in_parts text o (Done k) w = inl w
-comes_in_parts text o (Refused r) w = inr (r, refl)
+comes_in_parts text o (Ok k) w = inl w
+comes_in_parts text o (Err r) w = inr (r, refl)
 
 -- what a call is lent to write to: nothing, or some lists; of one that is lent nothing there is one result
 abbrev pub None : Type 0

@@ -3,6 +3,7 @@
 -- nothing but a refusal, with the number and the place of the first row that holds; and that refused, nothing is
 -- written. Here: names, texts, files, rewriting, values listed, lines. The calls over rows stand in RefusingRows,
 -- reading in RefusingTexts, the texts of a pattern's tree in RefusingTreeTexts.
+use Rattle.std.specs.Prelude.{Err}
 use Prim.Native.Nat.{ℕ, ◌/◌, ◌<◌, ◌≤◌}
 use native.Mathlib.Omega.{arith}
 use mathlib.Core.Path.{◌≡◌, refl}
@@ -12,7 +13,6 @@ use Rattle.alf.specs.Values.{old_rules_lem}
 use Rattle.alf.specs.declared.Rules.{Rules}
 use Rattle.alf.specs.declared.Sort.{Sort}
 use Rattle.alf.specs.declared.Sort.TheVariants.{Vector}
-use Rattle.basics.specs.declared.Outcome.TheVariants as outcome
 use Rattle.alf.specs.Names.{names_in, GoodSlot}
 use Rattle.alf.specs.Refusals.{Passed, Comes, NameCount}
 use Rattle.names.specs.Check.{Slots, names_order}
@@ -44,7 +44,7 @@ module _ (names : List ℕ) where
   unfolding Passed
   names_pass g = (λ p a. a.given g.slots, (λ p a. a.given.1 (g.good p a.given.0), tt))
 
-  pub check_names_lem : Exactly {M = None} (GoodNames names) (names_order names) outcome.Refused
+  pub check_names_lem : Exactly {M = None} (GoodNames names) (names_order names) Err
       (λ r m. Comes (names_order names) (λ k. k ≡ length names / 32) r) tt
   unfolding Comes
   check_names_lem =
@@ -76,7 +76,7 @@ module _ (names : List ℕ) where
       ),
     )
 
-    pub write_expression_lem : Exactly Writable (writing.order names tree sort (length out)) outcome.Refused
+    pub write_expression_lem : Exactly Writable (writing.order names tree sort (length out)) Err
         (λ r m. writing.Writes names tree sort out m r) out
     unfolding Comes after
     write_expression_lem =
@@ -94,7 +94,7 @@ module _ (names times states : List ℕ) (n : ℕ) (out : List ℕ) where
     pub trace : Trace names times states n
     pub room : length (file_of names times states n) ≤ length out
 
-  pub write_trace : Exactly FileWritable (files.write_order names times states n (length out)) outcome.Refused
+  pub write_trace : Exactly FileWritable (files.write_order names times states n (length out)) Err
       (λ r m. files.Writes names times states n out m r) out
   unfolding Comes after
   write_trace =
@@ -137,7 +137,7 @@ module _ (ρ : Rules) (names : ℕ) (tree : List ℕ) where
 
     pub rewrite : Exactly {M = Four} Rewritable
         (rewriting.tree_order ρ names tree
-        (rewriting.room_order (alternatives_at ρ tree names) steps tests edges operands)) outcome.Refused
+        (rewriting.room_order (alternatives_at ρ tree names) steps tests edges operands)) Err
         (λ r m. rewriting.Rewrites ρ names tree steps tests edges operands m.0 m.1 m.2 m.3 r)
         (steps, tests, edges, operands)
     unfolding Comes after
@@ -170,7 +170,7 @@ module _ (ρ : Rules) (names : ℕ) (tree : List ℕ) where
 
     pub contradictions : Exactly Reportable
         (rewriting.tree_order ρ names tree (flagging.flag_order names (flagging.own_at ρ tree names) flags))
-        outcome.Refused (λ r m. flagging.Contradicts ρ names tree flags m r) flags
+        Err (λ r m. flagging.Contradicts ρ names tree flags m r) flags
     unfolding Comes after
     contradictions =
         exactly report_passes
@@ -199,7 +199,7 @@ module _ (out : List ℕ) where
       ),
     )
 
-    pub list_values_lem : Exactly Listable (lines.list_order times values (length out)) outcome.Refused
+    pub list_values_lem : Exactly Listable (lines.list_order times values (length out)) Err
         (λ r m. lines.ValuesText times values out m r) out
     unfolding Comes after
     list_values_lem =
@@ -216,7 +216,7 @@ module _ (out : List ℕ) where
     unfolding Passed
     line_passes g = (λ p a. omega (arith, a.given, g), tt)
 
-    pub line : Exactly (length text ≤ length out) (delivering.line_order text (length out)) outcome.Refused
+    pub line : Exactly (length text ≤ length out) (delivering.line_order text (length out)) Err
         (λ r m. delivering.Delivers text out m r) out
     unfolding Comes after
     line =

@@ -3,6 +3,7 @@
 --   no_lines                                      such a refusal
 --   Showable, write_alternatives_lem                  of a tree: 18, 12, 10, 9
 --   text_order, TextShowable, alternatives_text    of a text: as it is read, then 9
+use Rattle.std.specs.Prelude.{Err, Ok}
 use Prim.Native.Nat.{ℕ, ◌≤◌}
 use native.Mathlib.Omega.{arith}
 use mathlib.Core.Path.{◌≡◌, refl}
@@ -13,8 +14,7 @@ use Rattle.alf.specs.Names.{names_in}
 use Rattle.basics.specs.declared.Refusal.{Refusal}
 use Rattle.alf.specs.declared.Rules.{Rules}
 use Rattle.alf.specs.declared.Sort.TheVariants as sort
-use Rattle.basics.specs.declared.Outcome.{Outcome}
-use Rattle.basics.specs.declared.Outcome.TheVariants as outcome
+use Rattle.basics.specs.Refusing.{Outcome}
 use Rattle.alf.specs.Expressions.{Vector, vector}
 use Rattle.alf.specs.Alternatives.{alternatives}
 use Rattle.alf.specs.Steady.{meant}
@@ -44,14 +44,14 @@ use Rattle.shut_out.proofs.RefusingTexts.{Readable, read_passes}
 
 -- refused, and no test is shown as `...`
 abbrev pub no_lines : Refusal → Lines
-no_lines r = record { written = outcome.Refused r; untold = 0 }
+no_lines r = record { written = Err r; untold = 0 }
 
 -- where the writing is refused, so is the whole
 lines_parts : (o : Order) (made : ℕ → Type 0) (x : Lines) (n : ℕ) (w : Outcome) → x.written ≡ w
     → Comes o made w → x.untold ≡ tally n w → Passed o ⊎ IsRefusal no_lines x
 unfolding Comes tally
-lines_parts o made x n (outcome.Done k) e c t = inl c.0
-lines_parts o made x n (outcome.Refused r) e c t = inr (r, λ i. record { written = e i; untold = t i })
+lines_parts o made x n (Ok k) e c t = inl c.0
+lines_parts o made x n (Err r) e c t = inr (r, λ i. record { written = e i; untold = t i })
 
 -- Of a tree.
 module _ (ρ : Rules) (names tree out : List ℕ) where
@@ -121,10 +121,10 @@ module _ (ρ : Rules) (names text out : List ℕ) where
   with_text : {p : Vector} → Passed reads → Gives ρ names text sort.Vector (vector p) → (w : Outcome)
       → Comes (line_order (shown p) (length out)) (λ k. k ≡ length (shown p)) w → ComesIn text text_order w
   unfolding Comes ComesIn Passed
-  with_text {p} passed g (outcome.Done k) c =
+  with_text {p} passed g (Ok k) c =
       passed_both reads nine passed
       (λ q a. c.0.0 q (rw (vector_one a.it p (gives_unique a.given g)) at a.holds), tt)
-  with_text {p} passed g (outcome.Refused r) c =
+  with_text {p} passed g (Err r) c =
       in_then text reads nine passed (nine_shown (record { by = nine_given g _ _ c.by; bare = c.bare }))
 
   text_comes : {x : Lines} {m : List ℕ} → RewritesText ρ names text out m x → ComesIn text text_order x.written
@@ -135,8 +135,8 @@ module _ (ρ : Rules) (names text out : List ℕ) where
   shown_parts : (x : Lines) (n : ℕ) (w : Outcome) → x.written ≡ w → ComesIn text text_order w → x.untold ≡ tally n w
       → Passed text_order ⊎ IsRefusal no_lines x
   unfolding ComesIn tally
-  shown_parts x n (outcome.Done k) e c t = inl c
-  shown_parts x n (outcome.Refused r) e c t = inr (r, λ i. record { written = e i; untold = t i })
+  shown_parts x n (Ok k) e c t = inl c
+  shown_parts x n (Err r) e c t = inr (r, λ i. record { written = e i; untold = t i })
 
   text_parts : {x : Lines} {m : List ℕ} → RewritesText ρ names text out m x
       → Passed text_order ⊎ IsRefusal no_lines x

@@ -1,13 +1,13 @@
 -- The listing with where each match began, from a text: refused exactly where its order says.
 --   Listable          a text that gives a pattern, a trace with times that rise, and room
 --   list_began_text   no refusal without reason, no acceptance without reason, no other number, place or memory
+use Rattle.std.specs.Prelude.{Err}
 use Prim.Native.Nat.{ℕ, ◌/◌, ◌≤◌}
 use native.Mathlib.Omega.{arith}
 use mathlib.Core.Path.{◌≡◌, refl}
 use mathlib.Core.List.{List}
 use lib.ListN.{length}
-use Rattle.basics.specs.declared.Outcome.{Outcome}
-use Rattle.basics.specs.declared.Outcome.TheVariants as outcome
+use Rattle.basics.specs.Refusing.{Outcome}
 use Rattle.alf.specs.declared.Rules.{Rules}
 use Rattle.alf.specs.declared.Sort.TheVariants as sort
 use Rattle.alf.specs.Expressions.{Vector, vector}
@@ -52,7 +52,7 @@ module _ (ρ : Rules) (names times states text out : List ℕ) where
   comes (lists p q g e h) = q
   comes (refuses a h) = a
 
-  pub list_began_text : ExactlyIn text Listable whole outcome.Refused
+  pub list_began_text : ExactlyIn text Listable whole Err
       (λ r m. ListsBeganText ρ names times states text out m r) out
   unfolding ComesIn
   list_began_text =

@@ -7,6 +7,7 @@
 --   TextListable, list_text, values_text    the listings of what a text gives
 -- `list_values` stands in Refusing, the alternatives as lines in RefusingAlternatives. `add`, `no_sums` and
 -- `row_number_lem` have nothing to refuse.
+use Rattle.std.specs.Prelude.{Err, Ok}
 use Prim.Native.Nat.{ℕ, ◌/◌, ◌<◌, ◌≤◌}
 use native.Mathlib.Omega.{arith}
 use mathlib.Core.Path.{◌≡◌, refl}
@@ -16,16 +17,14 @@ use lib.ListN.{length}
 use Rattle.alf.specs.declared.Rules.{Rules}
 use Rattle.alf.specs.declared.Sort.{Sort}
 use Rattle.alf.specs.declared.Sort.TheVariants as sort
-use Rattle.basics.specs.declared.Outcome.{Outcome}
-use Rattle.basics.specs.declared.Outcome.TheVariants as outcome
+use Rattle.basics.specs.Refusing.{Outcome}
 use Rattle.alf.specs.Expressions.{Boolean, Vector, Expression, boolean, vector}
 use Rattle.alf.specs.Steady.{meant}
 use Rattle.alf.specs.Refusals.{Order, Passed, Comes}
 use Rattle.alf.proofs.Orders.{passed_both}
 use Rattle.reader.specs.Reading.{read_order, Gives}
 use Rattle.states.specs.FirstBadCode.{Codes}
-use Rattle.matching_calls.specs.declared.matching.Counting.{Counting}
-use Rattle.matching_calls.specs.declared.matching.Counting.TheVariants as counting
+use Rattle.matching_calls.specs.Matching.{Counting}
 use Rattle.basics.specs.Memory.{after}
 use Rattle.call_laws.proofs.Passing.{codes_never}
 use Rattle.figures.specs.Delivering.{line_order}
@@ -62,12 +61,12 @@ module _ (ρ : Rules) (names : List ℕ) (n : ℕ) (states text : List ℕ) wher
 
   text_parts : (x : Counting)
       → CountsIn text (count_order ρ names n states text) (TotalsText ρ names n states text) x
-      → Passed (count_order ρ names n states text) ⊎ IsRefusal counting.Refused x
+      → Passed (count_order ρ names n states text) ⊎ IsRefusal Err x
   unfolding CountsIn
-  text_parts (counting.Counted t) w = inl w.0
-  text_parts (counting.Refused r) w = inr (r, refl)
+  text_parts (Ok t) w = inl w.0
+  text_parts (Err r) w = inr (r, refl)
 
-  pub count_text_lem : ExactlyIn {M = None} text Countable (count_order ρ names n states text) counting.Refused
+  pub count_text_lem : ExactlyIn {M = None} text Countable (count_order ρ names n states text) Err
       (λ r m. CountsText ρ names n states text r) tt
   unfolding CountsIn
   count_text_lem =
@@ -87,13 +86,13 @@ module _ (ρ : Rules) (names : List ℕ) (n : ℕ) (states text : List ℕ) wher
       pub made : TableLine ρ names n states text out out' (record { counted = c; written = written })
 
     pub counted_in_line :
-        ExactlyIn {M = None} text Countable (count_order ρ names n states text) counting.Refused
+        ExactlyIn {M = None} text Countable (count_order ρ names n states text) Err
         (λ r m. InLine r) tt
     counted_in_line = narrowed count_text_lem (λ x m w. w.made.counts)
 
     -- whatever is counted, the line is refused with 9, where there is no room for it
     pub table_line : (c : Counting)
-        → Exactly (length (line_of text n c) ≤ length out) (line_order (line_of text n c) (length out)) outcome.Refused
+        → Exactly (length (line_of text n c) ≤ length out) (line_order (line_of text n c) (length out)) Err
         (λ r m. TableLine ρ names n states text out m (record { counted = c; written = r })) out
     table_line c = narrowed (line out (line_of text n c)) (λ x m w. w.writes)
 
@@ -115,7 +114,7 @@ module _ (k n : ℕ) (states : List ℕ) (row : ℕ) (letters : List ℕ) where
     ),
   )
 
-  pub correct_letters : Exactly LettersGood (letters_order k n states row letters) outcome.Refused
+  pub correct_letters : Exactly LettersGood (letters_order k n states row letters) Err
       (λ r m. CorrectsLetters k n states row letters m r) states
   unfolding Comes after
   correct_letters =
@@ -155,7 +154,7 @@ module _ (ρ : Rules) {A : Type 0} (into : A → Expression) (of : Sort) (shown 
   lists_comes (lists x p g e h) = p
   lists_comes (refuses a h) = a
 
-  lists_exactly : ((a b : A) → into a ≡ into b → a ≡ b) → ExactlyIn text TextListable whole outcome.Refused
+  lists_exactly : ((a b : A) → into a ≡ into b → a ≡ b) → ExactlyIn text TextListable whole Err
       (λ r m. Lists ρ into of shown names times states text out m r) out
   unfolding ComesIn
   lists_exactly one =
@@ -176,12 +175,12 @@ module _ (names times states text out : List ℕ) where
 
   pub list_text : (ρ : Rules)
       → ExactlyIn text (TextListable ρ vector sort.Vector (answers_shown ρ) names times states text out)
-      (list_order ρ vector sort.Vector (answers_shown ρ) names times states text (length out)) outcome.Refused
+      (list_order ρ vector sort.Vector (answers_shown ρ) names times states text (length out)) Err
       (λ r m. ListsPattern ρ names times states text out m r) out
   list_text ρ = lists_exactly ρ vector sort.Vector (answers_shown ρ) names times states text out vector_one
 
   pub values_text : (ρ : Rules)
       → ExactlyIn text (TextListable ρ boolean sort.Boolean (values_shown ρ) names times states text out)
-      (list_order ρ boolean sort.Boolean (values_shown ρ) names times states text (length out)) outcome.Refused
+      (list_order ρ boolean sort.Boolean (values_shown ρ) names times states text (length out)) Err
       (λ r m. ListsValues ρ names times states text out m r) out
   values_text ρ = lists_exactly ρ boolean sort.Boolean (values_shown ρ) names times states text out boolean_one

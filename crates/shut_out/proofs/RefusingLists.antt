@@ -1,17 +1,15 @@
 -- Shut out: "refusing everything (the table says 'exactly when')", for the calls over alternatives handed in as lists.
+use Rattle.std.specs.Prelude.{Err, Ok}
 use Prim.Native.Nat.{ℕ, ◌<◌}
 use mathlib.Core.Path.{◌≡◌, refl}
 use mathlib.Core.Logic.{◌⊎◌, inl, inr}
 use mathlib.Core.List.{List}
 use lib.ListN.{length}
-use Rattle.basics.specs.declared.Outcome.TheVariants as outcome
 use Rattle.alf.specs.declared.Rules.{Rules}
 use Rattle.alf.specs.Refusals.{Rising, NameCount, Passed, Comes}
 use Rattle.timed_queue.specs.declared.queues.Queue.{Queue}
 use Rattle.states.specs.FirstBadCode.{Codes}
-use Rattle.matching_calls.specs.declared.matching.Matching.{Matching}
-use Rattle.matching_calls.specs.declared.matching.Matching.TheVariants as matching
-use Rattle.matching_calls.specs.declared.matching.Counting.TheVariants as counting
+use Rattle.matching_calls.specs.Matching.{Matching}
 use Rattle.judging.specs.Orders.{Rows}
 use Rattle.basics.specs.Memory.{after}
 use Rattle.matching_calls.specs.Matching.{Lent, Finds, Counts}
@@ -36,7 +34,7 @@ module _ (names : ℕ) (tree steps tests edges operands : List ℕ) where
   unfolding Passed
   fits_pass g = (λ p a. a.given g.name_count_lem, (λ p a. a.given g.accepted, tt))
 
-  pub listed_fits : Exactly {M = None} Fitting (fits_order names tree steps tests edges operands) outcome.Refused
+  pub listed_fits : Exactly {M = None} Fitting (fits_order names tree steps tests edges operands) Err
       (λ r m. ListedFits names tree steps tests edges operands r) tt
   unfolding Comes
   listed_fits =
@@ -62,7 +60,7 @@ module _ (names n : ℕ) (tree steps tests edges operands states : List ℕ) whe
         g.asked.0.rising g.asked.1
 
     pub listed_match_row : {ρ : Rules} → Exactly {M = None} (GoodLists (GoodTimes n times × (row < n)))
-        (listed.row_order names n tree steps tests edges operands states times row) matching.Refused
+        (listed.row_order names n tree steps tests edges operands states times row) Err
         (λ r m. listed.ListedMatch ρ names n tree steps tests edges operands states times row r) tt
     unfolding Finds
     listed_match_row =
@@ -86,7 +84,7 @@ module _ (names n : ℕ) (tree steps tests edges operands states : List ℕ) whe
 
     pub listed_match_all : {ρ : Rules} → Exactly {M = Four} (GoodLists (room × Rising times))
         (listed.timed_order names n tree steps tests edges operands states (room × Rows names n (length states)) times)
-        outcome.Refused
+        Err
         (λ r m.
         listed.ListedAll ρ names n tree steps tests edges operands states times answers tried given began m.0 m.1
         m.2 m.3 r)
@@ -116,7 +114,7 @@ module _ (names n : ℕ) (tree steps tests edges operands states : List ℕ) whe
 
   pub listed_totals : {ρ : Rules} → Exactly {M = None} (GoodLists (Unit {0}))
       (listed.rows_order names n tree steps tests edges operands states (Rows names n (length states)))
-      counting.Refused (λ r m. listed.ListedTotals ρ names n tree steps tests edges operands states r) tt
+      Err (λ r m. listed.ListedTotals ρ names n tree steps tests edges operands states r) tt
   unfolding Counts
   listed_totals =
       exactly totals_pass
@@ -136,14 +134,14 @@ module _ (names : ℕ) (tree steps tests edges operands : List ℕ) (queue : Que
 
   takes_parts : (ρ : Rules) (x : Matching) (q : Queue)
       → listed.Takes ρ names tree steps tests edges operands queue time row x q
-      → Passed (listed.push_order names tree steps tests edges operands queue time row) ⊎ IsRefusal matching.Refused x
+      → Passed (listed.push_order names tree steps tests edges operands queue time row) ⊎ IsRefusal Err x
   unfolding listed.Takes
-  takes_parts ρ (matching.Found m) q w = inl w.0
-  takes_parts ρ (matching.Refused r) q w = inr (r, refl)
+  takes_parts ρ (Ok m) q w = inl w.0
+  takes_parts ρ (Err r) q w = inr (r, refl)
 
   pub listed_push : {ρ : Rules} → Exactly Pushable
       (listed.push_order names tree steps tests edges operands queue time row)
-      matching.Refused (λ r q. listed.ListedPush ρ names tree steps tests edges operands queue time row r q) queue
+      Err (λ r q. listed.ListedPush ρ names tree steps tests edges operands queue time row r q) queue
   unfolding listed.Takes
   listed_push =
       exactly (λ g. push_passed queue time row g.fits g.handed g.codes g.above)

@@ -2,6 +2,7 @@
 --   GoodTrace   1 to 32 names, 1 to 65,535 rows, a state for each name of each row, no code above 7
 --   GoodRow, GoodRows   and an accepted tree, and a row of the trace, or lists of the right length
 -- The correction and the queue stand in RefusingUpdates.
+use Rattle.std.specs.Prelude.{Err, Ok}
 use Prim.Native.Nat.{ℕ, ◌<◌, max}
 use native.Mathlib.Omega.{arith}
 use mathlib.Core.Path.{◌≡◌, refl}
@@ -11,22 +12,17 @@ use lib.ListN.{length}
 use Rattle.alf.specs.Values.{old_rules_lem}
 use Rattle.alf.specs.declared.Rules.{Rules}
 use Rattle.alf.specs.declared.Answer.{Answer}
-use Rattle.alf.specs.declared.Began.{Began}
+use Rattle.alf.specs.Beginnings.{Began}
 use Rattle.alf.specs.declared.Sort.{Sort}
 use Rattle.alf.specs.declared.Sort.TheVariants.{Boolean, Vector}
-use Rattle.basics.specs.declared.Outcome.TheVariants as outcome
 use Rattle.alf.specs.Refusals.{Order, Passed, Comes, Rising}
-use Rattle.changes.specs.declared.RowChanges.{RowChanges}
-use Rattle.changes.specs.declared.RowChanges.TheVariants as row_changes
+use Rattle.changes.specs.Call.{RowChanges}
 use Rattle.changes.specs.Call as changes
 use Rattle.acceptance.specs.Accepted.{Accepted}
 use Rattle.states.specs.FirstBadCode.{Codes}
-use Rattle.row_calls.specs.declared.written.Told.{Told}
-use Rattle.row_calls.specs.declared.written.Told.TheVariants as told
-use Rattle.matching_calls.specs.declared.matching.Matching.{Matching}
-use Rattle.matching_calls.specs.declared.matching.Matching.TheVariants as matching
-use Rattle.matching_calls.specs.declared.matching.Counting.{Counting}
-use Rattle.matching_calls.specs.declared.matching.Counting.TheVariants as counting
+use Rattle.row_calls.specs.Written.{Answering}
+use Rattle.matching_calls.specs.Matching.{Matching}
+use Rattle.matching_calls.specs.Matching.{Counting}
 use Rattle.judging.specs.Orders.{Rows, row_order, rows_order, trace_order}
 use Rattle.judging.specs.TimedOrders.{timed_order, timed_row_order}
 use Rattle.row_calls.specs.Written.{Tells, RowState, RowValue, AllValues, RowAnswer}
@@ -39,22 +35,22 @@ use Rattle.shut_out.specs.Reasons.{IsRefusal, Exactly}
 use Rattle.shut_out.proofs.Reasons.{exactly, comes_parts, None, Four, both}
 
 -- a result that is told, found, counted, changed: not refused, or a refusal
-tells_parts : (o : Order) (a : ℕ) (x : Told) → Tells o a x → Passed o ⊎ IsRefusal told.Refused x
+tells_parts : (o : Order) (a : ℕ) (x : Answering) → Tells o a x → Passed o ⊎ IsRefusal Err x
 unfolding Tells
-tells_parts o a (told.Answered b) w = inl w.0
-tells_parts o a (told.Refused r) w = inr (r, refl)
+tells_parts o a (Ok b) w = inl w.0
+tells_parts o a (Err r) w = inr (r, refl)
 
 pub finds_parts : (o : Order) (right : Answer → ℕ → Began → Type 0) (x : Matching) → Finds o right x
-    → Passed o ⊎ IsRefusal matching.Refused x
+    → Passed o ⊎ IsRefusal Err x
 unfolding Finds
-finds_parts o right (matching.Found m) w = inl w.0
-finds_parts o right (matching.Refused r) w = inr (r, refl)
+finds_parts o right (Ok m) w = inl w.0
+finds_parts o right (Err r) w = inr (r, refl)
 
 pub counts_parts : (o : Order) (right : ℕ → ℕ → ℕ → Type 0) (x : Counting) → Counts o right x
-    → Passed o ⊎ IsRefusal counting.Refused x
+    → Passed o ⊎ IsRefusal Err x
 unfolding Counts
-counts_parts o right (counting.Counted m) w = inl w.0
-counts_parts o right (counting.Refused r) w = inr (r, refl)
+counts_parts o right (Ok m) w = inl w.0
+counts_parts o right (Err r) w = inr (r, refl)
 
 pub record GoodTrace (names n : ℕ) (states : List ℕ) : Type 0 where
   pub lists : Rows names n (length states)
@@ -98,13 +94,13 @@ module _ (names n : ℕ) (states : List ℕ) (row : ℕ) where
       )
 
   changes_parts : (x : RowChanges) → changes.RowChanged names n states row x
-      → Passed (changes.order names n states row) ⊎ IsRefusal row_changes.Refused x
+      → Passed (changes.order names n states row) ⊎ IsRefusal Err x
   unfolding changes.RowChanged
-  changes_parts (row_changes.Changed c) w = inl w.0
-  changes_parts (row_changes.Refused r) w = inr (r, refl)
+  changes_parts (Ok c) w = inl w.0
+  changes_parts (Err r) w = inr (r, refl)
 
   pub changes_at : Exactly {M = None} (GoodTrace names n states × (row < n)) (changes.order names n states row)
-      row_changes.Refused (λ r m. changes.RowChanged names n states row r) tt
+      Err (λ r m. changes.RowChanged names n states row r) tt
   unfolding changes.RowChanged
   changes_at =
       exactly changes_pass
@@ -127,7 +123,7 @@ module _ {ρ : Rules} (names n : ℕ) (tree states : List ℕ) where
 
   module _ (row : ℕ) where
     pub row_state : Exactly {M = None} (GoodRow ρ names n tree Boolean states row)
-        (row_order ρ names n tree Boolean states row) outcome.Refused (λ r m. RowState ρ names n tree states row r) tt
+        (row_order ρ names n tree Boolean states row) Err (λ r m. RowState ρ names n tree states row r) tt
     unfolding Comes
     row_state =
         exactly (row_passes Boolean row)
@@ -139,7 +135,7 @@ module _ {ρ : Rules} (names n : ℕ) (tree states : List ℕ) where
         })
 
     pub row_value : Exactly {M = None} (GoodRow ρ names n tree Boolean states row)
-        (row_order ρ names n tree Boolean states row) outcome.Refused (λ r m. RowValue ρ names n tree states row r) tt
+        (row_order ρ names n tree Boolean states row) Err (λ r m. RowValue ρ names n tree states row r) tt
     unfolding Comes
     row_value =
         exactly (row_passes Boolean row)
@@ -151,7 +147,7 @@ module _ {ρ : Rules} (names n : ℕ) (tree states : List ℕ) where
         })
 
     pub row_answer_lem : Exactly {M = None} (GoodRow ρ names n tree Vector states row)
-        (row_order ρ names n tree Vector states row) told.Refused (λ r m. RowAnswer ρ names n tree states row r) tt
+        (row_order ρ names n tree Vector states row) Err (λ r m. RowAnswer ρ names n tree states row r) tt
     unfolding Tells
     row_answer_lem =
         exactly (row_passes Vector row)
@@ -163,7 +159,7 @@ module _ {ρ : Rules} (names n : ℕ) (tree states : List ℕ) where
         })
 
     pub match_row_lem : (times : List ℕ) → Exactly {M = None} (TimedRow ρ names n tree times states row)
-        (timed_row_order ρ names n tree times states row) matching.Refused
+        (timed_row_order ρ names n tree times states row) Err
         (λ r m. RowMatch ρ names n tree times states row r) tt
     unfolding Finds
     match_row_lem times =
@@ -179,7 +175,7 @@ module _ {ρ : Rules} (names n : ℕ) (tree states : List ℕ) where
         })
 
   pub window_answer : (from to : ℕ) → Exactly {M = None} (GoodRow ρ names n tree Vector states (max from to))
-      (row_order ρ names n tree Vector states (max from to)) told.Refused
+      (row_order ρ names n tree Vector states (max from to)) Err
       (λ r m. WindowAnswer ρ names n tree states from to r) tt
   unfolding Tells
   window_answer from to =
@@ -192,7 +188,7 @@ module _ {ρ : Rules} (names n : ℕ) (tree states : List ℕ) where
       })
 
   pub values : (out : List ℕ) → Exactly (GoodRows ρ names n (length out ≡ n) tree Boolean states)
-      (rows_order ρ names n (length out ≡ n) tree Boolean states) outcome.Refused
+      (rows_order ρ names n (length out ≡ n) tree Boolean states) Err
       (λ r m. AllValues ρ names n tree states out m r) out
   unfolding Comes after
   values out =
@@ -207,7 +203,7 @@ module _ {ρ : Rules} (names n : ℕ) (tree states : List ℕ) where
   pub match_all : (times answers tried given began : List ℕ)
       → Exactly {M = Four} (TimedRows ρ names n tree times states answers tried given began)
       (timed_order ρ names n (Lent n (length times) (length answers) (length tried) (length given) (length began)) tree
-      times states) outcome.Refused
+      times states) Err
       (λ r m. AllMatched ρ names n tree times states answers tried given began m.0 m.1 m.2 m.3 r)
       (answers, tried, given, began)
   unfolding Comes after
@@ -232,7 +228,7 @@ module _ {ρ : Rules} (names n : ℕ) (tree states : List ℕ) where
   totals_pass g = codes_passed states g.trace.lists g.accepted g.trace.codes
 
   pub totals : Exactly {M = None} (GoodRows ρ names n (Unit {0}) tree Vector states)
-      (trace_order ρ names n tree Vector states) counting.Refused (λ r m. RowTotals ρ names n tree states r) tt
+      (trace_order ρ names n tree Vector states) Err (λ r m. RowTotals ρ names n tree states r) tt
   unfolding Counts
   totals =
       exactly totals_pass

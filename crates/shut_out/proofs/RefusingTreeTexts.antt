@@ -1,6 +1,7 @@
 -- Shut out: "refusing everything (the table says 'exactly when')", for the texts of a pattern's tree: the listing of
 -- its answers, and its line of the table. Good input is a good trace, an accepted tree, and room for the text.
 --   Textable, list, table_line
+use Rattle.std.specs.Prelude.{Err}
 use Prim.Native.Nat.{ℕ, ◌≤◌}
 use native.Mathlib.Omega.{arith}
 use mathlib.Core.Path.{◌≡◌, refl}
@@ -8,7 +9,6 @@ use mathlib.Core.List.{List}
 use lib.ListN.{length}
 use Rattle.alf.specs.declared.Rules.{Rules}
 use Rattle.alf.specs.declared.Sort.TheVariants.{Vector}
-use Rattle.basics.specs.declared.Outcome.TheVariants as outcome
 use Rattle.basics.specs.Memory.{after}
 use Rattle.alf.specs.Refusals.{Passed, Comes}
 use Rattle.acceptance.specs.Accepted.{Accepted}
@@ -47,7 +47,7 @@ module _ (names n : ℕ) (tree states : List ℕ) where
     listed ρ = pattern_listing ρ names times states (expression ρ tree names)
 
     pub list : {ρ : Rules} (out : List ℕ) → Exactly (Textable ρ Listed names tree states (listed ρ) out)
-        (text_order ρ Listed names tree states (listed ρ) (length out)) outcome.Refused
+        (text_order ρ Listed names tree states (listed ρ) (length out)) Err
         (λ r m. ListsTree ρ names n tree times states out m r) out
     unfolding Comes after
     list {ρ} out =
@@ -65,7 +65,7 @@ module _ (names n : ℕ) (tree states : List ℕ) where
 
     pub table_line : {ρ : Rules} (out : List ℕ)
         → Exactly (Textable ρ (Rows names n (length states)) names tree states (line ρ) out)
-        (text_order ρ (Rows names n (length states)) names tree states (line ρ) (length out)) outcome.Refused
+        (text_order ρ (Rows names n (length states)) names tree states (line ρ) (length out)) Err
         (λ r m. LinesTree ρ names n tree states pattern out m r) out
     unfolding Comes after
     table_line {ρ} out =

@@ -1,6 +1,7 @@
 -- Shut out: "refusing everything (the table says 'exactly when')", for the correction of a row and the queue.
 --   Correctable, Pushable   what good input is
 --   correct, push           it is not refused, and anything else is refused as the table says
+use Rattle.std.specs.Prelude.{Err, Ok}
 use Prim.Native.Nat.{ℕ, ◌<◌}
 use native.Mathlib.Omega.{arith}
 use mathlib.Core.Path.{◌≡◌, refl}
@@ -9,13 +10,11 @@ use mathlib.Core.List.{List}
 use lib.ListN.{length}
 use Rattle.alf.specs.declared.Rules.{Rules}
 use Rattle.alf.specs.declared.Sort.TheVariants.{Vector}
-use Rattle.basics.specs.declared.Outcome.TheVariants as outcome
 use Rattle.alf.specs.Refusals.{Passed, Comes}
 use Rattle.acceptance.specs.Accepted.{Accepted}
 use Rattle.timed_queue.specs.declared.queues.Queue.{Queue}
 use Rattle.states.specs.FirstBadCode.{Codes}
-use Rattle.matching_calls.specs.declared.matching.Matching.{Matching}
-use Rattle.matching_calls.specs.declared.matching.Matching.TheVariants as matching
+use Rattle.matching_calls.specs.Matching.{Matching}
 use Rattle.basics.specs.Memory.{after}
 use Rattle.update_calls.specs.Correcting.{correction_order, Correction}
 use Rattle.queue_calls.specs.Pushing.{Early, RowFits, Handed, push_order, Takes, Push}
@@ -49,7 +48,7 @@ module _ (ρ : Rules) (names n : ℕ) (tree states : List ℕ) where
       ),
     )
 
-    pub correct : Exactly {M = Two} Correctable (correction_order ρ names n tree states answers row new) outcome.Refused
+    pub correct : Exactly {M = Two} Correctable (correction_order ρ names n tree states answers row new) Err
         (λ r m. Correction ρ names n tree states answers row new m.0 m.1 r) (states, answers)
     unfolding Comes after
     correct =
@@ -70,12 +69,12 @@ module _ (ρ : Rules) (names : ℕ) (tree : List ℕ) (queue : Queue) (time : �
     pub above : Early queue time → ⊥
 
   takes_parts : (x : Matching) (q : Queue) → Takes ρ names tree queue time row x q
-      → Passed (push_order ρ names tree queue time row) ⊎ IsRefusal matching.Refused x
+      → Passed (push_order ρ names tree queue time row) ⊎ IsRefusal Err x
   unfolding Takes
-  takes_parts (matching.Found m) q w = inl w.0
-  takes_parts (matching.Refused r) q w = inr (r, refl)
+  takes_parts (Ok m) q w = inl w.0
+  takes_parts (Err r) q w = inr (r, refl)
 
-  pub push : Exactly Pushable (push_order ρ names tree queue time row) matching.Refused
+  pub push : Exactly Pushable (push_order ρ names tree queue time row) Err
       (λ r q. Push ρ names tree queue time row r q) queue
   unfolding Takes
   push =

@@ -4,6 +4,7 @@
 --   rule_dropped, rule_dropped_under      with the rule on, no call answers unknown there: case 2, case 3
 --   rule_dropped_counted                  nor counts an unknown in case 2
 --   rule_forced, rule_forced_under        with the rule off, no call answers no there
+use Rattle.std.specs.Prelude.{Ok}
 use Rattle.std.specs.Prelude.{if◌then◌else◌}
 use Prim.Native.Nat.{ℕ, ◌<◌}
 use native.Mathlib.Omega.{arith}
@@ -32,7 +33,6 @@ use Rattle.alf.specs.Steady.{meant}
 use Rattle.alf.specs.TableT.{C, names, rows, states, pulse, Case, cases, numbers}
 use Rattle.steady_laws.specs.SteadyT.{steady_cases, cases_under}
 use Rattle.matcher.specs.declared.tables.Total.{Total}
-use Rattle.matching_calls.specs.declared.matching.Counting.TheVariants.{Counted}
 use Rattle.row_calls.specs.Written.{Tells}
 use Rattle.matching_calls.specs.Matching.{expression, Finds, Counts, RowTotals}
 use Rattle.demands.specs.Cases.{Stands, AllStand}
@@ -107,7 +107,7 @@ module _ {ρ : Rules} (on : ρ.steady_pins ≡ true) where
   rule_dropped_under =
       never_at Unknown 0 (under_is ρ) (entry ρ _ (with_pins ρ on).1 5 (omega arith)) (λ e. omega arith)
 
-  pub rule_dropped_counted : (t : Total) → RowTotals ρ names rows (asked pulse) states (Counted t)
+  pub rule_dropped_counted : (t : Total) → RowTotals ρ names rows (asked pulse) states (Ok t)
       → t.unknown ≡ 1 → ⊥
   unfolding Counts count
   rule_dropped_counted t w e =

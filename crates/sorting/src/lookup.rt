@@ -24,16 +24,14 @@ pub fn slot_of(names: &[u8], text: &[u8], at: usize) -> usize
 {
     let end = at + name_size(text, at);
     let n = names.len() / 32;
-    let mut k = 0;
-    while k < n {
+    for k in 0..n {
         let from = k * 32;
         let to = from + 32;
         if holds(&names[from..to], &text[at..end]) {
             return k;
         }
-        k += 1;
     }
-    k
+    n
 }
 
 // Whether a token is a name that no slot holds.
@@ -52,14 +50,12 @@ pub fn first_unknown(names: &[u8], text: &[u8], codes: &[u8], places: &[u16], co
     requires { Listed text.now codes.now places.now count }
     ensures { result ≡ unknown_at names.now text.now codes.now places.now count }
 {
-    let mut i = 0;
-    while i < count {
+    for i in 0..count {
         let code = codes[i];
         let place = places[i] as usize;
         if is_unknown(names, text, code, place) {
             return i;
         }
-        i += 1;
     }
-    i
+    count
 }

@@ -199,13 +199,11 @@ pub fn sort_nodes(names: &[u8], text: &[u8], codes: &[u8], places: &[u16], len: 
         places.now len result }
 {
     let mut s = start();
-    let mut i = 0;
-    while i < len {
+    for i in 0..len {
         let code = codes[i];
         let place = places[i] as usize;
         let byte = leaf_byte(names, text, code, place);
         s = step(s, code, place, byte);
-        i += 1;
     }
     s
 }

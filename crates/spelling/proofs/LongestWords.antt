@@ -4,7 +4,7 @@
 --   spelled_taken    so is every token that can be written
 use Prim.Native.Nat.{ℕ, suc, ◌/◌, ◌<◌, ◌≤◌}
 use native.Mathlib.Omega.{arith}
-use mathlib.Core.Path.{◌≡◌, refl, ap}
+use mathlib.Core.Path.{◌≡◌, refl}
 use mathlib.Core.Bool.{true}
 use mathlib.Core.List.{List, [], ◌∷◌, ◌++◌}
 use lib.ListN.{length}
@@ -55,7 +55,7 @@ unfolding is_name
 name_taken [] b h = never h
 name_taken (x ∷ w) {rest} b h =
     let e = name_step_lem x w b h in
-    taken_by_step (x ∷ w) rest 0 (omega arith) (omega arith) (ap (λ s. s.code) e) (ap (λ s. s.size) e)
+    taken_by_step (x ∷ w) rest 0 (omega arith) e
 
 -- a token that can be written: a name of the list, or a sign
 pub data Known (names : List ℕ) (t : Token) : Type 0 where

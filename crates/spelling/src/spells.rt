@@ -116,11 +116,9 @@ pub fn put_line(names: &[u8], list: &[u8], count: usize, out: &mut [u8]) -> usiz
         out.new result }
 {
     let mut at: usize = 0;
-    let mut i: usize = 0;
-    while i < count {
+    for i in 0..count {
         let p = put_gap(i, out, at);
         at = put_word(names, list[i], out, p);
-        i += 1;
     }
     at
 }

@@ -2,17 +2,19 @@
 --   writing_ahead, front_ahead                             entries that are not yet written are as they were
 --   over_length, over_inside, over_before, over_behind     of a list that is written from a rule
 --   front_inside                                           from the front on
+--   over_filled                                            a part that is filled with one number
 --   over_end, over_same                                    at the end of a loop; two rules that agree write the same
-use mathlib.Core.Path.{◌≡◌, ap, ◌∙◌}
-use mathlib.Core.List.{List}
-use Prim.Native.Nat.{ℕ, ◌+◌, ◌<◌, ◌≤◌}
+use mathlib.Core.Path.{◌≡◌, refl, ap, ◌∙◌}
+use mathlib.Core.List.{List, ◌∷◌}
+use Prim.Native.Nat.{ℕ, zero, suc, ◌+◌, ◌<◌, ◌≤◌}
+use borrow.Rule.Slice.PartMut.{put_mid}
 use native.Mathlib.Nat.{zero-add}
 use native.Mathlib.Omega.{arith}
-use lib.ListN.{length, get_or, take}
+use lib.ListN.{length, get_or, take, drop, replicate, length-take, length-drop}
 use lib.Seq.{sets, length-take-le}
 use Rattle.basics.specs.Words.{listed}
 use Rattle.basics.proofs.Listed.{listed_length, listed_at, listed_same, ruling_end}
-use Rattle.basics.proofs.Stores.{Writing, sets_length, sets_before, sets_behind, sets_inside}
+use Rattle.basics.proofs.Stores.{Writing, sets_copied, sets_length, sets_before, sets_behind, sets_inside}
 use Rattle.state_columns.specs.Entries.{Over}
 
 module _ {d : List ℕ} {at : ℕ} {w l : List ℕ} {i : ℕ} (g : Writing d at w l i) where
@@ -48,6 +50,21 @@ module _ {l : List ℕ} {at n : ℕ} {f : ℕ → ℕ} {l' : List ℕ} (g : Over
 module _ {l : List ℕ} {n : ℕ} {f : ℕ → ℕ} {l' : List ℕ} (g : Over l 0 n f l') where
   pub front_inside : (i : ℕ) → i < n → n ≤ length l → get_or l' i 0 ≡ f i
   front_inside i h r = rw zero-add at (over_inside g i h (omega arith))
+
+replicated : (a n v : ℕ) → replicate n v ≡ listed a n (λ i. v)
+unfolding listed
+replicated a zero v = refl
+replicated a (suc n) v = ap (λ (l : List ℕ). v ∷ l) (replicated (a + 1) n v)
+
+pub over_filled : (d : List ℕ) (at k n v : ℕ) (ys : List ℕ) → ys ≡ replicate (length (take k (drop at d))) v
+    → k ≡ n → at + n ≤ length d → Over d at n (λ i. v) (put_mid at k d ys)
+over_filled d at k n v ys e h r =
+    let m : length (take k (drop at d)) ≡ n = omega (arith, length-take k (drop at d), length-drop at d) in
+    record {
+      is =
+          sets_copied d at k (listed 0 n (λ i. v)) ys (rw m at e ∙ replicated 0 n v)
+          (omega (arith, listed_length 0 n (λ (i : ℕ). v))) (omega (arith, listed_length 0 n (λ (i : ℕ). v)));
+    }
 
 pub over_end : {d : List ℕ} {at n : ℕ} {f : ℕ → ℕ} {l : List ℕ} {i : ℕ} → Writing d at (listed 0 n f) l i
     → n ≤ i → Over d at n f l

@@ -22,10 +22,8 @@ pub fn copy_name(
     requires { NameRows b states.now names lo n parts.old o }
     ensures { Stated parts.old o n (name_rows b states.now names lo) parts.new }
 {
-    let mut i: usize = 0;
-    while i < n {
+    for i in 0..n {
         parts[o + i] = states[(lo + i) * names + b as usize];
-        i += 1;
     }
 }
 
@@ -35,11 +33,7 @@ pub fn fill(v: u8, n: usize, parts: &mut [u8], o: usize)
     requires n_in_bounds { o + n ≤ length parts.old }
     ensures { Stated parts.old o n (λ i. v) parts.new }
 {
-    let mut i: usize = 0;
-    while i < n {
-        parts[o + i] = v;
-        i += 1;
-    }
+    parts[o..o + n].fill(v);
 }
 
 // The negations of n states from o on, in their place.
@@ -47,10 +41,8 @@ pub fn negate(parts: &mut [u8], o: usize, n: usize)
     requires { States parts.old o n }
     ensures { Stated parts.old o n (negated parts.old o) parts.new }
 {
-    let mut i: usize = 0;
-    while i < n {
+    for i in 0..n {
         parts[o + i] = not_of(parts[o + i]);
-        i += 1;
     }
 }
 
@@ -60,12 +52,10 @@ fn put_operator(b: u8, table: &mut [u8])
     requires in_bounds { 64 ≤ length table.old }
     ensures { Stated table.old 0 64 (operator_at b) table.new }
 {
-    let mut q: usize = 0;
-    while q < 64 {
+    for q in 0..64 {
         let x = (q / 8) as u8;
         let y = (q % 8) as u8;
         table[q] = operators::operated(b, x, y);
-        q += 1;
     }
 }
 
@@ -76,12 +66,10 @@ fn look(table: &[u8; 64], parts: &mut [u8], o: usize, p: usize, n: usize)
     ensures { Stated parts.old o n (looked table.now parts.old o p)
         parts.new }
 {
-    let mut i: usize = 0;
-    while i < n {
+    for i in 0..n {
         let x = parts[o + i] as usize;
         let y = parts[p + i] as usize;
         parts[o + i] = table[8 * x + y];
-        i += 1;
     }
 }
 
@@ -112,12 +100,10 @@ pub fn choose(rules: Rules, a: u8, b: u8, parts: &mut [u8], o: usize, p: usize, 
     ensures { Stated parts.old o n (chosen_from rules a b parts.old o p q)
         parts.new }
 {
-    let mut i: usize = 0;
-    while i < n {
+    for i in 0..n {
         let c = parts[o + i];
         let x = parts[p + i];
         let y = parts[q + i];
         parts[o + i] = chosen_of(rules, a, b, c, x, y);
-        i += 1;
     }
 }

@@ -25,10 +25,8 @@ fn spell_rows(
         parts.new }
 {
     let o = d * 1041;
-    let mut i: usize = 0;
-    while i < n {
+    for i in 0..n {
         parts[o + i] = state(rules, tree, end, states, names, lo + i);
-        i += 1;
     }
 }
 

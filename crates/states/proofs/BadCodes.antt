@@ -8,10 +8,12 @@ use mathlib.Core.List.{List}
 use mathlib.Core.Logic.{◌⊎◌, inl, inr}
 use Prim.Native.Nat.{ℕ, ◌+◌, ◌-◌, ◌*◌, ◌<◌, ◌≤◌, max}
 use native.Mathlib.Omega.{arith}
-use lib.ListN.{length, get_or}
+use lib.ListN.{length, get_or, drop}
+use Rattle.std.proofs.Common.{length-drop}
+use Rattle.std.proofs.lemmas.List.{get_or-drop}
 use Rattle.alf.specs.Refusals.{bad_code}
 use Rattle.basics.proofs.Bools.{equal?, below?}
-use Rattle.states.specs.FirstBadCode.{FirstBad, Bounds, BoundsTo, BoundsFrom}
+use Rattle.states.specs.FirstBadCode.{FirstBad, Bounds, BoundsTo}
 
 pub codes_more : (states : List ℕ) (n : ℕ) → ((i : ℕ) → i < n → get_or states i 0 < 8)
     → get_or states n 0 ≤ 7
@@ -22,14 +24,14 @@ codes_more states n h l i m = go (equal? i n)
     go (inl e) = let f = ap (λ (k : ℕ). get_or states k 0) e in omega arith
     go (inr d) = h i (omega (arith, d))
 
-pub bounds_after : (states : List ℕ) (from n m r : ℕ) → ((i : ℕ) → from ≤ i → i < n → get_or states i 0 ≤ m)
+pub bounds_after : (states : List ℕ) (n m r : ℕ) → ((i : ℕ) → i < n → get_or states i 0 ≤ m)
     → r ≡ max m (get_or states n 0)
-    → (i : ℕ) → from ≤ i → i < n + 1 → get_or states i 0 ≤ r
-bounds_after states from n m r h e i f k = go (equal? i n)
+    → (i : ℕ) → i < n + 1 → get_or states i 0 ≤ r
+bounds_after states n m r h e i k = go (equal? i n)
   where
     go : (i ≡ n) ⊎ (i ≡ n → ⊥) → get_or states i 0 ≤ r
     go (inl d) = let g = ap (λ (j : ℕ). get_or states j 0) d in omega arith
-    go (inr d) = omega (arith, h i f (omega (arith, d)))
+    go (inr d) = omega (arith, h i (omega (arith, d)))
 
 -- of q entries from o on those before n are bounded by m
 pub record Bounded (states : List ℕ) (o n m : ℕ) : Type 0 where
@@ -97,13 +99,17 @@ four_end {states} {q} {i} {a} {b} {c} {d} {r} g h e =
     go j l (inr x) (inr y) (inr z) = part (3 * q) d j g.fourth z (omega arith) (omega arith)
 
 -- the first ones and the others are all
-pub bounds_all : {states : List ℕ} {n a b r : ℕ} → BoundsTo states n a → BoundsFrom states n b → r ≡ max a b
+pub bounds_all : {states : List ℕ} {n a b r : ℕ} → BoundsTo states n a → Bounds (drop n states) b → r ≡ max a b
     → Bounds states r
 bounds_all {states} {n} {a} {b} {r} g h e = record { all = λ i l. go i l (below? i n) }
   where
     go : (i : ℕ) → i < length states → (i < n) ⊎ (n ≤ i) → get_or states i 0 ≤ r
     go i l (inl x) = omega (arith, g.all i x)
-    go i l (inr x) = omega (arith, h.all i x l)
+    go i l (inr x) =
+        let f : n + (i - n) ≡ i = omega arith in
+        let u = h.all (i - n) (rw length-drop (omega arith)) in
+        let v = rw (get_or-drop n states (i - n) 0, f) at u in
+        omega arith
 
 module _ {states : List ℕ} {r : ℕ} (b : FirstBad states r) where
   pub bad_given : r < length states → bad_code states r

@@ -1,6 +1,6 @@
 -- Lists of state codes: codes_append, codes_take, codes_drop.
 use mathlib.Core.List.{List, [], ◌∷◌, ◌++◌}
-use Prim.Native.Nat.{ℕ, zero, suc, ◌+◌}
+use Prim.Native.Nat.{ℕ, zero, suc}
 use native.Mathlib.Omega.{arith}
 use lib.ListN.{take, drop}
 use Rattle.states.specs.FirstBadCode.{Codes}

@@ -1,6 +1,6 @@
 -- Refusal 15 of a list of states (alf/specs/Refusals, `bad_code`): where the first code above 7 stands.
 --   FirstBad     that place, or the length where there is none
---   Bounds, BoundsTo, BoundsFrom     a bound of all entries; of the first ones, of the others
+--   Bounds, BoundsTo     a bound of all entries; of the first ones
 --   Codes        each entry is the code of a state
 use Rattle.std.specs.Prelude.{ℕ, ◌<◌, ◌≤◌, List, length, get_or}
 
@@ -14,12 +14,9 @@ pub record FirstBad (states : List ℕ) (r : ℕ) : Type 0 where
 pub record Bounds (states : List ℕ) (r : ℕ) : Type 0 where
   pub all : (i : ℕ) → i < length states → get_or states i 0 ≤ r
 
--- none of the first n, none from n on
+-- none of the first n
 pub record BoundsTo (states : List ℕ) (n r : ℕ) : Type 0 where
   pub all : (i : ℕ) → i < n → get_or states i 0 ≤ r
-
-pub record BoundsFrom (states : List ℕ) (n r : ℕ) : Type 0 where
-  pub all : (i : ℕ) → n ≤ i → i < length states → get_or states i 0 ≤ r
 
 -- each entry is the code of a state
 abbrev pub Codes : List ℕ → Type 0

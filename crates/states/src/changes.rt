@@ -1,5 +1,5 @@
 // The changes of a row: which variables differ between two rows, as a set of bits, and how many they are.
-ghost use Rattle.std.specs.Prelude.{◌≡◌, min};
+ghost use Rattle.std.specs.Prelude.{◌≡◌};
 ghost use Rattle.states.specs.Comparing.{compared, Compared, differing};
 ghost use Rattle.alf.specs.Traces.{mask};
 
@@ -9,17 +9,11 @@ pub struct Changes {
     pub many: u32,
 }
 
-fn lesser(x: usize, y: usize) -> usize
-    ensures { result ≡ min x y }
-{
-    if x < y { x } else { y }
-}
-
 // How many places two rows of these lengths are compared at: those that both have, at most 32.
 fn places(old: usize, new: usize) -> usize
     ensures { result ≡ compared old new }
 {
-    lesser(lesser(32, old), new)
+    old.min(32).min(new)
 }
 
 // Bit i is 1 where the rows differ at i.
@@ -28,12 +22,10 @@ pub fn mask_of(old: &[u8], new: &[u8]) -> u32
 {
     let n = places(old.len(), new.len());
     let mut mask: u32 = 0;
-    let mut i: usize = 0;
-    while i < n {
+    for i in 0..n {
         if old[i] != new[i] {
             mask = mask | (1u32 << i);
         }
-        i += 1;
     }
     mask
 }

@@ -1,18 +1,14 @@
 // State codes handed in: where the first one stands that is none.
 ghost use Rattle.std.specs.Prelude.{◌*◌, ◌≤◌, length};
-ghost use Rattle.states.specs.FirstBadCode.{FirstBad, Bounds, BoundsTo, BoundsFrom};
+ghost use Rattle.states.specs.FirstBadCode.{FirstBad, Bounds, BoundsTo};
 
-use crate::edges::greater;
-
-// The largest code from `from` on, or 0. Without a way out of the loop many codes are compared at once.
-fn largest_from(states: &[u8], from: usize) -> u8
-    ensures { BoundsFrom states.now from result }
+// The largest code, or 0. Without a way out of the loop many codes are compared at once.
+fn largest_of(states: &[u8]) -> u8
+    ensures { Bounds states.now result }
 {
     let mut most: u8 = 0;
-    let mut i: usize = from;
-    while i < states.len() {
-        most = greater(most, states[i]);
-        i += 1;
+    for s in states {
+        most = most.max(*s);
     }
     most
 }
@@ -26,29 +22,20 @@ fn largest_of_four(states: &[u8], q: usize) -> u8
     let mut b: u8 = 0;
     let mut c: u8 = 0;
     let mut d: u8 = 0;
-    let mut i: usize = 0;
-    while i < q {
-        a = greater(a, states[i]);
-        b = greater(b, states[q + i]);
-        c = greater(c, states[2 * q + i]);
-        d = greater(d, states[3 * q + i]);
-        i += 1;
+    for i in 0..q {
+        a = a.max(states[i]);
+        b = b.max(states[q + i]);
+        c = c.max(states[2 * q + i]);
+        d = d.max(states[3 * q + i]);
     }
-    greater(greater(a, b), greater(c, d))
+    a.max(b).max(c.max(d))
 }
 
 // The place of the first code above 7, or the number of codes, one by one.
 fn search(states: &[u8]) -> usize
     ensures { FirstBad states.now result }
 {
-    let mut i: usize = 0;
-    while i < states.len() {
-        if 7 < states[i] {
-            return i;
-        }
-        i += 1;
-    }
-    i
+    states.iter().position(|s| 7 < *s).unwrap_or(states.len())
 }
 
 // The largest of many codes, or 0.
@@ -56,14 +43,14 @@ fn largest(states: &[u8]) -> u8
     ensures { Bounds states.now result }
 {
     let q = states.len() / 4;
-    greater(largest_of_four(states, q), largest_from(states, 4 * q))
+    largest_of_four(states, q).max(largest_of(&states[4 * q..]))
 }
 
 // The same; where there is none, which is what a caller hopes for, without looking at each by itself.
 pub fn first_bad_code(states: &[u8]) -> usize
     ensures { FirstBad states.now result }
 {
-    if largest_from(states, 0) < 8 {
+    if largest_of(states) < 8 {
         return states.len();
     }
     search(states)

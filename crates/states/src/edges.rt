@@ -1,7 +1,6 @@
-// Leaf code on answers: a literal asked of a state, an edge on two states, a condition's answer, lesser and greater.
-// Each is equal to its definition in specs/Windows.antt. A state is its code, below 8; an answer is 0 no, 1 unknown,
-// 2 yes.
-ghost use Rattle.std.specs.Prelude.{◌≡◌, ◌<◌, min, max};
+// Leaf code on answers: a literal asked of a state, an edge on two states, a condition's answer. Each is equal to its
+// definition in specs/Windows.antt. A state is its code, below 8; an answer is 0 no, 1 unknown, 2 yes.
+ghost use Rattle.std.specs.Prelude.{◌≡◌, ◌<◌};
 ghost use Rattle.alf.specs.Expressions.{the};
 ghost use Rattle.alf.specs.Windows.{asked, certainty, edge_on};
 ghost use Rattle.alf.specs.Decoder.{half_at, edge_at};
@@ -27,19 +26,6 @@ pub fn certainty_of(x: u8) -> u8
     ensures { result ≡ certainty x }
 {
     CERTAINTY[x as usize]
-}
-
-// The smaller and the larger of two answers.
-pub fn lesser(x: u8, y: u8) -> u8
-    ensures { result ≡ min x y }
-{
-    if x < y { x } else { y }
-}
-
-pub fn greater(x: u8, y: u8) -> u8
-    ensures { result ≡ max x y }
-{
-    if x < y { y } else { x }
 }
 
 // A literal asked of a state: a digit is yes, unknown or no by what the state reduces to, a letter is yes for that very
@@ -72,7 +58,7 @@ pub fn edge_on(k: u8, x: u8, y: u8) -> u8
     ensures { result ≡ edge_on (edge_at k) x y }
 {
     if k < 81 {
-        return lesser(ask(k / 9, x), ask(k % 9, y));
+        return ask(k / 9, x).min(ask(k % 9, y));
     }
     if k == 81 {
         if x == y {

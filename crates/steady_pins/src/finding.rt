@@ -62,10 +62,8 @@ fn over(places: [u8; 32], others: [u8; 32]) -> [u8; 32]
     ensures { result ≡ listed 0 32 (λ n. over (get_or places n 0) (get_or others n 0)) }
 {
     let mut r = [0u8; 32];
-    let mut n: usize = 0;
-    while n < 32 {
+    for n in 0..32 {
         r[n] = over_entry(places[n], others[n]);
-        n += 1;
     }
     r
 }

@@ -18,10 +18,8 @@ pub fn put_row(before: [u8; 32], mine: [u8; 32], base: usize, pins: &mut [u8; 81
     ensures { pins.new ≡ sets pins.old base
         (listed 0 32 (λ n. pin_entry (get_or before n 0) (get_or mine n 0) 0)) }
 {
-    let mut n: usize = 0;
-    while n < 32 {
+    for n in 0..32 {
         pins[base + n] = pin_entry(before[n], mine[n]);
-        n += 1;
     }
 }
 
@@ -30,11 +28,9 @@ fn put_name(rows: &[u8; 256], many: usize, n: usize, place: u8, pins: &mut [u8; 
     requires { NameRows n rows.now many pins.old }
     ensures { Column rows.now many n place pins.old pins.new }
 {
-    let mut k: usize = 0;
-    while k < many {
+    for k in 0..many {
         let r = rows[k] as usize;
         pins[r * 32 + n] = place;
-        k += 1;
     }
 }
 
@@ -81,9 +77,7 @@ pub fn settle(
     if !on {
         return;
     }
-    let mut n: usize = 0;
-    while n < 32 {
+    for n in 0..32 {
         settle_name(changing, before[n], after[n], rows, many, n, pins);
-        n += 1;
     }
 }

@@ -35,10 +35,8 @@ pub fn put_pins(
 {
     let base = (end - 1) * 32;
     let mut at = from;
-    let mut k: usize = 0;
-    while k < n {
+    for k in 0..n {
         at = put_pin(pins[base + k], edges, operands, at);
-        k += 1;
     }
     at
 }

@@ -1,5 +1,5 @@
 // Which steps of two alternatives make step j of the one that is put together of them.
-ghost use Rattle.std.specs.Prelude.{◌≡◌, ◌-◌};
+ghost use Rattle.std.specs.Prelude.{◌≡◌};
 ghost use Rattle.step_tests.specs.Steps.{Behind, Split, in_turn};
 
 use alternatives::picking::How;
@@ -22,13 +22,6 @@ pub fn in_turn(how: How) -> bool
         How::RightFirst => true,
         How::Together => false,
     }
-}
-
-// How many more x is than y.
-fn more(x: usize, y: usize) -> usize
-    ensures { result ≡ x - y }
-{
-    if x < y { 0 } else { x - y }
 }
 
 // Step j behind some empty steps; n where it is one of those.
@@ -57,8 +50,8 @@ pub fn split(how: How, n: usize, m: usize, j: usize) -> Two
             right: j,
         },
         How::Together => Two {
-            left: behind(more(m, n), n, j),
-            right: behind(more(n, m), m, j),
+            left: behind(m.saturating_sub(n), n, j),
+            right: behind(n.saturating_sub(m), m, j),
         },
     }
 }

@@ -3,7 +3,6 @@ use alf::Rules;
 use complaints::unfit;
 use console::output::{Console, note, note_number};
 use loading::arguments::{arg, take_argument};
-use loading::files::Filled;
 use loading::patterns::fill_patterns;
 use pattern_lines::accounts::pattern;
 use pattern_lines::patterns::lines;
@@ -24,25 +23,10 @@ fn file_lines<R: Files + Input>(
     data: &mut [u8],
     s: Sums,
 ) -> Sums {
-    let filled = fill_patterns(rt, console, path, data);
-    match filled {
-        Filled::Failed => s,
-        Filled::Bytes(m) => lines(console, rules, names, n, states, front(data, m), s),
+    match fill_patterns(rt, console, path, data) {
+        None => s,
+        Some(m) => lines(console, rules, names, n, states, front(data, m), s),
     }
-}
-
-fn file_lent<R: Files + Input>(
-    rt: &R,
-    console: &Console,
-    rules: Rules,
-    names: &[u8],
-    n: usize,
-    states: &[u8],
-    path: &[u8],
-    data: &mut [u8; 1048577],
-    s: Sums,
-) -> Sums {
-    file_lines(rt, console, rules, names, n, states, path, data, s)
 }
 
 fn file<R: Files + Input>(
@@ -56,7 +40,17 @@ fn file<R: Files + Input>(
     s: Sums,
 ) -> Sums {
     let mut data = [0u8; 1048577];
-    file_lent(rt, console, rules, names, n, states, path, &mut data, s)
+    file_lines(
+        rt,
+        console,
+        rules,
+        names,
+        n,
+        states,
+        path,
+        data.as_mut_slice(),
+        s,
+    )
 }
 
 // Argument i: a pattern; behind `-f` a file of patterns.
@@ -86,25 +80,16 @@ fn is_option<R: Env>(rt: &R, i: usize, behind: bool) -> bool {
     }
     let mut word = [0u8; 4];
     let n = arg(rt, i, &mut word);
-    check::same(&word[..n], b"-f")
+    &word[..n] == b"-f".as_slice()
 }
 
 // Whether it is told how far long work is: on a terminal, and where the table's lines go elsewhere.
 fn is_watched(console: &Console, n: usize) -> bool {
-    if n < 10000 {
-        return false;
-    }
-    if console.out().is_terminal() {
-        return false;
-    }
-    console.err().is_terminal()
+    10000 <= n && !console.out().is_terminal() && console.err().is_terminal()
 }
 
 fn progress(console: &Console, i: usize, count: usize, n: usize) {
-    if count <= i {
-        return;
-    }
-    if is_watched(console, n) {
+    if i < count && is_watched(console, n) {
         note(console, b"\rargument ");
         note_number(console, i);
         note(console, b" of ");
@@ -119,7 +104,7 @@ fn finish(console: &Console, behind: bool, n: usize) {
         note(console, b"\r                              \r");
     }
     if behind {
-        unfit(console, b"table: -f", b"FILE", 0);
+        unfit(console, b"table: -f", b"FILE");
     }
 }
 
@@ -137,8 +122,7 @@ pub fn arguments<R: Env + Files + Input>(
 ) -> Sums {
     let mut sums = s;
     let mut behind = false;
-    let mut i: usize = first;
-    while i < count {
+    for i in first..count {
         if console.is_unread() {
             return sums;
         }
@@ -148,7 +132,6 @@ pub fn arguments<R: Env + Files + Input>(
             sums = argument(rt, console, rules, names, n, states, i, behind, sums);
         }
         behind = option;
-        i += 1;
     }
     finish(console, behind, n);
     sums

@@ -49,21 +49,9 @@ pub fn table<R: Env + Files + Input>(
 ) {
     let mut line = [0u8; 4096];
     let s = begin(console, n, &mut line);
-    end(
-        console,
-        arguments(
-            rt,
-            console,
-            rules,
-            first,
-            names,
-            n,
-            states,
-            arg_count(rt),
-            s,
-        ),
-        &mut line,
-    );
+    let count = arg_count(rt);
+    let t = arguments(rt, console, rules, first, names, n, states, count, s);
+    end(console, t, &mut line);
     say_rules(console, rules);
 }
 

@@ -6,9 +6,9 @@ ghost use Rattle.table_lines.specs.Table.{plain, ended, heading_line, columns, p
 ghost use Rattle.table_lines.specs.Table.{refused_line, total_columns, total_line};
 ghost use Rattle.figures.specs.Delivering.{Delivers};
 
+use basics::Refusal;
 use basics::puts::{push, put};
 use basics::refusing::refuse;
-use basics::{Outcome, Refusal};
 use figures::numbers::{put_decimal, put_decimal_then};
 use figures::shares::put_share;
 use matcher::tables::Total;
@@ -28,16 +28,14 @@ fn put_plain(pattern: &[u8], out: &mut [u8], at: usize) -> usize
     requires { Room out.old at (map plain pattern.now) }
     ensures { Put out.old at (map plain pattern.now) out.new result }
 {
-    let mut i: usize = 0;
-    while i < pattern.len() {
+    for i in 0..pattern.len() {
         out[at + i] = plain_of(pattern[i]);
-        i += 1;
     }
-    at + i
+    at + pattern.len()
 }
 
 // Columns, a pattern and the line's end, if there is room.
-fn finish(columns: &[u8], pattern: &[u8], out: &mut [u8]) -> Outcome
+fn finish(columns: &[u8], pattern: &[u8], out: &mut [u8]) -> Result<usize, Refusal>
     ensures { Delivers (ended columns.now pattern.now) out.old
         out.new result }
 {
@@ -48,11 +46,11 @@ fn finish(columns: &[u8], pattern: &[u8], out: &mut [u8]) -> Outcome
     let p = put(columns, out, 0);
     let q = put_plain(pattern, out, p);
     push(out, q, b'\n');
-    Outcome::Done(size)
+    Ok(size)
 }
 
 // The heading's line.
-pub fn write_heading(out: &mut [u8]) -> Outcome
+pub fn write_heading(out: &mut [u8]) -> Result<usize, Refusal>
     ensures { Delivers heading_line out.old out.new result }
 {
     finish(b"seen\tshare\tunknown\tno\tpattern", b"", out)
@@ -77,7 +75,7 @@ fn lay_columns(yes: u32, unknown: u32, no: u32, n: u32, list: &mut [u8; 192]) ->
 }
 
 // The line of a pattern on n rows; its length. Refused with 9.
-pub fn write_line(pattern: &[u8], total: Total, n: u32, out: &mut [u8]) -> Outcome
+pub fn write_line(pattern: &[u8], total: Total, n: u32, out: &mut [u8]) -> Result<usize, Refusal>
     ensures { Delivers (pattern_line pattern.now total.yes total.unknown total.no n)
         out.old out.new result }
 {
@@ -103,7 +101,7 @@ fn lay_refused(number: u8, place: usize, list: &mut [u8; 192]) -> usize
 }
 
 // The line of a pattern that is refused; its length. Refused with 9.
-pub fn write_refused(pattern: &[u8], refusal: Refusal, out: &mut [u8]) -> Outcome
+pub fn write_refused(pattern: &[u8], refusal: Refusal, out: &mut [u8]) -> Result<usize, Refusal>
     ensures { Delivers (refused_line pattern.now refusal.number refusal.place)
         out.old out.new result }
 {
@@ -156,7 +154,7 @@ fn lay_total(
 }
 
 // The line of the totals; its length. Refused with 9.
-pub fn write_total(s: Sums, out: &mut [u8]) -> Outcome
+pub fn write_total(s: Sums, out: &mut [u8]) -> Result<usize, Refusal>
     ensures { Delivers (total_line s.yes s.unknown s.no s.patterns s.events) out.old
         out.new result }
 {

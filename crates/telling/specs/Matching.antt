@@ -2,15 +2,14 @@
 -- totals, what came of a push. The numbers of answers are document 01's.
 --   told_match, told_counts, told_push     what is told
 --   queue_of_lem, Pushes                     a queue of C's as the call's, and what a push hands on
+use Rattle.std.specs.Prelude.{Err, Ok}
 use Rattle.std.specs.Prelude.{ℕ, List}
 use Rattle.alf.specs.declared.Rules.{Rules}
 use Rattle.alf.specs.Answers.{number_of}
 use Rattle.alf.specs.Beginnings.{is_given, time_of_lem}
 use Rattle.timed_queue.specs.declared.queues.Queue as updates
-use Rattle.matching_calls.specs.declared.matching.Matching.{Matching}
-use Rattle.matching_calls.specs.declared.matching.Matching.TheVariants as the_match
-use Rattle.matching_calls.specs.declared.matching.Counting.{Counting}
-use Rattle.matching_calls.specs.declared.matching.Counting.TheVariants as the_counts
+use Rattle.matching_calls.specs.Matching.{Matching}
+use Rattle.matching_calls.specs.Matching.{Counting}
 use Rattle.queue_calls.specs.declared.pushing.Pushing.{Pushing}
 use Rattle.queue_calls.specs.Pushing.{Push}
 use Rattle.telling.specs.declared.Matched.{Matched}
@@ -19,7 +18,7 @@ use Rattle.telling.specs.declared.Queue.{Queue}
 use Rattle.telling.specs.declared.Pushed.{Pushed}
 
 unfoldable pub told_match : Matching → Matched
-told_match (the_match.Found m) =
+told_match (Ok m) =
     record {
       number = 0;
       place = 0;
@@ -28,13 +27,13 @@ told_match (the_match.Found m) =
       given = is_given m.began;
       began = time_of_lem m.began;
     }
-told_match (the_match.Refused r) =
+told_match (Err r) =
     record { number = r.number; place = r.place; answer = 0; tries = 0; given = 0; began = 0 }
 
 unfoldable pub told_counts : Counting → Counted
-told_counts (the_counts.Counted t) =
+told_counts (Ok t) =
     record { number = 0; place = 0; yes = t.yes; no = t.no; unknown = t.unknown }
-told_counts (the_counts.Refused r) =
+told_counts (Err r) =
     record { number = r.number; place = r.place; yes = 0; no = 0; unknown = 0 }
 
 -- a queue as C holds it

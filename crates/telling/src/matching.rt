@@ -5,16 +5,16 @@ ghost use Rattle.telling.specs.Matching.{told_match, told_counts, queue_of_lem, 
 
 use crate::{Counted, Matched, Pushed, Queue};
 use alf::RowNo;
-use beginnings::times::{given_of, time_of};
-use matcher::tables::number_of;
-use matching_calls::matching::{Counting, Matching};
+use basics::Refusal;
+use beginnings::times::{Dated, given_of, time_of};
+use matcher::tables::{Total, number_of};
 use queue_calls::pushing::Pushing;
 
-pub fn tell_match(o: Matching) -> Matched
+pub fn tell_match(o: Result<Dated, Refusal>) -> Matched
     ensures { result ≡ told_match o }
 {
     match o {
-        Matching::Found(m) => {
+        Ok(m) => {
             let a = m.answer;
             let b = m.began;
             let tries = m.tries;
@@ -30,7 +30,7 @@ pub fn tell_match(o: Matching) -> Matched
                 began,
             }
         }
-        Matching::Refused(r) => Matched {
+        Err(r) => Matched {
             number: r.number,
             place: r.place,
             answer: 0,
@@ -41,18 +41,18 @@ pub fn tell_match(o: Matching) -> Matched
     }
 }
 
-pub fn tell_counts(o: Counting) -> Counted
+pub fn tell_counts(o: Result<Total, Refusal>) -> Counted
     ensures { result ≡ told_counts o }
 {
     match o {
-        Counting::Counted(t) => Counted {
+        Ok(t) => Counted {
             number: 0,
             place: 0,
             yes: t.yes,
             no: t.no,
             unknown: t.unknown,
         },
-        Counting::Refused(r) => Counted {
+        Err(r) => Counted {
             number: r.number,
             place: r.place,
             yes: 0,

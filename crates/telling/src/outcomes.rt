@@ -3,19 +3,19 @@ ghost use Rattle.std.specs.Prelude.{◌≡◌};
 ghost use Rattle.telling.specs.Handing.{told};
 
 use crate::Told;
-use basics::Outcome;
+use basics::Refusal;
 
 // An outcome in numbers.
-pub fn tell(o: Outcome) -> Told
+pub fn tell(o: Result<usize, Refusal>) -> Told
     ensures { result ≡ told o }
 {
     match o {
-        Outcome::Done(count) => Told {
+        Ok(count) => Told {
             number: 0,
             place: 0,
             count,
         },
-        Outcome::Refused(r) => Told {
+        Err(r) => Told {
             number: r.number,
             place: r.place,
             count: 0,

@@ -3,21 +3,23 @@ ghost use Rattle.std.specs.Prelude.{◌≡◌};
 ghost use Rattle.telling.specs.Handing.{told_trace, told_changes, told_answer};
 
 use crate::{Answered, Changed, Trace};
-use changes::RowChanges;
+use alf::Answer;
+use basics::Refusal;
 use matcher::tables::number_of;
-use trace_reader::Reading;
+use states::changes::Changes;
+use trace_reader::Size;
 
-pub fn tell_trace(o: Reading) -> Trace
+pub fn tell_trace(o: Result<Size, Refusal>) -> Trace
     ensures { result ≡ told_trace o }
 {
     match o {
-        Reading::Read { names, rows } => Trace {
+        Ok(Size { names, rows }) => Trace {
             number: 0,
             place: 0,
             names,
             rows,
         },
-        Reading::Refused(r) => Trace {
+        Err(r) => Trace {
             number: r.number,
             place: r.place,
             names: 0,
@@ -26,17 +28,17 @@ pub fn tell_trace(o: Reading) -> Trace
     }
 }
 
-pub fn tell_changes(o: RowChanges) -> Changed
+pub fn tell_changes(o: Result<Changes, Refusal>) -> Changed
     ensures { result ≡ told_changes o }
 {
     match o {
-        RowChanges::Changed(c) => Changed {
+        Ok(c) => Changed {
             number: 0,
             place: 0,
             mask: c.mask,
             many: c.many,
         },
-        RowChanges::Refused(r) => Changed {
+        Err(r) => Changed {
             number: r.number,
             place: r.place,
             mask: 0,
@@ -45,11 +47,11 @@ pub fn tell_changes(o: RowChanges) -> Changed
     }
 }
 
-pub fn tell_answer(o: row_calls::written::Told) -> Answered
+pub fn tell_answer(o: Result<Answer, Refusal>) -> Answered
     ensures { result ≡ told_answer o }
 {
     match o {
-        row_calls::written::Told::Answered(a) => {
+        Ok(a) => {
             let answer = number_of(a);
             Answered {
                 number: 0,
@@ -57,7 +59,7 @@ pub fn tell_answer(o: row_calls::written::Told) -> Answered
                 answer,
             }
         }
-        row_calls::written::Told::Refused(r) => Answered {
+        Err(r) => Answered {
             number: r.number,
             place: r.place,
             answer: 0,

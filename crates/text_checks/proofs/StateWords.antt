@@ -2,6 +2,7 @@
 --   states_none, states_missing, states_bad, states_next, states_done     no state yet; a word is missing, is no
 --                                                                         state, is one; all are
 --   code_long, code_one                                                   the code of a word
+use Rattle.std.specs.Prelude.{Ok}
 use Prim.Native.Nat.{ℕ, suc, ◌+◌, ◌-◌, ◌<◌, ◌≤◌}
 use native.Mathlib.Omega.{arith}
 use mathlib.Core.Path.{◌≡◌, refl, sym, ap, ◌∙◌}
@@ -9,8 +10,7 @@ use mathlib.Core.List.{List, [], ◌∷◌, ◌++◌}
 use mathlib.Core.Logic.{inl, inr}
 use lib.ListN.{length, get_or, take, drop, length-drop}
 use lib.Seq.{drop-cons, length-take-le}
-use Rattle.basics.specs.declared.Outcome.{Outcome}
-use Rattle.basics.specs.declared.Outcome.TheVariants.{Done}
+use Rattle.basics.specs.Refusing.{Outcome}
 use Rattle.alf.specs.Refusals.{Order, check, At, RefusedWith, Passed, Comes}
 use Rattle.alf.proofs.Orders.{Is, plainly}
 use Rattle.trace_texts.specs.Words.{Word, Line}
@@ -86,7 +86,7 @@ unfolding states_order Passed
 states_none row = tt
 
 pub states_done : (row : Line) {i k : ℕ} → i ≡ k → Passed (states_order row i)
-    → Comes (states_order row k) (λ m. m ≡ k) (Done k)
+    → Comes (states_order row k) (λ m. m ≡ k) (Ok k)
 unfolding Comes
 states_done row e p = (rw e at p, refl)
 

@@ -2,6 +2,7 @@
 --   timely                                     whether digits, behind a number, are a time
 --   Timing, timing_first, timing_next          the digits before the i-th are read
 --   time_none, time_low, time_high, time_large, time_end     what is returned
+use Rattle.std.specs.Prelude.{Some, None}
 use Prim.Native.Nat.{ℕ, zero, suc, ◌+◌, ◌-◌, ◌*◌, ◌<◌, ◌≤◌}
 use native.Mathlib.Omega.{arith}
 use native.Mathlib.Numerals.{add-one}
@@ -58,12 +59,13 @@ time_whole ds n = rw (lt-ltb 0 (length ds) (some (length ds) n)) refl
     some (suc m) h = omega arith
 
 -- a word that is no time
-untimely : {word : List ℕ} {t : ℕ} → is_time word ≡ false → ReadsTime word false t
-untimely e = record { is = sym e; value = λ f. let z : ◌≡◌ {A = ℕ} 0 1 = cc in absurd (omega arith) }
+untimely : (word : List ℕ) → is_time word ≡ false → ReadsTime word None
+unfolding ReadsTime
+untimely word e = e
 
-pub time_none : (word : List ℕ) → length word ≡ 0 → ReadsTime word false 0
+pub time_none : (word : List ℕ) → length word ≡ 0 → ReadsTime word None
 unfolding is_time
-time_none [] h = untimely refl
+time_none [] h = untimely [] refl
 time_none (d ∷ ds) h = absurd (omega arith)
 
 -- the digits before the i-th are read, and are n
@@ -78,29 +80,29 @@ timing_first {word} h =
     record { within = omega arith; small = omega arith; left = time_whole word h; value = refl }
 
 module _ {word : List ℕ} {n i : ℕ} (g : Timing word n i) where
-  pub time_end : length word ≤ i → ReadsTime word true n
-  unfolding timely all reading
+  pub time_end : length word ≤ i → ReadsTime word (Some n)
+  unfolding timely all reading ReadsTime
   time_end h =
       let e = rw (drop_of_length-le word {i = i} h) at g.left in
       let v = rw (drop_of_length-le word {i = i} h) at g.value in
-      record { is = sym (rw (lt-ltb n time_bound g.small) refl) ∙ e; value = λ f. v }
+      (sym e ∙ rw (lt-ltb n time_bound g.small) refl, v)
 
   module _ (h : i < length word) where
     here : timely n (get_or word i 0 ∷ drop (suc i) word) ≡ is_time word
     here = ap (timely n) (sym (drop-cons word i 0 h)) ∙ g.left
 
-    pub time_low : get_or word i 0 < 48 → ReadsTime word false 0
+    pub time_low : get_or word i 0 < 48 → ReadsTime word None
     unfolding is_decimal
     time_low l =
         let e : is_decimal (get_or word i 0) ≡ false = rw (lt-leb 48 (get_or word i 0) l) refl in
-        untimely (sym here ∙ no_digit n (get_or word i 0) (drop (suc i) word) e)
+        untimely _ (sym here ∙ no_digit n (get_or word i 0) (drop (suc i) word) e)
 
-    pub time_high : 57 < get_or word i 0 → ReadsTime word false 0
+    pub time_high : 57 < get_or word i 0 → ReadsTime word None
     unfolding is_decimal
     time_high l =
         let e : is_decimal (get_or word i 0) ≡ false =
         rw (lt-leb (get_or word i 0) 57 l) (and_no (leb 48 (get_or word i 0))) in
-        untimely (sym here ∙ no_digit n (get_or word i 0) (drop (suc i) word) e)
+        untimely _ (sym here ∙ no_digit n (get_or word i 0) (drop (suc i) word) e)
 
     module _ (low : 48 ≤ get_or word i 0) (high : get_or word i 0 ≤ 57) where
       digit : is_decimal (get_or word i 0) ≡ true
@@ -115,15 +117,15 @@ module _ {word : List ℕ} {n i : ℕ} (g : Timing word n i) where
           sym (digit_read n (get_or word i 0) (drop (suc i) word)) ∙ ap (reading n) (sym (drop-cons word i 0 h))
           ∙ g.value
 
-      pub time_large : time_bound ≤ n * 10 + (get_or word i 0 - 48) → ReadsTime word false 0
-      time_large l = untimely (sym next ∙ too_large_lem _ (drop (suc i) word) l)
+      pub time_large : time_bound ≤ n * 10 + (get_or word i 0 - 48) → ReadsTime word None
+      time_large l = untimely _ (sym next ∙ too_large_lem _ (drop (suc i) word) l)
 
-      pub timing_next : n * 10 + (get_or word i 0 - 48) < time_bound
-          → Timing word (n * 10 + (get_or word i 0 - 48)) (i + 1)
-      timing_next l =
-          record {
+      pub timing_next : {m : ℕ} → m ≡ n * 10 + (get_or word i 0 - 48) → m < time_bound → Timing word m (i + 1)
+      timing_next e l =
+          rw e
+          (record {
             within = omega arith;
-            small = l;
+            small = omega (arith, l, e);
             left = rw (add-one i) next;
             value = rw (add-one i) value_next;
-          }
+          })

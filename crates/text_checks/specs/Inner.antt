@@ -1,8 +1,8 @@
 -- What the checks ask, and what they give.
 --   SpanIn      a part lies in a text
 --   LineIn      a line starts in a text, and there are few names
---   ReadsTime   whether a word is a time, and which
-use Rattle.std.specs.Prelude.{ℕ, ◌≤◌, ◌≡◌, Bool, true, List, length}
+--   ReadsTime   the time that a word is
+use Rattle.std.specs.Prelude.{ℕ, ◌≤◌, ◌≡◌, true, false, List, length, Option, Some, None}
 use Rattle.figures.specs.Numbers.{reading}
 use Rattle.trace_texts.specs.Texts.{is_time}
 
@@ -14,7 +14,7 @@ pub record LineIn (text : List ℕ) (p k : ℕ) : Type 0 where
   pub within : p ≤ length text
   pub few : k ≤ 32
 
--- whether a word is a time; the time, where it is one
-pub record ReadsTime (word : List ℕ) (good : Bool) (time : ℕ) : Type 0 where
-  pub is : good ≡ is_time word
-  pub value : good ≡ true → time ≡ reading 0 word
+-- the time that a word is, where it is one
+unfoldable pub ReadsTime : List ℕ → Option ℕ → Type 0
+ReadsTime word (Some t) = (is_time word ≡ true) × (t ≡ reading 0 word)
+ReadsTime word None = is_time word ≡ false

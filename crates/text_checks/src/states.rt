@@ -5,7 +5,7 @@ ghost use Rattle.trace_texts.specs.Texts.{code_of, states_order};
 ghost use Rattle.trace_texts.specs.Finding.{from};
 ghost use Rattle.text_checks.specs.Inner.{SpanIn, LineIn};
 
-use basics::Outcome;
+use basics::Refusal;
 use basics::refusing::refuse;
 use state_letters::code_of;
 use trace_texts::words::find_word;
@@ -22,12 +22,11 @@ pub fn code_at(text: &[u8], start: usize, end: usize) -> u8
 }
 
 // The states of the first k names, on the line at p; done, k.
-pub fn check_states(text: &[u8], p: usize, k: usize) -> Outcome
+pub fn check_states(text: &[u8], p: usize, k: usize) -> Result<usize, Refusal>
     requires { LineIn text.now p k }
     ensures { Comes (states_order (from text.now p).first k) (λ m. m ≡ k) result }
 {
-    let mut i: usize = 0;
-    while i < k {
+    for i in 0..k {
         let s = find_word(text, p, i + 1);
         let start = s.start;
         let end = s.end;
@@ -37,7 +36,6 @@ pub fn check_states(text: &[u8], p: usize, k: usize) -> Outcome
         if 7 < code_at(text, start, end) {
             return refuse(15, start);
         }
-        i += 1;
     }
-    Outcome::Done(k)
+    Ok(k)
 }

@@ -4,7 +4,7 @@
 
 use alf::Rules;
 use alternative_listings::texts::alternatives_text;
-use basics::{Outcome, Refusal};
+use basics::Refusal;
 use began_texts::listings::list_began_text;
 use complaints::{refused, refused_text};
 use console::output::{Console, complain, note, note_number, say_front};
@@ -12,13 +12,14 @@ use loading::arguments::take_argument;
 use row_listings::listings::{list_text, values_text};
 use std::rt::Env;
 
-// What is asked of the text: its answers, its values, its answers with where each match began, or else its
-// alternatives.
-pub const LIST: usize = 1;
-
-pub const VALUES: usize = 2;
-
-pub const BEGAN: usize = 12;
+// What is asked of the text: its answers, its answers with where each match began, its values, or its alternatives.
+#[derive(Clone, Copy, PartialEq, Eq)]
+pub enum Question {
+    List,
+    Began,
+    Values,
+    Rewrite,
+}
 
 fn complain_of(console: &Console, what: &[u8], text: &[u8], r: Refusal) {
     if r.number < 9 {
@@ -28,19 +29,18 @@ fn complain_of(console: &Console, what: &[u8], text: &[u8], r: Refusal) {
     }
 }
 
-fn complain_by(console: &Console, values: bool, text: &[u8], r: Refusal) {
-    if values {
-        complain_of(console, b"expression", text, r);
-    } else {
-        complain_of(console, b"pattern", text, r);
+fn complain_by(console: &Console, question: Question, text: &[u8], r: Refusal) {
+    match question {
+        Question::Values => complain_of(console, b"expression", text, r),
+        _ => complain_of(console, b"pattern", text, r),
     }
 }
 
 // What was made is printed, or it is said why not: refusals up to 8 are the text's.
-fn tell(console: &Console, values: bool, text: &[u8], out: &[u8], o: Outcome) {
+fn tell(console: &Console, question: Question, text: &[u8], out: &[u8], o: Result<usize, Refusal>) {
     match o {
-        Outcome::Done(n) => say_front(console, out, n),
-        Outcome::Refused(r) => complain_by(console, values, text, r),
+        Ok(n) => say_front(console, out, n),
+        Err(r) => complain_by(console, question, text, r),
     }
 }
 
@@ -58,7 +58,13 @@ fn tell_untold(console: &Console, n: usize) {
 }
 
 // A pattern's alternatives; tests that have no text are told of.
-fn rewrite(console: &Console, rules: Rules, names: &[u8], text: &[u8], out: &mut [u8]) -> Outcome {
+fn rewrite(
+    console: &Console,
+    rules: Rules,
+    names: &[u8],
+    text: &[u8],
+    out: &mut [u8],
+) -> Result<usize, Refusal> {
     let l = alternatives_text(rules, names, text, out);
     let written = l.written;
     tell_untold(console, l.untold);
@@ -68,60 +74,43 @@ fn rewrite(console: &Console, rules: Rules, names: &[u8], text: &[u8], out: &mut
 fn ask(
     console: &Console,
     rules: Rules,
-    c: usize,
+    question: Question,
     names: &[u8],
     times: &[u64],
     states: &[u8],
     text: &[u8],
     out: &mut [u8],
-) -> Outcome {
-    if c == LIST {
-        return list_text(rules, names, times, states, text, out);
+) -> Result<usize, Refusal> {
+    match question {
+        Question::List => list_text(rules, names, times, states, text, out),
+        Question::Began => list_began_text(rules, names, times, states, text, out),
+        Question::Values => values_text(rules, names, times, states, text, out),
+        Question::Rewrite => rewrite(console, rules, names, text, out),
     }
-    if c == VALUES {
-        return values_text(rules, names, times, states, text, out);
-    }
-    if c == BEGAN {
-        return list_began_text(rules, names, times, states, text, out);
-    }
-    rewrite(console, rules, names, text, out)
 }
 
 fn told(
     console: &Console,
     rules: Rules,
-    c: usize,
+    question: Question,
     names: &[u8],
     times: &[u64],
     states: &[u8],
     text: &[u8],
     out: &mut [u8],
 ) {
-    let o = ask(console, rules, c, names, times, states, text, out);
-    tell(console, c == VALUES, text, out, o);
+    let o = ask(console, rules, question, names, times, states, text, out);
+    tell(console, question, text, out, o);
 }
 
-fn lent(
-    console: &Console,
-    rules: Rules,
-    c: usize,
-    names: &[u8],
-    times: &[u64],
-    states: &[u8],
-    text: &[u8],
-    out: &mut [u8; 4600000],
-) {
-    told(console, rules, c, names, times, states, text, out);
-}
-
-// Room for the longest: alternatives of 16 steps, 64 of them, each step with all of a text.
-// The text is argument `at`.
+// The text is argument `at`. There is room for the longest: alternatives of 16 steps, 64 of them, each step with all of
+// a text.
 pub fn answer<R: Env>(
     rt: &R,
     console: &Console,
     rules: Rules,
     at: usize,
-    c: usize,
+    question: Question,
     names: &[u8],
     times: &[u64],
     states: &[u8],
@@ -129,14 +118,14 @@ pub fn answer<R: Env>(
     let mut text = [0u8; 65536];
     let n = take_argument(rt, at, &mut text);
     let mut out = [0u8; 4600000];
-    lent(
+    told(
         console,
         rules,
-        c,
+        question,
         names,
         times,
         states,
         &text[..n],
-        &mut out,
+        out.as_mut_slice(),
     );
 }

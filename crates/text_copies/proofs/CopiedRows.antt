@@ -1,16 +1,17 @@
 -- Rows, copied one after the other.
---   Filling, filling_first, filling_in, filling_room, filling_next, filled_all
+--   Filling, filling_first, filling_in, filling_room, filling_timed, filling_next, filled_all
+use Rattle.std.specs.Prelude.{Option, Some, None, is_some}
 use Prim.Native.Nat.{ℕ, suc, ◌+◌, ◌<◌, ◌≤◌}
 use native.Mathlib.Omega.{arith}
 use native.Mathlib.Numerals.{add-one}
-use mathlib.Core.Path.{◌≡◌, sym, ap, ◌∙◌}
-use mathlib.Core.Bool.{Bool, true}
+use mathlib.Core.Path.{◌≡◌, refl, sym, ap, ◌∙◌}
+use mathlib.Core.Bool.{true}
 use mathlib.Core.Logic.{◌⊎◌, inl, inr}
 use mathlib.Core.List.{List, [], ◌∷◌, map}
 use lib.ListN.{length, get_or, drop, set, length-drop, length-map, get_or-map, drop_of_length-le}
 use lib.Seq.{drop-cons, drop-drop}
 use Rattle.basics.specs.Memory.{Put}
-use Rattle.basics.proofs.Bools.{below?}
+use Rattle.basics.proofs.Bools.{below?, never}
 use Rattle.basics.proofs.Stores.{Writing, writing_first, writing_next_front, writing_front, writing_length}
 use Rattle.basics.proofs.PartByPart.{Going, going_start, going_room, going_on, going_end, put_front}
 use Rattle.figures.specs.Numbers.{reading}
@@ -19,6 +20,7 @@ use Rattle.trace_texts.specs.Texts.{none, is_time, time_of_lem, times_made, stat
 use Rattle.trace_texts.specs.Finding.{from, said_from, Passes, Next}
 use Rattle.trace_texts.proofs.WordOf.{drop_first}
 use Rattle.trace_texts.proofs.OnAndOn.{said_here, said_none, said_on, some_word}
+use Rattle.text_checks.specs.Inner.{ReadsTime}
 use Rattle.text_rows.specs.Rows.{TimeIn, TimedAt}
 use Rattle.text_copies.specs.Copies.{CodesFit, RowsFit, RowsMade, codes_at}
 use Rattle.text_copies.proofs.Copying.{joined_flat, codes_long}
@@ -112,20 +114,32 @@ module _ {text : List ℕ} {p k n r at to : ℕ} {times₀ times states₀ state
     pub filling_times : r < length times
     filling_times = omega (arith, writing_length g.writing, f.times_room, times_long rows, here.0)
 
-    pub filling_next : {a t b at' to' : ℕ} {good : Bool} {states' : List ℕ} → TimedAt (from text at).first a good t
-        → Put states to (codes_at k (from text at).first) states' to' → Passes text at b → Next text b at'
-        → Filling text p k n (r + 1) at' to' times₀ (set times r t) states₀ states'
-    filling_next {b = b} u put v w =
-        let timely : is_time (get_or (from text at).first.words 0 none).bytes ≡ true =
-        sym (ap (λ (l : Line). is_time (get_or l.words 0 none).bytes) here.1) ∙ f.timely r h in
-        let time = u.reads.value (u.reads.is ∙ timely) in
-        record {
-          within = omega arith;
-          before = b;
-          next = w;
-          left = sym (drop-drop 1 r rows) ∙ ap (drop 1) g.left ∙ said_on g.next inside v w;
-          writing =
-              writing_next_front g.writing (omega (arith, times_long rows, here.0))
-              (time ∙ ap time_of_lem (sym here.1) ∙ sym (time_at_lem rows r));
-          going = rw (add-one r) (going_on turn put);
-        }
+    timely : is_time (get_or (from text at).first.words 0 none).bytes ≡ true
+    timely = sym (ap (λ (l : Line). is_time (get_or l.words 0 none).bytes) here.1) ∙ f.timely r h
+
+    module _ {a : ℕ} (o : Option ℕ) (u : TimedAt (from text at).first a o) where
+      -- a row's time is one
+      pub filling_timed : is_some o ≡ true
+      unfolding ReadsTime
+      filling_timed = go o u.reads
+        where
+          go : (o : Option ℕ) → ReadsTime (get_or (from text at).first.words 0 none).bytes o → is_some o ≡ true
+          go (Some t) q = refl
+          go None q = never (sym q ∙ timely)
+
+      pub filling_next : {t b at' to' : ℕ} {states' : List ℕ} → o ≡ Some t
+          → Put states to (codes_at k (from text at).first) states' to' → Passes text at b → Next text b at'
+          → Filling text p k n (r + 1) at' to' times₀ (set times r t) states₀ states'
+      unfolding ReadsTime
+      filling_next {b = b} e put v w =
+          let read = rw e at u.reads in
+          record {
+            within = omega arith;
+            before = b;
+            next = w;
+            left = sym (drop-drop 1 r rows) ∙ ap (drop 1) g.left ∙ said_on g.next inside v w;
+            writing =
+                writing_next_front g.writing (omega (arith, times_long rows, here.0))
+                (read.1 ∙ ap time_of_lem (sym here.1) ∙ sym (time_at_lem rows r));
+            going = rw (add-one r) (going_on turn put);
+          }

@@ -16,17 +16,11 @@ pub fn copy_names(text: &[u8], p: usize, k: usize, out: &mut [u8])
     requires { NamesFit text.now p k out.old }
     ensures { out.new ≡ front (names_made (from text.now p).first) out.old }
 {
-    let first = find_word(text, p, 1);
-    let mut start = first.start;
-    let mut end = first.end;
+    let mut word = find_word(text, p, 1);
     let mut at: usize = 0;
-    let mut i: usize = 0;
-    while i < k {
-        at = put_slot(&text[start..end], out, at);
-        let next = find_word(text, start, 1);
-        start = next.start;
-        end = next.end;
-        i += 1;
+    for i in 0..k {
+        at = put_slot(&text[word.start..word.end], out, at);
+        word = find_word(text, word.start, 1);
     }
 }
 
@@ -35,16 +29,10 @@ fn put_codes(text: &[u8], p: usize, k: usize, out: &mut [u8], at: usize) -> usiz
     requires { CodesFit text.now p k out.old at }
     ensures { Put out.old at (codes_at k (from text.now p).first) out.new result }
 {
-    let first = find_word(text, p, 1);
-    let mut start = first.start;
-    let mut end = first.end;
-    let mut i: usize = 0;
-    while i < k {
-        out[at + i] = code_at(text, start, end);
-        let next = find_word(text, start, 1);
-        start = next.start;
-        end = next.end;
-        i += 1;
+    let mut word = find_word(text, p, 1);
+    for i in 0..k {
+        out[at + i] = code_at(text, word.start, word.end);
+        word = find_word(text, word.start, 1);
     }
     at + k
 }
@@ -57,13 +45,10 @@ pub fn copy_rows(text: &[u8], p: usize, k: usize, n: usize, times: &mut [u64], s
 {
     let mut line = next_line(text, p);
     let mut to: usize = 0;
-    let mut r: usize = 0;
-    while r < n {
-        let t = row_time(text, line);
-        times[r] = t.time;
+    for r in 0..n {
+        times[r] = row_time(text, line).time.unwrap();
         to = put_codes(text, line, k, states, to);
         let behind = behind_line(text, line);
         line = next_line(text, behind);
-        r += 1;
     }
 }

@@ -1,6 +1,7 @@
 -- The checks of a head, one after the other.
 --   Naming, naming_first, names_33rd, names_bad, naming_next, names_done     its names
 --   head_untimed, head_refused, head_empty, head_good                        the head
+use Rattle.std.specs.Prelude.{Err, Ok}
 use Prim.Native.Nat.{ℕ, suc, ◌+◌, ◌-◌, ◌<◌, ◌≤◌}
 use native.Mathlib.Omega.{arith}
 use mathlib.Core.Path.{◌≡◌, refl, sym, ap, ◌∙◌}
@@ -11,8 +12,7 @@ use lib.ListN.{length, get_or, take, drop}
 use Rattle.basics.specs.Text.{bytes}
 use Rattle.basics.specs.Words.{same}
 use Rattle.basics.specs.declared.Refusal.{Refusal}
-use Rattle.basics.specs.declared.Outcome.{Outcome}
-use Rattle.basics.specs.declared.Outcome.TheVariants.{Done, Refused}
+use Rattle.basics.specs.Refusing.{Outcome}
 use Rattle.basics.proofs.Bools.{never}
 use Rattle.alf.specs.Refusals.{Order, check, At, RefusedWith, RefusedBy, Passed, Comes}
 use Rattle.alf.proofs.Orders.{Is, plainly, by_first, refused_then, passed_both}
@@ -21,7 +21,7 @@ use Rattle.trace_texts.specs.Texts.{none, name_words, NewName, name_order, names
 use Rattle.trace_texts.specs.Finding.{from, Finds}
 use Rattle.trace_texts.proofs.WordOf.{word_of}
 use Rattle.trace_texts.proofs.OnAndOn.{finds_on, has_word}
-use Rattle.trace_texts.proofs.Each.{piece_refused, piece_passed, comes_refused, comes_done}
+use Rattle.trace_texts.proofs.Each.{piece_refused, piece_passed}
 use Rattle.text_heads.specs.Heads.{NamesIn, WordIs, HeadIn}
 use Rattle.text_heads.proofs.NewNames.{name_word}
 
@@ -43,7 +43,7 @@ module _ {text : List ℕ} {p k i s e : ℕ} (n : NamesIn text p k) (g : Naming 
   abbrev names : List Word
   names = name_words (from text p).first
 
-  pub names_done : k ≤ i → Comes (names_order names k) (λ m. m ≡ k) (Done k)
+  pub names_done : k ≤ i → Comes (names_order names k) (λ m. m ≡ k) (Ok k)
   unfolding Comes
   names_done h = let q : i ≡ k = omega (arith, g.within) in (rw q at g.passed, refl)
 
@@ -120,16 +120,14 @@ module _ {text : List ℕ} {p k end s e : ℕ} (g : HeadIn text p k end) (f : Fi
     counted : k ≡ length (name_words head)
     counted = g.names.counted
 
-    pub head_refused : {x : Outcome} {r : Refusal} (made : ℕ → Type 0)
-        → Comes (names_order (name_words head) k) (λ m. m ≡ k) x → x ≡ Refused r → Comes (head_order head) made (Refused r)
+    pub head_refused : (made : ℕ → Type 0) (r : Refusal)
+        → Comes (names_order (name_words head) k) (λ m. m ≡ k) (Err r) → Comes (head_order head) made (Err r)
     unfolding Comes
-    head_refused made rest h =
-        let q : RefusedBy (names_order (name_words head) k) _ = comes_refused _ _ rest h in
-        then (by_first _ _ (rw counted at q))
+    head_refused made r rest = then (by_first _ _ (rw counted at rest))
 
-    module _ {x : Outcome} {m : ℕ} (rest : Comes (names_order (name_words head) k) (λ m. m ≡ k) x) (h : x ≡ Done m) where
+    module _ (rest : Passed (names_order (name_words head) k)) where
       passed : Passed (names_order (name_words head) (length (name_words head)))
-      passed = let q = (comes_done _ _ rest h).0 in rw counted at q
+      passed = rw counted at rest
 
       pub head_empty : {o : Outcome} (made : ℕ → Type 0) → k ≡ 0 → Is o 14 end → Comes (head_order head) made o
       unfolding Comes RefusedWith
@@ -139,7 +137,7 @@ module _ {text : List ℕ} {p k end s e : ℕ} (g : HeadIn text p k end) (f : Fi
           (refused_then _ _ 14 end passed
           (inl (refl, record { given = sym counted ∙ z; there = g.ends })))))
 
-      pub head_good : (k ≡ 0 → ⊥) → Comes (head_order head) (λ n. n ≡ k) (Done k)
+      pub head_good : (k ≡ 0 → ⊥) → Comes (head_order head) (λ n. n ≡ k) (Ok k)
       unfolding Comes Passed head_order
       head_good n =
           let last : Passed (check 14 (At head.end (length (name_words head) ≡ 0)) ∷ []) =

@@ -13,17 +13,6 @@ fn is_changed(word: &[u8]) -> bool
     check::same(word, b"changed")
 }
 
-// How many words there are up to the last `changed`, once word i is looked at; 0 where there is none.
-fn mark(word: &[u8], i: usize, last: usize) -> usize
-    requires { i < 18446744073709551615 }
-    ensures { result ≡ (if is_changed word.now then i + 1 else last) }
-{
-    if is_changed(word) {
-        return i + 1;
-    }
-    last
-}
-
 // A head: how many names it has, whether what follows is passed over, and where its line ends.
 #[derive(Clone, Copy)]
 pub struct Head {
@@ -32,33 +21,25 @@ pub struct Head {
     pub end: usize,
 }
 
-// The names of the head at p, counted.
+// The names of the head at p, counted: the words up to the last `changed`, which `changed` tells, or all n.
 pub fn count_names(text: &[u8], p: usize) -> Head
     requires { p ≤ length text.now }
     ensures { CountsNames (from text.now p).first result.names result.wide result.end }
 {
-    let first = find_word(text, p, 1);
-    let mut start = first.start;
-    let mut end = first.end;
-    let mut i: usize = 0;
-    let mut last: usize = 0;
-    while start < end {
-        last = mark(&text[start..end], i, last);
-        let next = find_word(text, start, 1);
-        start = next.start;
-        end = next.end;
-        i += 1;
-    }
-    if last == 0 {
-        return Head {
-            names: i,
-            wide: false,
-            end: start,
-        };
+    let mut word = find_word(text, p, 1);
+    let mut n: usize = 0;
+    let mut changed = None;
+    // Where a word ends is known behind it: no range to go over.
+    while word.start < word.end {
+        if is_changed(&text[word.start..word.end]) {
+            changed = Some(n);
+        }
+        word = find_word(text, word.start, 1);
+        n += 1;
     }
     Head {
-        names: last - 1,
-        wide: true,
-        end: start,
+        names: changed.unwrap_or(n),
+        wide: changed.is_some(),
+        end: word.start,
     }
 }

@@ -8,10 +8,10 @@ ghost use Rattle.trace_texts.specs.Texts.{name_words, NewName, names_order, head
 ghost use Rattle.trace_texts.specs.Finding.{from};
 ghost use Rattle.text_heads.specs.Heads.{NamesIn, WordIs, HeadIn};
 
-use basics::Outcome;
+use basics::Refusal;
 use basics::refusing::refuse;
 use names::is_name;
-use trace_texts::words::find_word;
+use trace_texts::words::{Span, find_word};
 
 // The word `time`.
 fn is_time(word: &[u8]) -> bool
@@ -20,72 +20,57 @@ fn is_time(word: &[u8]) -> bool
     check::same(word, b"time")
 }
 
-// Whether name i of the head at p, from start to end, is a name and no earlier one.
-fn is_new_name(text: &[u8], p: usize, i: usize, start: usize, end: usize) -> bool
-    requires { WordIs text.now p i start end }
+// Whether name i of the head at p, which stands at a word, is a name and no earlier one.
+fn is_new_name(text: &[u8], p: usize, i: usize, word: Span) -> bool
+    requires { WordIs text.now p i word.start word.end }
     ensures { Decides result (NewName (name_words (from text.now p).first) i) }
 {
-    if !is_name(&text[start..end]) {
+    if !is_name(&text[word.start..word.end]) {
         return false;
     }
-    let first = find_word(text, p, 1);
-    let mut from = first.start;
-    let mut to = first.end;
-    let mut j: usize = 0;
-    while j < i {
-        if check::same(&text[from..to], &text[start..end]) {
+    let mut earlier = find_word(text, p, 1);
+    for j in 0..i {
+        if check::same(
+            &text[earlier.start..earlier.end],
+            &text[word.start..word.end],
+        ) {
             return false;
         }
-        let next = find_word(text, from, 1);
-        from = next.start;
-        to = next.end;
-        j += 1;
+        earlier = find_word(text, earlier.start, 1);
     }
     true
 }
 
 // The k names of the head at p; done, k.
-pub fn check_names(text: &[u8], p: usize, k: usize) -> Outcome
+pub fn check_names(text: &[u8], p: usize, k: usize) -> Result<usize, Refusal>
     requires { NamesIn text.now p k }
     ensures { Comes (names_order (name_words (from text.now p).first) k) (λ m. m ≡ k) result }
 {
-    let first = find_word(text, p, 1);
-    let mut start = first.start;
-    let mut end = first.end;
-    let mut i: usize = 0;
-    while i < k {
+    let mut word = find_word(text, p, 1);
+    for i in 0..k {
         if 32 <= i {
-            return refuse(11, start);
+            return refuse(11, word.start);
         }
-        if !is_new_name(text, p, i, start, end) {
-            return refuse(12, start);
+        if !is_new_name(text, p, i, word) {
+            return refuse(12, word.start);
         }
-        let next = find_word(text, start, 1);
-        start = next.start;
-        end = next.end;
-        i += 1;
+        word = find_word(text, word.start, 1);
     }
-    Outcome::Done(k)
+    Ok(k)
 }
 
 // The head at p, of k names, whose line ends at `end`; done, k.
-pub fn check_head(text: &[u8], p: usize, k: usize, end: usize) -> Outcome
+pub fn check_head(text: &[u8], p: usize, k: usize, end: usize) -> Result<usize, Refusal>
     requires { HeadIn text.now p k end }
     ensures { Comes (head_order (from text.now p).first) (λ m. m ≡ k) result }
 {
     let first = find_word(text, p, 0);
-    let start = first.start;
-    let stop = first.end;
-    if !is_time(&text[start..stop]) {
-        return refuse(11, start);
+    if !is_time(&text[first.start..first.end]) {
+        return refuse(11, first.start);
     }
-    match check_names(text, p, k) {
-        Outcome::Refused(r) => Outcome::Refused(r),
-        Outcome::Done(_) => {
-            if k == 0 {
-                return refuse(14, end);
-            }
-            Outcome::Done(k)
-        }
+    check_names(text, p, k)?;
+    if k == 0 {
+        return refuse(14, end);
     }
+    Ok(k)
 }

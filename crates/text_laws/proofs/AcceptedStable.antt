@@ -16,8 +16,7 @@ use Rattle.basics.proofs.Bools.{never}
 use Rattle.basics.proofs.Stable.{le_stable}
 use Rattle.alf.proofs.FewNames.{decodes_encoded}
 use Rattle.alf.proofs.Decoding.{decode_unique}
-use Rattle.trees.specs.declared.sorts.Kind.{Kind}
-use Rattle.trees.specs.declared.sorts.Kind.TheVariants as kind
+use Rattle.std.specs.Prelude.{Option, Some, None}
 use Rattle.trees.specs.Sorts.{tree_kind, Holds}
 use Rattle.trees.specs.Brackets.{depth_of}
 use Rattle.trees.proofs.Trees.{kind_decodes}
@@ -57,11 +56,11 @@ module _ (ρ : Rules) (names : ℕ) (sort : Sort) (tree : List ℕ)
       same : (a : Accepted ρ names sort tree) → e ≡ a.expression
       same a = decode_unique names tree e a.expression h (accepted_decodes a)
 
-  from_kind : (k : Kind) → Holds k (Decodes names tree) → Accepted ρ names sort tree
+  from_kind : (k : Option Sort) → Holds k (Decodes names tree) → Accepted ρ names sort tree
   unfolding Holds
-  from_kind kind.Boolean (c, h) = from_decoded (boolean c) h
-  from_kind kind.Vector (p, h) = from_decoded (vector p) h
-  from_kind kind.Neither h = absurd (f (λ a. h a.expression (accepted_decodes a)))
+  from_kind (Some Boolean) (c, h) = from_decoded (boolean c) h
+  from_kind (Some Vector) (p, h) = from_decoded (vector p) h
+  from_kind None h = absurd (f (λ a. h a.expression (accepted_decodes a)))
 
   pub accepted_stable : Accepted ρ names sort tree
   accepted_stable = from_kind (tree_kind tree names) (kind_decodes tree names)

@@ -7,6 +7,7 @@
 --   IsVector, sorted_vector, found_vector        a vector expression, where one is asked for
 --   vector_given, vector_decodes                 so it is what the text gives and what the bytes are
 --   IsBoolean, sorted_boolean, found_boolean     a boolean expression, likewise
+use Rattle.std.specs.Prelude.{Ok, Err}
 use Prim.Native.Nat.{ℕ, ◌≤◌}
 use native.Mathlib.Omega.{arith}
 use mathlib.Core.Path.{◌≡◌, refl, ap, sym, ◌∙◌}
@@ -28,20 +29,18 @@ use Rattle.names.specs.Check.{names_order}
 use Rattle.alf.proofs.Orders.{passed_left, Sole, sole_fixed}
 use Rattle.acceptance.proofs.Acceptance.{accepted_decodes}
 use Rattle.acceptance.specs.Accepted.{sort_of_lem, Accepted}
+use Rattle.basics.specs.declared.Refusal.{Refusal}
 use Rattle.reader.specs.declared.Read.{Read}
 use Rattle.tokens.specs.Extents.{RefusedIn}
-use Rattle.reader.specs.Reads.{made, refused_by}
+use Rattle.reader.specs.Reads.{made}
 use Rattle.reader.specs.Reading.{read_order, Gives, ReadsText, refused, read}
 use Rattle.reader.proofs.Unique.{read_fixed}
 use Rattle.text_laws.proofs.GivenAccepted.{gives_accepted, gives_decodes}
 
 -- the text is refused
-pub read_refused : {ρ : Rules} {names text : List ℕ} {sort : Sort} {r : Read}
-    → ReadsText ρ names text sort r → r.refused ≡ true
-    → RefusedIn text (read_order ρ names text sort) r.refusal
-unfolding made refused_by
-read_refused (refused f a) e = a
-read_refused (read a g) e = never e
+pub read_refused : {ρ : Rules} {names text : List ℕ} {sort : Sort} {r : Refusal}
+    → ReadsText ρ names text sort (Err r) → RefusedIn text (read_order ρ names text sort) r
+read_refused (refused f a) = a
 
 pub read_sole : (ρ : Rules) (names text : List ℕ) (sort : Sort) → Sole (read_order ρ names text sort)
 read_sole ρ names text sort = sole_fixed (read_order ρ names text sort) (read_fixed ρ names text sort)
@@ -54,10 +53,8 @@ pub record Found (ρ : Rules) (names text : List ℕ) (sort : Sort) (r : Read) :
   pub is_it : r ≡ made it
 
 pub read_found : {ρ : Rules} {names text : List ℕ} {sort : Sort} {r : Read}
-    → ReadsText ρ names text sort r → r.refused ≡ false → Found ρ names text sort r
-unfolding made refused_by
-read_found (refused f a) e = never (sym e)
-read_found (read {x = x} a g) e = record { passed = a; it = x; gives = g; is_it = refl }
+    → ReadsText ρ names text sort (Ok r) → Found ρ names text sort r
+read_found (read {x = x} a g) = record { passed = a; it = x; gives = g; is_it = refl }
 
 module _ {ρ : Rules} {names text : List ℕ} {sort : Sort} {r : Read} (f : Found ρ names text sort r) where
   pub found_front : take r.len r.tree ≡ bytes_of f.it

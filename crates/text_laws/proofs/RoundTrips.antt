@@ -10,10 +10,11 @@
 --   written_within       a tree that some rules accept, with a text of at most 4,096 bytes, is written, given room
 --   refused_past_limit   one whose text has more is refused with 1 at 4,096
 --   one_pair_less        the tokens of a written text with a pair of brackets left out are another tree, or none
+use Rattle.std.specs.Prelude.{Result, Err, Ok}
+use Rattle.basics.specs.declared.Refusal.{Refusal}
 use Prim.Native.Nat.{ℕ, ◌<◌, ◌≤◌}
 use native.Mathlib.Omega.{arith}
 use mathlib.Core.Path.{◌≡◌, refl, sym, ap, ◌∙◌}
-use mathlib.Core.Bool.{false}
 use mathlib.Core.List.{List, ◌∷◌, ◌++◌}
 use mathlib.Core.Logic.{◌⊎◌, inl, inr}
 use lib.ListN.{length, take, replicate}
@@ -23,8 +24,7 @@ use Rattle.alf.specs.declared.Rules.{Rules}
 use Rattle.alf.specs.declared.Sort.{Sort}
 use Rattle.alf.specs.Values.{old_rules_lem}
 use Rattle.basics.specs.Refusing.{refusal}
-use Rattle.basics.specs.declared.Outcome.{Outcome}
-use Rattle.basics.specs.declared.Outcome.TheVariants.{Done, Refused}
+use Rattle.basics.specs.Refusing.{Outcome}
 use Rattle.alf.specs.Expressions.{Expression, ExpressionOver}
 use Rattle.alf.specs.Bytes.{bytes_of}
 use Rattle.alf.specs.Refusals.{too_long, RefusedWith, Passed, Comes}
@@ -74,7 +74,7 @@ not_long n f = go (below? 4096 n)
     go (inr l) = l
 
 pub was_written : {names tree : List ℕ} {sort : Sort} {out out' : List ℕ} {k : ℕ}
-    → Writes names tree sort out out' (Done k) → Written names tree sort (take k out')
+    → Writes names tree sort out out' (Ok k) → Written names tree sort (take k out')
 unfolding Comes Passed order after
 was_written {names} {tree} {sort} {k = k} w =
     let p = w.outcome.0 in
@@ -92,7 +92,6 @@ pub record ReadAs (tree : List ℕ) (r : Read) : Type 0 where
   pub it : Expression
   pub is_it : r ≡ made it
   pub bytes : bytes_of it ≡ tree
-  pub not_refused : r.refused ≡ false
   pub size : r.len ≡ length tree
   pub all : r.tree ≡ padded tree
 
@@ -103,34 +102,37 @@ made_as x e b =
       it = x;
       is_it = e;
       bytes = b;
-      not_refused = ap (λ (s : Read). s.refused) e;
       size = ap (λ (s : Read). s.len) e ∙ ap length b;
       all = ap (λ (s : Read). s.tree) e ∙ ap padded b;
     }
 
+made_is : {r s : Read} → ◌≡◌ {A = Result Read Refusal} (Ok r) (Ok s) → r ≡ s
+made_is e = cc
+
 pub written_read : {ρ : Rules} {names tree : List ℕ} {sort : Sort} {out out' : List ℕ} {k : ℕ}
-    → Accepted ρ (names_in names) sort tree → Writes names tree sort out out' (Done k)
-    → ReadsText ρ names (take k out') sort (made (expression_at tree (names_in names) (length tree)))
+    → Accepted ρ (names_in names) sort tree → Writes names tree sort out out' (Ok k)
+    → ReadsText ρ names (take k out') sort (Ok (made (expression_at tree (names_in names) (length tree))))
 written_read a w =
     let g = was_written w in
     rw g.is (gives_read g.named.passed (rw g.is at g.short) (written_gives g.named a))
 
 pub read_write : {ρ : Rules} {names tree : List ℕ} {sort : Sort} {out out' : List ℕ} {k : ℕ} {r : Read}
-    → Accepted ρ (names_in names) sort tree → Writes names tree sort out out' (Done k)
-    → ReadsText ρ names (take k out') sort r → ReadAs tree r
+    → Accepted ρ (names_in names) sort tree → Writes names tree sort out out' (Ok k)
+    → ReadsText ρ names (take k out') sort (Ok r) → ReadAs tree r
 read_write {names = names} {tree = tree} a w v =
-    made_as (expression_at tree (names_in names) (length tree)) (read_unique v (written_read a w)) (accepted_bytes a)
+    made_as (expression_at tree (names_in names) (length tree)) (made_is (read_unique v (written_read a w)))
+    (accepted_bytes a)
 
 pub read_write_plain : {names tree : List ℕ} {sort : Sort} {out out' : List ℕ} {k : ℕ} {r : Read}
-    → Writes names tree sort out out' (Done k) → ReadsText old_rules_lem names (take k out') sort r → ReadAs tree r
+    → Writes names tree sort out out' (Ok k) → ReadsText old_rules_lem names (take k out') sort (Ok r) → ReadAs tree r
 read_write_plain w v = read_write (was_written w).accepted w v
 
 pub read_back : {ρ : Rules} {names tree : List ℕ} {sort : Sort} {out out' : List ℕ} {k : ℕ} {r : Read}
-    → Writes names tree sort out out' (Done k) → ReadsText ρ names (take k out') sort r → r.refused ≡ false
+    → Writes names tree sort out out' (Ok k) → ReadsText ρ names (take k out') sort (Ok r)
     → ReadAs tree r
-read_back w v e =
+read_back w v =
     let g = was_written w in
-    let s = read_sound v e in
+    let s = read_sound v in
     made_as s.it s.is_it
     (ap bytes_of (gives_unique (gives_written s.gives) (rw g.is (written_gives g.named g.accepted)))
     ∙ accepted_bytes g.accepted)
@@ -138,7 +140,7 @@ read_back w v e =
 -- what is read is told by its bytes alone
 abbrev read_of : List ℕ → Read
 read_of bs =
-    record { refused = false; refusal = refusal 0 0; len = length bs; tree = padded bs }
+    record { len = length bs; tree = padded bs }
 
 made_same : (x y : Expression) → bytes_of x ≡ bytes_of y → made x ≡ made y
 unfolding made
@@ -149,11 +151,11 @@ unfolding made
 tree_of_lem x = front_take (replicate 256 0) (bytes_of x) (length (bytes_of x)) refl
 
 pub read_again : {ρ : Rules} {names bytes : List ℕ} {sort : Sort} {q r : Read} {out out' : List ℕ} {k : ℕ}
-    → ReadsText ρ names bytes sort q → q.refused ≡ false
-    → Writes names (take q.len q.tree) sort out out' (Done k) → ReadsText ρ names (take k out') sort r
+    → ReadsText ρ names bytes sort (Ok q)
+    → Writes names (take q.len q.tree) sort out out' (Ok k) → ReadsText ρ names (take k out') sort (Ok r)
     → r ≡ q
-read_again {q = q} u n w v =
-    let s = read_sound u n in
+read_again {q = q} u w v =
+    let s = read_sound u in
     let front = ap (λ (z : Read). take z.len z.tree) s.is_it ∙ tree_of_lem s.it in
     let a = read_write (rw front (gives_accepted s.good s.gives)) w v in
     let b = a.bytes ∙ front in
@@ -163,23 +165,23 @@ read_again {q = q} u n w v =
 module _ {ρ : Rules} {names tree : List ℕ} {sort : Sort} {out out' : List ℕ} {r : Outcome} (h : Named names)
     (a : Accepted ρ (names_in names) sort tree) (w : Writes names tree sort out out' r) where
   pub written_within : length (text_at names tree) ≤ 4096 → length (text_at names tree) ≤ length out
-      → (r ≡ Done (length (text_at names tree))) × (out' ≡ front (text_at names tree) out)
+      → (r ≡ Ok (length (text_at names tree))) × (out' ≡ front (text_at names tree) out)
   unfolding Comes Passed order end_order after
   written_within e l =
       let fits : Passed (end_order (text_at names tree) (length out)) =
       ((λ p y. omega (arith, y.given)), ((λ p y. omega (arith, y.given)), tt))
       in
-      writes_unique {s = Done (length (text_at names tree))} w
+      writes_unique {s = Ok (length (text_at names tree))} w
       (record {
         outcome = ((h.passed.0, (h.passed.1.0, ((λ p y. y.given (accepted_old a)), fits))), refl);
         memory = refl;
       })
 
   pub refused_past_limit : 4096 < length (text_at names tree)
-      → (r ≡ Refused (refusal 1 4096)) × (out' ≡ out)
+      → (r ≡ Err (refusal 1 4096)) × (out' ≡ out)
   unfolding Comes RefusedWith Passed order after
   refused_past_limit l =
-      writes_unique {s = Refused (refusal 1 4096)} w
+      writes_unique {s = Err (refusal 1 4096)} w
       (record {
         outcome =
             record {

@@ -3,6 +3,7 @@
 --   runs_to_blank   the bytes up to the next blank, counted
 --   two_stuck       2 is given where bytes form no token
 --   refusal_shows   the theorem
+use Rattle.std.specs.Prelude.{Err}
 use mathlib.Core.Path.{◌≡◌, refl, sym, ap, ◌∙◌}
 use mathlib.Core.Bool.{Bool, true, false}
 use mathlib.Core.Logic.{◌⊎◌, inl, inr}
@@ -12,9 +13,9 @@ use native.Mathlib.Omega.{arith}
 use native.Mathlib.Numerals.{add-one}
 use lib.Dec.{eqb}
 use lib.ListN.{length, get_or, take, drop, length-drop, get_or-eq_default}
-use lib.Seq.{get_or-drop, take-append_seam}
+use lib.Seq.{drop-cons, get_or-drop, take-append_seam}
 use Rattle.basics.specs.declared.Refusal.{Refusal}
-use Rattle.basics.proofs.Bools.{never, below?, or_right}
+use Rattle.basics.proofs.Bools.{below?, or_right}
 use Rattle.alf.specs.declared.Rules.{Rules}
 use Rattle.alf.specs.declared.Sort.{Sort}
 use Rattle.alf.specs.States.{among}
@@ -31,10 +32,8 @@ use Rattle.tokens.specs.Texts.{Stuck, order}
 use Rattle.tokens.specs.Texts.Stuck.{blank, token, here}
 use Rattle.tokens.specs.Extents.{to_blank_lem, OfToken, Extent, to_blank_rule, at_end, other, RefusedIn}
 use Rattle.tokens.specs.Extents as extents
-use Rattle.tokens.proofs.ShownBytes.{blank_more, extent_unique}
-use Rattle.reader.specs.declared.Read.{Read}
-use Rattle.reader.specs.Reads.{made, refused_by}
-use Rattle.reader.specs.Reading.{tree_order, read_order, ReadsText, refused, read}
+use Rattle.tokens.proofs.ShownBytes.{extent_unique}
+use Rattle.reader.specs.Reading.{tree_order, read_order, ReadsText, refused}
 use Rattle.reader.proofs.ShownTokens.{behind_first}
 use Rattle.text_laws.specs.Shown.{RunsToBlank, TokenAt, ShownAs}
 
@@ -111,6 +110,11 @@ then (b ∷ bs) = go (is_blank_lem b) refl (then bs)
     go false e (inl h) = inl (omega (arith, one_more_lem b bs e))
     go false e (inr h) = inr (rw (one_more_lem b bs e) h)
 
+blank_more : (ts : List ℕ) (i : ℕ) → i < length ts → is_blank_lem (get_or ts i 0) ≡ false
+    → to_blank_lem (drop i ts) ≡ suc (to_blank_lem (drop (i + 1) ts))
+unfolding to_blank_lem
+blank_more ts i h e = rw (add-one, drop-cons ts i 0 h, e)
+
 module _ (text : List ℕ) where
   runs_to_blank : (p : ℕ) → Byte text p → RunsToBlank text p (to_blank_lem (drop p text))
   runs_to_blank p c =
@@ -172,11 +176,9 @@ by_token (at_end g q f) h = inr (q, f)
 by_token {n = n} (other g f) h = absurd (contrary h (or_right (eqb n 2) _ g))
 
 -- the theorem
-pub refusal_shows : {ρ : Rules} {names text : List ℕ} {sort : Sort} {r : Read}
-    → ReadsText ρ names text sort r → r.refused ≡ true
-    → ShownAs text r.refusal.number r.refusal.place r.refusal.extent
-unfolding made refused_by
-refusal_shows {ρ} {names} {text} {sort} (refused r h) e =
+pub refusal_shows : {ρ : Rules} {names text : List ℕ} {sort : Sort} {r : Refusal}
+    → ReadsText ρ names text sort (Err r) → ShownAs text r.number r.place r.extent
+refusal_shows {ρ} {names} {text} {sort} (refused r h) =
     record {
       of_bytes = λ n. two r h n;
       of_token = λ n. by_token h.shows n;
@@ -189,4 +191,3 @@ refusal_shows {ρ} {names} {text} {sort} (refused r h) e =
         let s = two_stuck ρ names text sort r.place (rw n at h.by) in
         let k = extent_unique text r.number r.place h.shows (to_blank_rule n refl) in
         rw k (runs_to_blank text r.place (stuck_byte text s refl))
-refusal_shows (read a g) e = never e

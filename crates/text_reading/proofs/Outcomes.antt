@@ -1,6 +1,8 @@
 -- What the first pass over a text returns, and what the second one asks.
 --   text_empty, head_in, head_refused, rows_in, rows_refused, text_good     the first pass
 --   split, few_both, names_fit_lem, rows_fit                                    what the second pass asks
+use Rattle.std.specs.Prelude.{Err, Ok}
+use Rattle.trace_reader.specs.Reading.{Reading, size}
 use Prim.Native.Nat.{ℕ, ◌*◌, ◌<◌, ◌≤◌}
 use native.Mathlib.Omega.{arith}
 use mathlib.Core.Path.{◌≡◌, refl, sym, ap, ◌∙◌}
@@ -8,14 +10,10 @@ use mathlib.Core.Bool.{Bool}
 use mathlib.Core.List.{List, ◌++◌}
 use lib.ListN.{length}
 use Rattle.basics.specs.declared.Refusal.{Refusal}
-use Rattle.basics.specs.declared.Outcome.{Outcome}
-use Rattle.basics.specs.declared.Outcome.TheVariants.{Done}
-use Rattle.basics.specs.declared.Outcome.TheVariants as outcome
 use Rattle.basics.specs.Refusing.{refusal}
 use Rattle.basics.proofs.Stable.{le_stable, lt_stable}
 use Rattle.alf.specs.Refusals.{Passed, Comes}
 use Rattle.alf.proofs.Orders.{plainly, by_first, by_then, passed_both, passed_left, passed_right}
-use Rattle.trace_reader.specs.declared.Reading.TheVariants.{Read, Refused}
 use Rattle.record_copies.proofs.Copying.{name_short}
 use Rattle.trace_texts.specs.Words.{Line}
 use Rattle.trace_texts.specs.Texts.{name_words, wide, states_made}
@@ -23,7 +21,6 @@ use Rattle.trace_texts.specs.Texts.{names_order, head_order, rows_order}
 use Rattle.trace_texts.specs.Finding.{from, said_from, Passes, Next}
 use Rattle.trace_texts.proofs.OnAndOn.{some_word}
 use Rattle.trace_texts.proofs.PassedParts.{one_name, one_row, row_few, row_time_lem}
-use Rattle.trace_texts.proofs.Each.{comes_refused, comes_done}
 use Rattle.text_checks.specs.Inner.{LineIn}
 use Rattle.text_heads.specs.Heads.{CountsNames, HeadIn}
 use Rattle.text_rows.specs.Rows.{lines_order}
@@ -35,7 +32,7 @@ use Rattle.text_reading.proofs.Parted.{Parted, parted, no_head, some_head, few_n
 
 -- the first pass
 module _ {text : List ℕ} {h : ℕ} (n : Next text 0 h) where
-  pub text_empty : {r : Refusal} → r ≡ refusal 14 h → h ≡ length text → Checks text (Refused r)
+  pub text_empty : {r : Reading} → r ≡ Err (refusal 14 h) → h ≡ length text → Checks text r
   unfolding Checks
   text_empty e l = rw e (plainly _ 14 h (no_head n (omega (arith, l))))
 
@@ -62,42 +59,35 @@ module _ {text : List ℕ} {h : ℕ} (n : Next text 0 h) where
             ≡ lines_order k passed (length text) (said_from text b)
         same_order = rw (sym c.names, sym c.passing) refl
 
-        pub head_refused : {x : Outcome} {r : Refusal} → Comes (head_order (from text h).first) (λ m. m ≡ k) x
-            → x ≡ outcome.Refused r → Checks text (Refused r)
-        unfolding Checks
-        head_refused checked e = rw apart.order (by_first _ _ (comes_refused _ _ checked e))
+        pub head_refused : (r : Refusal) → Comes (head_order (from text h).first) (λ m. m ≡ k) (Err r)
+            → Checks text (Err r)
+        unfolding Checks Comes
+        head_refused r checked = rw apart.order (by_first _ _ checked)
 
-        module _ {x : Outcome} {m : ℕ} (checked : Comes (head_order (from text h).first) (λ m. m ≡ k) x)
-            (e : x ≡ Done m)
-          where
-            in_head : Passed (head_order (from text h).first)
-            in_head = (comes_done _ _ checked e).0
+        module _ (in_head : Passed (head_order (from text h).first)) where
+          pub rows_in : LineIn text b k
+          rows_in =
+              record {
+                within = behind.within;
+                few = omega (arith, c.names, few_names (from text h).first in_head);
+              }
 
-            pub rows_in : LineIn text b k
-            rows_in =
-                record {
-                  within = behind.within;
-                  few = omega (arith, c.names, few_names (from text h).first in_head);
-                }
+          pub rows_refused : (r : Refusal) → Comes (lines_order k passed (length text) (said_from text b))
+              (λ m. m ≡ length (said_from text b)) (Err r) → Checks text (Err r)
+          unfolding Checks Comes
+          rows_refused r rows =
+              rw (apart.order, same_order) (by_then (head_order (from text h).first) _ in_head rows)
 
-            pub rows_refused : {y : Outcome} {r : Refusal} → Comes (lines_order k passed (length text) (said_from text b))
-                (λ m. m ≡ length (said_from text b)) y → y ≡ outcome.Refused r → Checks text (Refused r)
-            unfolding Checks
-            rows_refused rows f =
-                rw (apart.order, same_order)
-                (by_then (head_order (from text h).first) _ in_head (comes_refused _ _ rows f))
-
-            pub text_good : {y : Outcome} {q : ℕ} → Comes (lines_order k passed (length text) (said_from text b))
-                (λ m. m ≡ length (said_from text b)) y → y ≡ Done q → Checks text (Read k q)
-            unfolding Checks
-            text_good rows f =
-                let done = comes_done _ _ rows f in
-                record {
-                  passes =
-                      rw (apart.order, same_order) (passed_both (head_order (from text h).first) _ in_head done.0);
-                  named = c.names ∙ ap (λ (l : Line). length (name_words l)) (sym apart.head_is);
-                  counted = done.1 ∙ ap length (sym apart.rows_are);
-                }
+          pub text_good : (q : ℕ) → Comes (lines_order k passed (length text) (said_from text b))
+              (λ m. m ≡ length (said_from text b)) (Ok q) → Checks text (Ok (size k q))
+          unfolding Checks Comes
+          text_good q done =
+              record {
+                passes =
+                    rw (apart.order, same_order) (passed_both (head_order (from text h).first) _ in_head done.0);
+                named = c.names ∙ ap (λ (l : Line). length (name_words l)) (sym apart.head_is);
+                counted = done.1 ∙ ap length (sym apart.rows_are);
+              }
 
 -- the second pass, over a text that passed
 module _ {text : List ℕ} {k n : ℕ} (g : Checked text k n) where

@@ -1,6 +1,8 @@
 -- What the second pass returns: 9 for the first short list, or the trace.
 --   short_names, short_times, short_states, filled     what is returned
---   refused, accepted                                  from the first pass on
+--   refused                                            from the first pass on
+use Rattle.std.specs.Prelude.{Err, Ok}
+use Rattle.trace_reader.specs.Reading.{size}
 use Prim.Native.Nat.{ℕ, ◌*◌, ◌<◌, ◌≤◌}
 use native.Mathlib.Omega.{arith}
 use mathlib.Core.Path.{◌≡◌, refl, sym, ap, ◌∙◌}
@@ -10,10 +12,9 @@ use lib.ListN.{length}
 use Rattle.basics.specs.declared.Refusal.{Refusal}
 use Rattle.basics.specs.Refusing.{refusal}
 use Rattle.basics.specs.Memory.{front}
-use Rattle.alf.specs.Refusals.{RefusedWith, RefusedBy, Passed}
+use Rattle.alf.specs.Refusals.{RefusedWith, Passed}
 use Rattle.alf.proofs.Orders.{plainly, by_first, by_then, passed_both}
-use Rattle.trace_reader.specs.declared.Reading.{Reading}
-use Rattle.trace_reader.specs.declared.Reading.TheVariants.{Read, Refused}
+use Rattle.trace_reader.specs.Reading.{Reading}
 use Rattle.trace_reader.specs.Reading.{room_order, Untouched}
 use Rattle.trace_texts.specs.Words.{Line}
 use Rattle.trace_texts.specs.Texts.{names_made, times_made, states_made, text_order}
@@ -26,28 +27,28 @@ untouched : (names times states : List ℕ) → Untouched names times states nam
 untouched names times states = record { names_kept = refl; times_kept = refl; states_kept = refl }
 
 module _ {text : List ℕ} {k n : ℕ} (g : Checked text k n) (names times states : List ℕ) where
-  short : {r : Refusal} {q p : ℕ} → r ≡ refusal q p → RefusedWith (room_order names times states k n) q p
-      → MakesTrace text names times states names times states (Refused r)
+  short : {r : Reading} {q p : ℕ} → r ≡ Err (refusal q p) → RefusedWith (room_order names times states k n) q p
+      → MakesTrace text names times states names times states r
   unfolding MakesTrace
   short {q = q} {p} e w =
       let here = rw (g.named, g.counted) at w in
       rw e (by_then (text_order text) _ g.passes (plainly _ q p here), untouched names times states)
 
-  pub short_names : {r : Refusal} → r ≡ refusal 9 (k * 32) → length names < k * 32
-      → MakesTrace text names times states names times states (Refused r)
+  pub short_names : {r : Reading} → r ≡ Err (refusal 9 (k * 32)) → length names < k * 32
+      → MakesTrace text names times states names times states r
   unfolding RefusedWith
   short_names e h = short e (inl (refl, record { given = h; there = refl }))
 
   module _ (a : k * 32 ≤ length names) where
-    pub short_times : {r : Refusal} → r ≡ refusal 9 n → length times < n
-        → MakesTrace text names times states names times states (Refused r)
+    pub short_times : {r : Reading} → r ≡ Err (refusal 9 n) → length times < n
+        → MakesTrace text names times states names times states r
     unfolding RefusedWith
     short_times e h =
         short e (inr ((λ q x. omega (arith, x.given, a)), inl (refl, record { given = h; there = refl })))
 
     module _ (b : n ≤ length times) where
-      pub short_states : {r : Refusal} → r ≡ refusal 9 (n * k) → length states < n * k
-          → MakesTrace text names times states names times states (Refused r)
+      pub short_states : {r : Reading} → r ≡ Err (refusal 9 (n * k)) → length states < n * k
+          → MakesTrace text names times states names times states r
       unfolding RefusedWith
       short_states e h =
           short e
@@ -59,7 +60,7 @@ module _ {text : List ℕ} {k n : ℕ} (g : Checked text k n) (names times state
       pub filled : n * k ≤ length states → {h i : ℕ} → Next text 0 h → Passes text h i
           → {names' times' states' : List ℕ} → names' ≡ front (names_made (from text h).first) names
           → RowsMade k (said_from text i) times states times' states'
-          → MakesTrace text names times states names' times' states' (Read k n)
+          → MakesTrace text names times states names' times' states' (Ok (size k n))
       unfolding MakesTrace Passed
       filled c next behind ns rs =
           let parts = split g next behind in
@@ -83,12 +84,7 @@ module _ {text : List ℕ} {k n : ℕ} (g : Checked text k n) (names times state
                 ∙ ap (λ (m : ℕ). front (states_made m (rows_of text)) states) g.named;
           }
 
-pub accepted : {text : List ℕ} {r : Reading} {k n : ℕ} → Checks text r → r ≡ Read k n → Checked text k n
-unfolding Checks
-accepted h e = rw e at h
-
-pub refused : (text : List ℕ) {r : Reading} {x : Refusal} (names times states : List ℕ) → Checks text r → r ≡ Refused x
-    → MakesTrace text names times states names times states (Refused x)
+pub refused : (text names times states : List ℕ) (x : Refusal) → Checks text (Err x)
+    → MakesTrace text names times states names times states (Err x)
 unfolding Checks MakesTrace
-refused text names times states h e =
-    let w : RefusedBy (text_order text) _ = rw e at h in (by_first _ _ w, untouched names times states)
+refused text names times states x h = (by_first _ _ h, untouched names times states)

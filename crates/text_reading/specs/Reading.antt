@@ -3,11 +3,11 @@
 --   read_order                               the refusals of the text in its order, then 9 for the first short list
 --   Made, MakesTrace                        the trace in the three lists, or the lists as before
 --   Checked, Checks                         what the first pass comes to
+use Rattle.std.specs.Prelude.{Err, Ok}
 use Rattle.std.specs.Prelude.{ℕ, ◌≡◌, List, [], ◌++◌, length, get_or, drop}
 use Rattle.alf.specs.Refusals.{Order, RefusedBy, Passed}
 use Rattle.basics.specs.Memory.{front}
-use Rattle.trace_reader.specs.declared.Reading.{Reading}
-use Rattle.trace_reader.specs.declared.Reading.TheVariants.{Read, Refused}
+use Rattle.trace_reader.specs.Reading.{Reading}
 use Rattle.trace_reader.specs.Reading.{room_order, Untouched}
 use Rattle.trace_texts.specs.Words.{Line, line, lines_of}
 use Rattle.trace_texts.specs.Texts.{name_words, names_made, times_made, states_made, text_order}
@@ -37,9 +37,9 @@ pub record Made (text names times states : List ℕ) (k n : ℕ) (names' times' 
   pub states_now : states' ≡ front (states_made (name_count text) (rows_of text)) states
 
 unfoldable pub MakesTrace : List ℕ → List ℕ → List ℕ → List ℕ → List ℕ → List ℕ → List ℕ → Reading → Type 0
-MakesTrace text names times states names' times' states' (Read k n) =
-    Made text names times states k n names' times' states'
-MakesTrace text names times states names' times' states' (Refused r) =
+MakesTrace text names times states names' times' states' (Ok s) =
+    Made text names times states s.names s.rows names' times' states'
+MakesTrace text names times states names' times' states' (Err r) =
     RefusedBy (read_order text names times states) r × Untouched names times states names' times' states'
 
 -- the first pass
@@ -49,5 +49,5 @@ pub record Checked (text : List ℕ) (k n : ℕ) : Type 0 where
   pub counted : n ≡ row_count text
 
 unfoldable pub Checks : List ℕ → Reading → Type 0
-Checks text (Read k n) = Checked text k n
-Checks text (Refused r) = RefusedBy (text_order text) r
+Checks text (Ok s) = Checked text s.names s.rows
+Checks text (Err r) = RefusedBy (text_order text) r

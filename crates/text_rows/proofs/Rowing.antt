@@ -2,29 +2,29 @@
 --   Rowing, rowing_first                       the rows before the r-th have passed
 --   row_in, rowing_refused, rowing_few, rowing_next     one row more
 --   rows_none, rows_done                       no line is left
+use Rattle.std.specs.Prelude.{Err, Ok}
 use Prim.Native.Nat.{ℕ, suc, ◌+◌, ◌-◌, ◌<◌, ◌≤◌}
 use native.Mathlib.Omega.{arith}
 use mathlib.Core.Path.{◌≡◌, refl, sym, ap, ◌∙◌}
-use mathlib.Core.Bool.{Bool, true}
+use mathlib.Core.Bool.{Bool}
 use mathlib.Core.Logic.{◌⊎◌, inl, inr}
 use mathlib.Core.List.{List, [], ◌∷◌, ◌++◌}
 use lib.ListN.{length, get_or, drop, length-drop}
 use lib.Seq.{drop-drop}
 use Rattle.basics.specs.declared.Refusal.{Refusal}
-use Rattle.basics.specs.declared.Outcome.{Outcome}
-use Rattle.basics.specs.declared.Outcome.TheVariants.{Done, Refused}
+use Rattle.basics.specs.Refusing.{Outcome}
 use Rattle.alf.specs.Refusals.{check, At, RefusedWith, Passed, Comes}
 use Rattle.alf.proofs.Orders.{Is, plainly, refused_first, refused_then, refused_either}
 use Rattle.alf.proofs.Orders.{passed_both, passed_left, passed_right}
 use Rattle.trace_texts.specs.Words.{Line, line}
-use Rattle.trace_texts.specs.Texts.{none, is_time, time_of_lem, row_order, rows_order}
+use Rattle.trace_texts.specs.Texts.{time_of_lem, row_order, rows_order}
 use Rattle.trace_texts.specs.Finding.{from, said_from, Passes, Next}
 use Rattle.trace_texts.proofs.WordOf.{drop_first}
 use Rattle.trace_texts.proofs.OnAndOn.{said_here, said_none, said_on, some_word}
-use Rattle.trace_texts.proofs.PassedParts.{row_few, row_time_lem}
-use Rattle.trace_texts.proofs.Each.{piece_refused, piece_passed, comes_refused, comes_done}
+use Rattle.trace_texts.proofs.PassedParts.{row_few}
+use Rattle.trace_texts.proofs.Each.{piece_refused, piece_passed}
 use Rattle.text_checks.specs.Inner.{LineIn}
-use Rattle.text_rows.specs.Rows.{RowIn, TimedAt, early, time_order, rest_order, lines_order}
+use Rattle.text_rows.specs.Rows.{RowIn, early, time_order, rest_order, lines_order}
 
 -- what is early may be said in two ways
 module _ (r : ℕ) (soon soon' : Type 0) (row : Line) where
@@ -101,7 +101,7 @@ module _ {text : List ℕ} {p k : ℕ} {passed : Bool} {at r last : ℕ} (g : Ro
         (refused_then (rows_order k passed rows (length rows)) _ 14 at passes
         (inl (refl, record { given = sym all ∙ z; there = end }))))
 
-    pub rows_done : (r ≡ 0 → ⊥) → Comes (lines_order k passed (length text) rows) (λ n. n ≡ length rows) (Done r)
+    pub rows_done : (r ≡ 0 → ⊥) → Comes (lines_order k passed (length text) rows) (λ n. n ≡ length rows) (Ok r)
     unfolding Comes Passed
     rows_done n =
         let last : Passed (check 14 (At (length text) (length rows ≡ 0)) ∷ []) = ((λ q a. n (all ∙ a.given)), tt) in
@@ -137,63 +137,55 @@ module _ {text : List ℕ} {p k : ℕ} {passed : Bool} {at r last : ℕ} (g : Ro
     back : soon → early r last row
     back a = (a.0, rw (g.later a.0) a.1)
 
-    module _ {x : Outcome} (c : Comes (time_order r (early r last row) row ++ rest_order k passed row) (λ m. m ≡ k) x)
-      where
-        pub rowing_refused : {q : Refusal} (made : ℕ → Type 0) → x ≡ Refused q
-            → Comes (lines_order k passed (length text) rows) made (Refused q)
-        unfolding Comes
-        rowing_refused {q} made e =
-            let refused = comes_refused _ _ c e in
-            record {
-              by =
-                  refused_first (rows_order k passed rows (length rows)) _ q.number q.place
-                  (piece_refused (rows_order k passed rows) (row_order k passed rows) (grows k passed rows) r
-                  (length rows) q.number q.place here.0 g.good
-                  (rw order (go (refused_either _ _ _ _ refused.by))));
-              bare = refused.bare;
-            }
-          where
-            go : RefusedWith (time_order r (early r last row) row) q.number q.place
-                ⊎ (Passed (time_order r (early r last row) row)
-                × RefusedWith (rest_order k passed row) q.number q.place)
-                → RefusedWith (time_order r soon row ++ rest_order k passed row) q.number q.place
-            go (inl a) =
-                refused_first (time_order r soon row) (rest_order k passed row) _ _
-                (time_refused r (early r last row) soon row to back _ _ a)
-            go (inr (a, b)) =
-                refused_then (time_order r soon row) (rest_order k passed row) _ _
-                (time_passed r (early r last row) soon row back a) b
+    module _ (made' : ℕ → Type 0) where
+      pub rowing_refused : (q : Refusal)
+          → Comes (time_order r (early r last row) row ++ rest_order k passed row) made' (Err q) → (made : ℕ → Type 0)
+          → Comes (lines_order k passed (length text) rows) made (Err q)
+      unfolding Comes
+      rowing_refused q refused made =
+          record {
+            by =
+                refused_first (rows_order k passed rows (length rows)) _ q.number q.place
+                (piece_refused (rows_order k passed rows) (row_order k passed rows) (grows k passed rows) r
+                (length rows) q.number q.place here.0 g.good
+                (rw order (go (refused_either _ _ _ _ refused.by))));
+            bare = refused.bare;
+          }
+        where
+          go : RefusedWith (time_order r (early r last row) row) q.number q.place
+              ⊎ (Passed (time_order r (early r last row) row)
+              × RefusedWith (rest_order k passed row) q.number q.place)
+              → RefusedWith (time_order r soon row ++ rest_order k passed row) q.number q.place
+          go (inl a) =
+              refused_first (time_order r soon row) (rest_order k passed row) _ _
+              (time_refused r (early r last row) soon row to back _ _ a)
+          go (inr (a, b)) =
+              refused_then (time_order r soon row) (rest_order k passed row) _ _
+              (time_passed r (early r last row) soon row back a) b
 
-        module _ {m : ℕ} (e : x ≡ Done m) where
-          passes_row : Passed (row_order k passed rows r)
-          passes_row =
-              let both = (comes_done _ _ c e).0 in
-              rw order
-              (passed_both (time_order r soon row) (rest_order k passed row)
-              (time_passed r (early r last row) soon row back (passed_left (time_order r (early r last row) row) _ both))
-              (passed_right (time_order r (early r last row) row) _ both))
+    module _ (both : Passed (time_order r (early r last row) row ++ rest_order k passed row)) where
+      passes_row : Passed (row_order k passed rows r)
+      passes_row =
+          rw order
+          (passed_both (time_order r soon row) (rest_order k passed row)
+          (time_passed r (early r last row) soon row back (passed_left (time_order r (early r last row) row) _ both))
+          (passed_right (time_order r (early r last row) row) _ both))
 
-          timed_row : is_time (get_or row.words 0 none).bytes ≡ true
-          timed_row =
-              sym (ap (λ (l : Line). is_time (get_or l.words 0 none).bytes) here.1)
-              ∙ row_time_lem k passed rows r passes_row
+      pub rowing_few : r < 65535
+      rowing_few = row_few k passed rows r passes_row
 
-          pub rowing_few : r < 65535
-          rowing_few = row_few k passed rows r passes_row
-
-          pub rowing_next : {a t b at' : ℕ} {good : Bool} → TimedAt row a good t → Passes text at b → Next text b at'
-              → Rowing text p k passed at' (r + 1) t
-          rowing_next {b = b} u v w =
-              record {
-                before = b;
-                next = w;
-                left = sym (drop-drop 1 r rows) ∙ ap (drop 1) g.left ∙ said_on g.next h v w;
-                few = omega (arith, here.0);
-                good =
-                    piece_passed (rows_order k passed rows) (row_order k passed rows) (grows k passed rows) r g.good
-                    passes_row;
-                later = λ l.
-                    let q : r + 1 - 1 ≡ r = omega arith in
-                    let time = u.reads.value (u.reads.is ∙ timed_row) in
-                    time ∙ ap time_of_lem (sym here.1) ∙ ap (λ (i : ℕ). time_of_lem (get_or rows i no_line)) (sym q);
-              }
+      pub rowing_next : {t b at' : ℕ} → t ≡ time_of_lem row → Passes text at b → Next text b at'
+          → Rowing text p k passed at' (r + 1) t
+      rowing_next {b = b} read v w =
+          record {
+            before = b;
+            next = w;
+            left = sym (drop-drop 1 r rows) ∙ ap (drop 1) g.left ∙ said_on g.next h v w;
+            few = omega (arith, here.0);
+            good =
+                piece_passed (rows_order k passed rows) (row_order k passed rows) (grows k passed rows) r g.good
+                passes_row;
+            later = λ l.
+                let q : r + 1 - 1 ≡ r = omega arith in
+                read ∙ ap time_of_lem (sym here.1) ∙ ap (λ (i : ℕ). time_of_lem (get_or rows i no_line)) (sym q);
+          }

@@ -3,7 +3,7 @@
 --   TimedAt                         its time
 --   early, time_order, rest_order     what is asked of a row's time; of the rest of its line
 --   lines_order                      of all rows
-use Rattle.std.specs.Prelude.{ℕ, ◌+◌, ◌<◌, ◌≤◌, ◌≡◌, Bool, false, List, [], ◌∷◌, ◌++◌, length, get_or}
+use Rattle.std.specs.Prelude.{ℕ, ◌+◌, ◌<◌, ◌≤◌, ◌≡◌, Bool, false, List, [], ◌∷◌, ◌++◌, length, get_or, Option}
 use Rattle.alf.specs.Refusals.{Order, check, At}
 use Rattle.trace_texts.specs.Words.{Line}
 use Rattle.trace_texts.specs.Texts.{none, is_time, time_of_lem, state_word, states_order, rows_order}
@@ -19,10 +19,10 @@ pub record RowIn (text : List ℕ) (p k : ℕ) : Type 0 where
   pub timed : TimeIn text p
   pub names : LineIn text p k
 
--- where a row's time stands, whether it is one, and which
-pub record TimedAt (row : Line) (at : ℕ) (good : Bool) (time : ℕ) : Type 0 where
+-- where a row's time stands, and which it is
+pub record TimedAt (row : Line) (at : ℕ) (time : Option ℕ) : Type 0 where
   pub place : at ≡ (get_or row.words 0 none).at
-  pub reads : ReadsTime (get_or row.words 0 none).bytes good time
+  pub reads : ReadsTime (get_or row.words 0 none).bytes time
 
 -- it is not above the last
 abbrev pub early : ℕ → ℕ → Line → Type 0

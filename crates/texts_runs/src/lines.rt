@@ -10,13 +10,12 @@ use run_printing::texts::{quote, say_text};
 use run_words::pieces::expand;
 use run_words::words::number_from;
 use std::io::Stdout;
-use text_parts::lines::{behind_line, line_at};
+use text_parts::lines::Lines;
 use text_parts::parts::{find, front};
 
 fn sort_of(kind: u8) -> Sort {
     match kind {
-        b'v' => Sort::Vector,
-        b'V' => Sort::Vector,
+        b'v' | b'V' => Sort::Vector,
         _ => Sort::Boolean,
     }
 }
@@ -70,11 +69,7 @@ fn show_nodes(to: Stdout, usual: &[u8], tree: &[u8], room: &[u8], sort: Sort) {
 
 // The part from `at` on; nothing where the text ends before.
 fn from(text: &[u8], at: usize) -> &[u8] {
-    let end = text.len();
-    if at < end {
-        return &text[at..end];
-    }
-    &text[end..end]
+    text.get(at..).unwrap_or(b"")
 }
 
 // A text by its kind; `at` is where `;` stands, or the length.
@@ -128,18 +123,13 @@ fn show_line(to: Stdout, usual: &[u8], line: &[u8]) {
 
 // The usual names, behind the `# ` of the first line.
 fn usual_in(input: &[u8]) -> &[u8] {
-    let end = find(input, 0, b'\n');
-    if end < 2 {
-        return &input[0..end];
-    }
-    &input[2..end]
+    let line = Lines(input).next().unwrap_or(b"");
+    line.get(2..).unwrap_or(line)
 }
 
 pub fn show_lines(to: Stdout, input: &[u8]) {
     let usual = usual_in(input);
-    let mut at: usize = 0;
-    while at < input.len() {
-        show_line(to, usual, line_at(input, at));
-        at = behind_line(input, at);
+    for line in Lines(input) {
+        show_line(to, usual, line);
     }
 }

@@ -13,10 +13,8 @@ fn no_names() -> [u8; 1056] {
 
 // Each word into its slot.
 fn put_names(list: &mut [u8], words: &[u8]) {
-    let mut k: usize = 0;
-    while k < 33 {
+    for k in 0..33 {
         put(list, 32 * k, word(words, k));
-        k += 1;
     }
 }
 

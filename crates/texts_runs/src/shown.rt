@@ -1,6 +1,6 @@
 // A text with what its tree is written as, or with its refusal. A text of over 64 bytes is shown by its length.
 use alf::Sort;
-use basics::{Outcome, Refusal};
+use basics::Refusal;
 use reader::read_expression;
 use run_printing::printing::{character, refused, write};
 use run_printing::texts::say_text;
@@ -31,15 +31,21 @@ fn say_written(to: Stdout, text: &[u8], written: &[u8]) {
     character(to, b'\n');
 }
 
-fn say_outcome(to: Stdout, text: &[u8], out: &[u8; 4096], r: Outcome) {
+fn say_outcome(to: Stdout, text: &[u8], out: &[u8; 4096], r: Result<usize, Refusal>) {
     match r {
-        Outcome::Refused(f) => say_refusal(to, b"  not written: ", f),
-        Outcome::Done(n) => say_written(to, text, front(out, n)),
+        Err(f) => say_refusal(to, b"  not written: ", f),
+        Ok(n) => say_written(to, text, front(out, n)),
     }
 }
 
 // A tree, written into so much room.
-fn write_in(names: &[u8], tree: &[u8], sort: Sort, out: &mut [u8], room: usize) -> Outcome {
+fn write_in(
+    names: &[u8],
+    tree: &[u8],
+    sort: Sort,
+    out: &mut [u8],
+    room: usize,
+) -> Result<usize, Refusal> {
     if room < out.len() {
         write_expression(names, tree, sort, &mut out[..room])
     } else {
@@ -47,7 +53,13 @@ fn write_in(names: &[u8], tree: &[u8], sort: Sort, out: &mut [u8], room: usize) 
     }
 }
 
-fn write_room(names: &[u8], tree: &[u8], sort: Sort, out: &mut [u8; 4096], room: usize) -> Outcome {
+fn write_room(
+    names: &[u8],
+    tree: &[u8],
+    sort: Sort,
+    out: &mut [u8; 4096],
+    room: usize,
+) -> Result<usize, Refusal> {
     write_in(names, tree, sort, out, room)
 }
 
@@ -59,14 +71,11 @@ pub fn show_tree(to: Stdout, names: &[u8], text: &[u8], tree: &[u8], sort: Sort,
 
 // What a text is read as over a list of names, or its refusal.
 pub fn show(to: Stdout, names: &[u8], text: &[u8], sort: Sort) {
-    let r = read_expression(old_rules(), names, text, sort);
-    let refused = r.refused;
-    if refused {
-        let refusal = r.refusal;
-        say_refusal(to, b"  refused ", refusal);
-        return;
+    match read_expression(old_rules(), names, text, sort) {
+        Ok(read) => {
+            let tree = read.tree;
+            show_tree(to, names, text, front(&tree, read.len), sort, 4096);
+        }
+        Err(refusal) => say_refusal(to, b"  refused ", refusal),
     }
-    let len = r.len;
-    let tree = r.tree;
-    show_tree(to, names, text, front(&tree, len), sort, 4096);
 }

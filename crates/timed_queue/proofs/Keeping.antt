@@ -15,7 +15,7 @@ use Rattle.basics.specs.Memory.{front, placed}
 use Rattle.basics.proofs.Stores.{sets_placed, sets_front, front_next, front_take}
 use Rattle.alf.specs.declared.Rules.{Rules}
 use Rattle.alf.specs.declared.Answer.{Answer}
-use Rattle.alf.specs.declared.Began.{Began}
+use Rattle.alf.specs.Beginnings.{Began}
 use Rattle.alf.specs.Values.{state_at}
 use Rattle.alternatives.specs.InMemory.{alternatives_of_lem}
 use Rattle.alternatives.proofs.Longest.{longest_is}

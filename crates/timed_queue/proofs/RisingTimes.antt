@@ -16,7 +16,7 @@ use Rattle.basics.specs.Memory.{placed}
 use Rattle.basics.proofs.Bools.{below?}
 use Rattle.alf.specs.declared.Rules.{Rules}
 use Rattle.alf.specs.declared.Answer.{Answer}
-use Rattle.alf.specs.declared.Began.{Began}
+use Rattle.alf.specs.Beginnings.{Began}
 use Rattle.alf.specs.Alternatives.{Alternative}
 use Rattle.alternatives.specs.InMemory.{longest_of}
 use Rattle.queue.specs.Queues.{last_rows}

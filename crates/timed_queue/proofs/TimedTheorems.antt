@@ -18,7 +18,7 @@ use Rattle.basics.specs.Words.{listed}
 use Rattle.basics.proofs.Listed.{listed_length, listed_more, listed_at}
 use Rattle.alf.specs.declared.Rules.{Rules}
 use Rattle.alf.specs.declared.Answer.{Answer}
-use Rattle.alf.specs.declared.Began.{Began}
+use Rattle.alf.specs.Beginnings.{Began}
 use Rattle.alf.specs.Values.{state_at}
 use Rattle.alf.specs.Alternatives.{Alternative}
 use Rattle.alf.proofs.BeginningsNear.{SameTimes, began_near}

@@ -6,7 +6,7 @@
 use Rattle.std.specs.Prelude.{ℕ, suc, ◌+◌, ◌<◌, ◌≡◌, List, [], ◌∷◌, ◌++◌, length, take}
 use Rattle.alf.specs.declared.Rules.{Rules}
 use Rattle.alf.specs.declared.Answer.{Answer}
-use Rattle.alf.specs.declared.Began.{Began}
+use Rattle.alf.specs.Beginnings.{Began}
 use Rattle.alf.specs.Values.{state_at}
 use Rattle.alf.specs.Alternatives.{Alternative}
 use Rattle.alf.specs.Beginnings as beginnings

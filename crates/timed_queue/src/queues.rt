@@ -1,12 +1,13 @@
 // The queue with times: each push answers for the row pushed, and tells the time where its match began.
 // The last K rows are kept, and the time of each beside its states.
 ghost use Rattle.std.specs.Prelude.{◌≡◌, replicate};
-ghost use Rattle.alternatives.specs.InMemory.{alternatives_of_lem};
-ghost use Rattle.queue.specs.Queues.{PushAsked};
+ghost use Rattle.alternatives.specs.Listed.{alternatives_listed};
+ghost use Rattle.queue.specs.Queues.{PushAskedOn};
 ghost use Rattle.timed_queue.specs.TimedQueues.{Pushes};
 
 use crate::stamps::{keep, lay};
 use alf::{Rules, Stamp};
+use alternatives::lists::Lists;
 use alternatives::walking::longest;
 use beginnings::times::{Dated, date};
 use matcher::answers::Matched;
@@ -41,19 +42,14 @@ pub fn push(
     rules: Rules,
     tree: &[u8],
     names: usize,
-    steps: &[u8],
-    tests: &[u8],
-    edges: &[u8],
-    operands: &[u16],
+    lists: &Lists,
     queue: Queue,
     time: Stamp,
     row: &[u8],
 ) -> Pushed
-    requires { PushAsked tree.now names steps.now tests.now edges.now operands.now queue.rows
+    requires { PushAskedOn tree.now names lists.now queue.rows
         row.now }
-    ensures { Pushes rules names (alternatives_of_lem tree.now names steps.now
-        tests.now
-        edges.now operands.now) queue time.0 row.now result.told.answer
+    ensures { Pushes rules names (alternatives_listed tree.now names lists.now) queue time.0 row.now result.told.answer
         result.told.tries result.told.began result.queue }
 {
     let rows = queue.rows;
@@ -61,13 +57,13 @@ pub fn push(
     let kept = rows.kept;
     let at = kept.0 as usize;
     let all = lay(held, at, time);
-    let pushed = queue::queues::push(rules, tree, names, steps, tests, edges, operands, rows, row);
+    let pushed = queue::queues::push(rules, tree, names, lists, rows, row);
     let answer = pushed.answer;
     let tries = pushed.tries;
     let found = Matched { answer, tries };
     let end = at + 1;
-    let told = date(&all[..end], steps, at, found);
-    let times = keep(&all[..end], at, longest(steps) as usize);
+    let told = date(&all[..end], lists.steps, at, found);
+    let times = keep(&all[..end], at, longest(lists.steps) as usize);
     let next = pushed.queue;
     Pushed {
         told,

@@ -11,11 +11,7 @@ fn put(from: &[u64], out: &mut [u64])
     requires { PutAsked from.now out.old }
     ensures { out.new ≡ placed out.old 0 from.now }
 {
-    let mut i: usize = 0;
-    while i < from.len() {
-        out[i] = from[i];
-        i += 1;
-    }
+    out[..from.len()].copy_from_slice(from);
 }
 
 // Times as a queue holds them: zeros behind.

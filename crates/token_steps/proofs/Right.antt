@@ -1,9 +1,10 @@
 -- What one token step must say of the bytes bs: the token taken, or the place where none is; and what bars bs, by their
 -- first byte.
---   Right, right_none, right_taken   a step that is right
+--   Right_token, Right, right_taken   a step that is right
 --   barred_other, barred_quote       what can bar bytes that begin with no `'`, or with one
-use mathlib.Core.Path.{◌≡◌, refl}
+use mathlib.Core.Path.{◌≡◌}
 use mathlib.Core.Bool.{true, false}
+use Rattle.std.specs.Prelude.{Ok, Err}
 use mathlib.Core.List.{List}
 use Prim.Native.Nat.{ℕ, ◌<◌}
 use lib.Dec.{eqb}
@@ -14,25 +15,25 @@ use Rattle.basics.proofs.Bools.{and_left}
 use Rattle.token_steps.specs.declared.Step.{Step}
 use Rattle.token_steps.specs.Taking.{byte_at, name_bytes, is_plain, is_based, is_half, Barred, Taken, NoToken}
 use Rattle.token_steps.specs.Taking.Barred.{together, overlong, loose, lone, bad_half}
-use Rattle.token_steps.specs.Steps.{none, step}
+use Rattle.token_steps.specs.Steps.{Outcome, step}
 use Rattle.token_steps.proofs.Bytes.{contrary, plain_unquoted, quote_unnamed}
 
--- a step with a token takes it, and one without names the place
-pub record Right (bs : List ℕ) (s : Step) : Type 0 where
-  pub takes : (s.code ≡ none → ⊥) → Taken bs (take s.size bs) s.code (drop s.size bs)
-  pub fits : (s.code ≡ none → ⊥) → length (take s.size bs) ≡ s.size
-  pub stops : s.code ≡ none → NoToken bs s.size
+-- a step with a token takes it, from bytes that are there
+pub record Right_token (bs : List ℕ) (s : Step) : Type 0 where
+  pub takes : Taken bs (take s.size bs) s.code (drop s.size bs)
+  pub fits : length (take s.size bs) ≡ s.size
 
-pub right_none : {bs : List ℕ} {k : ℕ} → NoToken bs k → Right bs (step none k)
-right_none n = record { takes = λ h. absurd (h refl); fits = λ h. absurd (h refl); stops = λ _. n }
+-- and one without names the place
+abbrev pub Right : List ℕ → Outcome → Type 0
+Right bs (Ok s) = Right_token bs s
+Right bs (Err k) = NoToken bs k
 
 pub right_taken :
     {bs : List ℕ} {c n : ℕ} →
-    (c ≡ none → ⊥) →
     length (take n bs) ≡ n →
     Taken bs (take n bs) c (drop n bs) →
     Right bs (step c n)
-right_taken h l t = record { takes = λ _. t; fits = λ _. l; stops = λ e. absurd (h e) }
+right_taken l t = record { takes = t; fits = l }
 
 -- what bars bs, by their first byte
 pub barred_other :

@@ -6,6 +6,7 @@ use mathlib.Core.List.{List, [], ◌∷◌}
 use Prim.Native.Nat.{ℕ, ◌+◌, ◌≤◌, ◌<◌}
 use native.Mathlib.Omega.{arith}
 use lib.Dec.{eqb}
+use Rattle.std.specs.Prelude.{None, Some}
 use lib.ListN.{length, take, drop, take-append-drop}
 use lib.Seq.{take-add, get_or-drop}
 use borrow.Author.Tests.{eqb-true, eqb-false, eq-eqb, ltb-true, not-true}
@@ -22,13 +23,13 @@ use Rattle.token_steps.specs.Steps.{half_at, based_step}
 use Rattle.token_steps.proofs.Bytes.{contrary, plain_unquoted, quote_unnamed, half_zero, and_both, question}
 use Rattle.token_steps.proofs.Ways.{no_half, bad_second, both_halves, lone as alone, based_literal}
 use Rattle.token_steps.proofs.TokenStarts.{Shape, as_name, as_based, as_edge, as_spelled, shape, entry_good}
-use Rattle.token_steps.proofs.Right.{Right, right_none, right_taken, barred_quote}
+use Rattle.token_steps.proofs.Right.{Right, right_taken, barred_quote}
 
-half_at_true : (bs : List ℕ) (k : ℕ) → is_half bs k ≡ true → half_at bs k ≡ half_of (byte_at bs (k + 2))
+half_at_true : (bs : List ℕ) (k : ℕ) → is_half bs k ≡ true → half_at bs k ≡ Some (half_of (byte_at bs (k + 2)))
 unfolding half_at
 half_at_true bs k h = rw h
 
-half_at_false : (bs : List ℕ) (k : ℕ) → is_half bs k ≡ false → half_at bs k ≡ 9
+half_at_false : (bs : List ℕ) (k : ℕ) → is_half bs k ≡ false → half_at bs k ≡ None
 unfolding half_at
 half_at_false bs k h = rw h
 
@@ -41,9 +42,6 @@ half_free bs k h = not-true _ (and_right (is_based bs k) _ h)
 based_less : (bs : List ℕ) (k : ℕ) → is_based bs k ≡ true → half_of (byte_at bs (k + 2)) < 9
 based_less bs k h =
     ltb-true _ 9 (and_right (eqb (byte_at bs (k + 1)) 98) _ (and_right (eqb (byte_at bs k) 39) _ h))
-
-half_at_less : (bs : List ℕ) (k : ℕ) → is_half bs k ≡ true → half_at bs k < 9
-half_at_less bs k h = rw (half_at_true bs k h) (based_less bs k (half_based bs k h))
 
 -- `'b` and a byte are there
 based_list : (bs : List ℕ) → is_based bs 0 ≡ true → take 3 bs ≡ 39 ∷ (98 ∷ (byte_at bs 2 ∷ []))
@@ -96,10 +94,10 @@ module _ (bs : List ℕ) (q : byte_at bs 0 ≡ 39) (h : is_half bs 0 ≡ true) w
   pair_taken :
       byte_at bs 3 ≡ 39 →
       is_half bs 3 ≡ true →
-      Taken bs (take 6 bs) (edge_code (half_at bs 0) (half_at bs 3)) (drop 6 bs)
+      Taken bs (take 6 bs) (edge_code (half_of (byte_at bs 2)) (half_of (byte_at bs 5))) (drop 6 bs)
   pair_taken p k =
       record {
-        token = rw (pair_list bs a b, half_at_true bs 0 h, half_at_true bs 3 k)
+        token = rw (pair_list bs a b)
             (based_edge (byte_at bs 2) (byte_at bs 5) (based_less bs 0 a) (based_less bs 3 b));
         there = sym (take-append-drop 6 bs);
         longest = λ v d rest t e. rw (pair_list bs a b) (six (quote_short q (shape rest t e)));
@@ -119,11 +117,11 @@ module _ (bs : List ℕ) (q : byte_at bs 0 ≡ 39) (h : is_half bs 0 ≡ true) w
 
   literal_taken :
       (byte_at bs 3 ≡ 39 → ⊥) →
-      (half_at bs 0 ≡ 0 → ⊥) →
-      Taken bs (take 3 bs) (31 + half_at bs 0) (drop 3 bs)
+      (half_of (byte_at bs 2) ≡ 0 → ⊥) →
+      Taken bs (take 3 bs) (31 + half_of (byte_at bs 2)) (drop 3 bs)
   literal_taken p z =
       record {
-        token = rw (based_list bs a, half_at_true bs 0 h) (literal (byte_at bs 2) positive (based_less bs 0 a));
+        token = rw (based_list bs a) (literal (byte_at bs 2) positive (based_less bs 0 a));
         there = sym (take-append-drop 3 bs);
         longest = λ v d rest t e. rw (based_list bs a) (three (quote_short q (shape rest t e)));
         allowed =
@@ -134,17 +132,14 @@ module _ (bs : List ℕ) (q : byte_at bs 0 ≡ 39) (h : is_half bs 0 ≡ true) w
       a = half_based bs 0 h
 
       positive : 0 < half_of (byte_at bs 2)
-      positive = omega (arith, half_at_true bs 0 h)
+      positive = omega arith
 
       any : byte_at bs 2 ≡ 63 → ⊥
-      any w = z (half_at_true bs 0 h ∙ ap half_of w ∙ question)
+      any w = z (ap half_of w ∙ question)
 
       three : {n : ℕ} → (n ≤ 3) ⊎ ((n ≡ 6) × (byte_at bs 3 ≡ 39)) → n ≤ 3
       three (inl w) = w
       three (inr w) = absurd (p w.1)
-
-below_nine : (bs : List ℕ) → is_half bs 0 ≡ true → half_at bs 0 ≡ 9 → ⊥
-below_nine bs h e = omega (arith, half_at_less bs 0 h)
 
 pub right_based : (bs : List ℕ) → byte_at bs 0 ≡ 39 → Right bs (based_step bs)
 right_based bs q = go (is_half bs 0) refl
@@ -152,34 +147,32 @@ right_based bs q = go (is_half bs 0) refl
     second : is_half bs 0 ≡ true → byte_at bs 3 ≡ 39 → (y : Bool) → is_half bs 3 ≡ y
         → Right bs (based_step bs)
     second h p true k =
-        rw (← both_halves bs refl (below_nine bs h) refl p refl (λ e. omega (arith, half_at_less bs 3 k)))
-        (right_taken (λ e. omega (arith, half_at_less bs 0 h, half_at_less bs 3 k))
-        (ap length (pair_list bs (half_based bs 0 h) (half_based bs 3 k)))
+        rw (← both_halves bs (half_at_true bs 0 h) refl p (half_at_true bs 3 k))
+        (right_taken (ap length (pair_list bs (half_based bs 0 h) (half_based bs 3 k)))
         (pair_taken bs q h p k))
     second h p false k =
-        rw (← bad_second bs refl (below_nine bs h) refl p refl (half_at_false bs 3 k))
-        (right_none (barred (bad_half h p k)))
+        rw (← bad_second bs (half_at_true bs 0 h) refl p (half_at_false bs 3 k))
+        ((barred (bad_half h p k)))
 
     single :
         is_half bs 0 ≡ true →
         (byte_at bs 3 ≡ 39 → ⊥) →
         (y : Bool) →
-        eqb (half_at bs 0) 0 ≡ y →
+        eqb (half_of (byte_at bs 2)) 0 ≡ y →
         Right bs (based_step bs)
     single h p true k =
         let z = eqb-true _ 0 k in
-        rw (← alone bs refl (below_nine bs h) refl p z)
-        (right_none (barred (lone (half_based bs 0 h) (half_zero _ (sym (half_at_true bs 0 h) ∙ z)) p)))
+        rw (← alone bs (half_at_true bs 0 h) refl p z)
+        (barred (lone (half_based bs 0 h) (half_zero _ z) p))
     single h p false k =
-        rw (← based_literal bs refl (below_nine bs h) refl p (eqb-false _ 0 k))
-        (right_taken (λ e. omega (arith, half_at_less bs 0 h))
-        (ap length (based_list bs (half_based bs 0 h)))
+        rw (← based_literal bs (half_at_true bs 0 h) refl p (eqb-false _ 0 k))
+        (right_taken (ap length (based_list bs (half_based bs 0 h)))
         (literal_taken bs q h p (eqb-false _ 0 k)))
 
     first : is_half bs 0 ≡ true → (y : Bool) → eqb (byte_at bs 3) 39 ≡ y → Right bs (based_step bs)
     first h true k = second h (eqb-true _ 39 k) (is_half bs 3) refl
-    first h false k = single h (eqb-false _ 39 k) (eqb (half_at bs 0) 0) refl
+    first h false k = single h (eqb-false _ 39 k) (eqb (half_of (byte_at bs 2)) 0) refl
 
     go : (y : Bool) → is_half bs 0 ≡ y → Right bs (based_step bs)
     go true h = first h (eqb (byte_at bs 3) 39) refl
-    go false h = rw (← no_half bs refl (half_at_false bs 0 h)) (right_none (no_half_there bs q h))
+    go false h = rw (← no_half bs (half_at_false bs 0 h)) (no_half_there bs q h)

@@ -1,5 +1,5 @@
 -- The step at a name is right. Main names: right_name; names_le: name bytes stand inside the text.
-use Rattle.std.specs.Prelude.{if◌then◌else◌}
+use Rattle.std.specs.Prelude.{Err, if◌then◌else◌}
 use mathlib.Core.Path.{◌≡◌, refl, sym, ap}
 use mathlib.Core.Bool.{Bool, true, false}
 use mathlib.Core.List.{List, [], ◌∷◌}
@@ -15,10 +15,10 @@ use Rattle.token_steps.specs.Spelling.IsToken.{name}
 use Rattle.token_steps.specs.Taking.{byte_at, name_bytes, Taken}
 use Rattle.token_steps.specs.Taking.Barred.{overlong}
 use Rattle.token_steps.specs.Taking.NoToken.{barred}
-use Rattle.token_steps.specs.Steps.{none, step, name_step}
+use Rattle.token_steps.specs.Steps.{step, name_step}
 use Rattle.token_steps.proofs.Bytes.{contrary, plain_unnamed, quote_unnamed}
 use Rattle.token_steps.proofs.TokenStarts.{Shape, as_name, as_based, as_edge, as_spelled, shape, entry_good}
-use Rattle.token_steps.proofs.Right.{Right, right_none, right_taken, barred_other}
+use Rattle.token_steps.proofs.Right.{Right, right_taken, barred_other}
 
 pub names_le : (bs : List ℕ) → name_bytes bs ≤ length bs
 unfolding name_bytes
@@ -83,10 +83,9 @@ right_name b bs h = go (leb (name_bytes (b ∷ bs)) 32) refl
     go :
         (q : Bool) →
         leb (name_bytes (b ∷ bs)) 32 ≡ q →
-        Right (b ∷ bs) (if q then step 0 (name_bytes (b ∷ bs)) else step none 0)
+        Right (b ∷ bs) (if q then step 0 (name_bytes (b ∷ bs)) else Err 0)
     go true e =
         rw (names_first b bs h)
-        (right_taken (λ z. omega arith)
-        (ap suc (length-take-le (name_bytes bs) bs (names_le bs)))
+        (right_taken (ap suc (length-take-le (name_bytes bs) bs (names_le bs)))
         (taken (leb-true _ 32 e)))
-    go false e = right_none (barred (overlong h (leb-false _ 32 e)))
+    go false e = (barred (overlong h (leb-false _ 32 e)))

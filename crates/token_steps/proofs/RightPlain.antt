@@ -1,30 +1,29 @@
 -- The step at any other byte is right: two of `0 1 ?`, or one of the spellings. Main name: right_plain.
-use Rattle.std.specs.Prelude.{if◌then◌else◌}
+use Rattle.std.specs.Prelude.{Err, if◌then◌else◌}
 use mathlib.Core.Path.{◌≡◌, refl, sym, ap}
 use mathlib.Core.Bool.{Bool, true, false, ◌&&◌}
 use mathlib.Core.List.{List, [], ◌∷◌}
 use Prim.Native.Nat.{ℕ, ◌≤◌}
 use native.Mathlib.Omega.{arith}
-use lib.Dec.{eqb, ltb}
+use lib.Dec.{eqb}
 use lib.ListN.{length, take, drop, take-append-drop}
 use lib.Seq.{take-append_seam}
 use borrow.Author.Tests.{eq-eqb, ltb-true}
 use Rattle.alf.specs.Names.{starts_name}
 use Rattle.alf.specs.States.{among}
 use Rattle.basics.proofs.Bools.{and_left, and_right}
-use Rattle.token_steps.specs.declared.Step.{Step}
 use Rattle.token_steps.specs.Classes.{half_of}
 use Rattle.token_steps.specs.Spelling.{Spelling, ◌In◌, spellings, edge_code}
 use Rattle.token_steps.specs.Spelling.IsToken.{spelled, edge}
 use Rattle.token_steps.specs.Taking.{byte_at, is_plain, Barred, Taken, Tokenless}
 use Rattle.token_steps.specs.Taking.Barred.{together}
 use Rattle.token_steps.specs.Taking.NoToken.{barred, tokenless}
-use Rattle.token_steps.specs.Steps.{starts, none, step, first_of, plain_step}
+use Rattle.token_steps.specs.Steps.{Outcome, starts, step, first_of, plain_step}
 use Rattle.token_steps.proofs.Bytes.{contrary, and_both}
 use Rattle.token_steps.proofs.Search.{Found, hit, miss, found, falling, found_longest}
-use Rattle.token_steps.proofs.Search.{all_in, in_all, starts_sound}
+use Rattle.token_steps.proofs.Search.{starts_sound}
 use Rattle.token_steps.proofs.TokenStarts.{Shape, as_name, as_based, as_edge, as_spelled, shape, entry_good}
-use Rattle.token_steps.proofs.Right.{Right, right_none, right_taken, barred_other}
+use Rattle.token_steps.proofs.Right.{Right, right_taken, barred_other}
 
 plain_list :
     (bs : List ℕ) →
@@ -39,10 +38,6 @@ plain_list (a ∷ (b ∷ bs)) h k = refl
 spelled_falling : falling 3 spellings ≡ true
 unfolding spellings
 spelled_falling = refl
-
-spelled_codes : all_in (λ e. ltb e.code none) spellings ≡ true
-unfolding spellings
-spelled_codes = refl
 
 -- the tokens that are left where bs begin with no name and no `'`
 data Other (bs v : List ℕ) : Type 0 where
@@ -85,10 +80,9 @@ module _ (bs : List ℕ) (u : starts_name (byte_at bs 0) ≡ false) (q : eqb (by
     never : is_plain (byte_at bs 0) ≡ true → is_plain (byte_at bs 1) ≡ true → ⊥
     never a b = contrary (and_both _ _ a b) no
 
-    spelled_right : {s : Step} → first_of spellings bs ≡ s → Found spellings bs s → Right bs s
+    spelled_right : {s : Outcome} → first_of spellings bs ≡ s → Found spellings bs s → Right bs s
     spelled_right eq (hit e m s) =
-        right_taken (λ z. omega (arith, ltb-true e.code none (in_all (λ x. ltb x.code none) m spelled_codes)))
-        (ap length prefix)
+        right_taken (ap length prefix)
         (record {
           token = rw prefix (spelled m);
           there = sym (take-append-drop (length e.bytes) bs);
@@ -103,7 +97,7 @@ module _ (bs : List ℕ) (u : starts_name (byte_at bs 0) ≡ false) (q : eqb (by
         most v (two_plain x y z) = absurd (never x y)
         most v (listed x n f g r) =
             rw f (rw eq at (found_longest 3 bs spelled_falling n (rw f at r)))
-    spelled_right eq (miss f) = right_none (tokenless none_there (free (λ a b _. never a b)))
+    spelled_right eq (miss f) = (tokenless none_there (free (λ a b _. never a b)))
       where
         none_there : Tokenless bs
         none_there v d rest t e = go (other_shape (shape rest t e))
@@ -121,11 +115,10 @@ module _ (bs : List ℕ) (u : starts_name (byte_at bs 0) ≡ false) (q : eqb (by
           is_plain (byte_at bs 1) ≡ true →
           (y : Bool) →
           is_plain (byte_at bs 2) ≡ y →
-          Right bs (if y then step none 0 else step (edge_code (half_of (byte_at bs 0)) (half_of (byte_at bs 1))) 2)
-      third a b true c = right_none (barred (together a b c))
+          Right bs (if y then Err 0 else step (edge_code (half_of (byte_at bs 0)) (half_of (byte_at bs 1))) 2)
+      third a b true c = (barred (together a b c))
       third a b false c =
-          right_taken (λ e. omega (arith, ltb-true (half_of (byte_at bs 0)) 3 a, ltb-true (half_of (byte_at bs 1)) 3 b))
-          (ap length (plain_list bs a b))
+          right_taken (ap length (plain_list bs a b))
           (edge_taken a b c)
 
       go : (y : Bool) → is_plain (byte_at bs 0) && is_plain (byte_at bs 1) ≡ y → Right bs (plain_step bs)

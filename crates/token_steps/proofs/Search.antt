@@ -7,15 +7,15 @@ use mathlib.Core.Path.{◌≡◌, refl}
 use mathlib.Core.Bool.{Bool, true, false, ◌&&◌}
 use mathlib.Core.List.{List, [], ◌∷◌, ◌++◌}
 use Prim.Native.Nat.{ℕ, ◌≤◌, ◌<◌}
+use Rattle.std.specs.Prelude.{Ok, Err}
 use native.Mathlib.Omega.{arith}
 use lib.Dec.{eqb, leb}
 use lib.ListN.{length, drop}
 use borrow.Author.Tests.{eqb-true, eq-eqb, leb-true}
 use Rattle.basics.proofs.Bools.{and_left, and_right}
-use Rattle.token_steps.specs.declared.Step.{Step}
 use Rattle.token_steps.specs.Spelling.{Spelling, ◌In◌}
 use Rattle.token_steps.specs.Spelling.◌In◌.{here, there}
-use Rattle.token_steps.specs.Steps.{starts, first_of, step, none}
+use Rattle.token_steps.specs.Steps.{Outcome, starts, first_of, step}
 
 abbrev pub all_in : (Spelling → Bool) → List Spelling → Bool
 all_in p [] = true
@@ -38,10 +38,10 @@ unfolding starts
 starts_complete [] rest = refl
 starts_complete (a ∷ w) rest = rw (eq-eqb a a refl, starts_complete w rest)
 
-pub data Found (es : List Spelling) (bs : List ℕ) : Step → Type 0 where
+pub data Found (es : List Spelling) (bs : List ℕ) : Outcome → Type 0 where
   hit : (e : Spelling) → e In es → starts e.bytes bs ≡ true
       → Found es bs (step e.code (length e.bytes))
-  miss : ((e : Spelling) → e In es → starts e.bytes bs ≡ false) → Found es bs (step none 0)
+  miss : ((e : Spelling) → e In es → starts e.bytes bs ≡ false) → Found es bs (Err 0)
 
 in_length : {e : Spelling} {es : List Spelling} → e In es → 0 < length es
 in_length here = omega arith
@@ -62,7 +62,7 @@ unfolding first_of
 found [] bs = miss (λ e m. absurd (let z = in_length m in omega arith))
 found (e ∷ es) bs = go (starts e.bytes bs) refl (found es bs)
   where
-    shift : starts e.bytes bs ≡ false → {s : Step} → Found es bs s → Found (e ∷ es) bs s
+    shift : starts e.bytes bs ≡ false → {s : Outcome} → Found es bs s → Found (e ∷ es) bs s
     shift h (hit d m t) = hit d (there m) t
     shift h (miss f) = miss (λ d m. missed bs h f m)
 
@@ -70,6 +70,11 @@ found (e ∷ es) bs = go (starts e.bytes bs) refl (found es bs)
         → Found (e ∷ es) bs (first_of (e ∷ es) bs)
     go true h f = rw h (hit e here h)
     go false h f = rw h (shift h f)
+
+-- how many bytes a step has, 0 where it stops
+abbrev pub size_of : Outcome → ℕ
+size_of (Ok s) = s.size
+size_of (Err k) = 0
 
 -- from long to short, none longer than n
 abbrev pub falling : ℕ → List Spelling → Bool
@@ -89,7 +94,7 @@ pub found_longest :
     falling n es ≡ true →
     e In es →
     starts e.bytes bs ≡ true →
-    length e.bytes ≤ (first_of es bs).size
+    length e.bytes ≤ size_of (first_of es bs)
 unfolding first_of
 found_longest n bs t here s = rw s (omega arith)
 found_longest {e} n bs t (there {d = d} {es = es} m) s =
@@ -101,7 +106,7 @@ found_longest {e} n bs t (there {d = d} {es = es} m) s =
     go :
         (q : Bool) →
         starts d.bytes bs ≡ q →
-        length e.bytes ≤ (first_of es bs).size →
-        length e.bytes ≤ (first_of (d ∷ es) bs).size
+        length e.bytes ≤ size_of (first_of es bs) →
+        length e.bytes ≤ size_of (first_of (d ∷ es) bs)
     go true h k = rw h (falling_bound (length d.bytes) down m)
     go false h k = rw h k

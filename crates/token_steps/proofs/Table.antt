@@ -6,6 +6,7 @@ use mathlib.Core.Bool.{Bool, true, false, ◌&&◌}
 use mathlib.Core.List.{List, [], ◌∷◌}
 use Prim.Native.Nat.{ℕ, suc, ◌+◌, ◌≤◌, ◌<◌}
 use native.Mathlib.Omega.{arith}
+use Rattle.std.specs.Prelude.{Err}
 use native.Mathlib.Numerals.{add-one}
 use lib.Dec.{eqb, ltb}
 use lib.ListN.{length, get_or, drop, drop_of_length-le}
@@ -15,12 +16,12 @@ use Rattle.basics.specs.Words.{same}
 use Rattle.basics.proofs.Bools.{and_left, and_right}
 use Rattle.basics.proofs.Entries.{same_sound}
 use Rattle.token_steps.specs.Spelling.{Spelling, ◌means◌, spellings}
-use Rattle.token_steps.specs.Steps.{starts, first_of, step, none}
+use Rattle.token_steps.specs.Steps.{starts, first_of, step}
 use Rattle.token_steps.specs.Inner.{word_of, rows}
 use Rattle.basics.proofs.Ranges.{all_from_law}
 
 abbrev nothing : Spelling
-nothing = [] means none
+nothing = [] means 0
 
 -- byte j of row i
 abbrev pub cell : ℕ → ℕ → ℕ
@@ -99,6 +100,6 @@ module _ (bs : List ℕ) (i : ℕ) (inv : first_of (drop i spellings) bs ≡ fir
         let w = rw is at s in
         rw add-one (sym (first_miss _ _ bs (rw k.bytes at (sym w))) ∙ next h)
 
-  pub find_end : 26 ≤ i → step none 0 ≡ first_of spellings bs
+  pub find_end : 26 ≤ i → Err 0 ≡ first_of spellings bs
   unfolding first_of
   find_end h = rw (drop_of_length-le spellings {i = i} (omega (arith, many))) at inv

@@ -2,7 +2,7 @@
 --   other_first, one_byte, other_second, two_bytes, third_byte   `stands`
 --   size_one, size_two, size_three                               `size_of`
 use mathlib.Core.Path.{◌≡◌, refl, sym}
-use mathlib.Core.Bool.{Bool, true, false, ◌&&◌}
+use mathlib.Core.Bool.{true, false, ◌&&◌}
 use mathlib.Core.List.{List, [], ◌∷◌}
 use Prim.Native.Nat.{ℕ, ◌<◌}
 use native.Mathlib.Omega.{arith}
@@ -13,11 +13,7 @@ use borrow.Author.Tests.{eq-eqb, ne_eqb}
 use Rattle.token_steps.specs.Taking.{byte_at}
 use Rattle.token_steps.specs.Steps.{starts}
 use Rattle.token_steps.specs.Inner.{word_of}
-use Rattle.token_steps.proofs.ByteByByte.{starts_byte}
-
-and_true : (a : Bool) → a && true ≡ a
-and_true true = refl
-and_true false = refl
+use Rattle.token_steps.proofs.ByteByByte.{and_true, starts_byte}
 
 positive : {y : ℕ} → (y ≡ 0 → ⊥) → 0 < y
 positive h = omega arith

@@ -2,7 +2,8 @@
 --   is_blank_lem, is_operator     two of the classes as tests
 --   class_of                 the class of a byte
 --   half_of                  the half of an edge that a byte stands for
-use Rattle.std.specs.Prelude.{ℕ, Bool, [], ◌∷◌, eqb, if◌then◌else◌}
+--   half_found, plain_found   the same, of all nine and of `0 1 ?`, where the byte stands for one
+use Rattle.std.specs.Prelude.{ℕ, Bool, Option, None, Some, [], ◌∷◌, eqb, ltb, if◌then◌else◌}
 use Rattle.alf.specs.Names.{starts_name, is_decimal}
 use Rattle.alf.specs.States.{among}
 use Rattle.token_steps.specs.declared.Class.{Class}
@@ -39,3 +40,11 @@ half_of b =
     else if among b (90 ∷ 122 ∷ []) then 7
     else if among b (85 ∷ 117 ∷ []) then 8
     else 9
+
+-- that half, where the byte stands for one
+unfoldable pub half_found : ℕ → Option ℕ
+half_found b = if ltb (half_of b) 9 then Some (half_of b) else None
+
+-- that half, where the byte is one of `0 1 ?`
+unfoldable pub plain_found : ℕ → Option ℕ
+plain_found b = if ltb (half_of b) 3 then Some (half_of b) else None

@@ -2,7 +2,7 @@
 --   Near, Begun     a byte near a place of the text; a place, and a byte that a spelling can begin with
 --   HalfAt          a half at a byte
 --   word_of, rows    a spelling as up to three bytes with zeros behind them; the table of spellings in rows of four
-use Rattle.std.specs.Prelude.{ℕ, ◌≤◌, ◌<◌, ◌≡◌, List, [], ◌∷◌, eqb, length, get_or, if◌then◌else◌}
+use Rattle.std.specs.Prelude.{ℕ, Option, IfSome, ◌≤◌, ◌<◌, ◌≡◌, List, [], ◌∷◌, eqb, length, get_or, if◌then◌else◌}
 use Rattle.token_steps.specs.Spelling.{Spelling}
 use Rattle.token_steps.specs.Steps.{half_at}
 
@@ -16,9 +16,9 @@ pub record Begun (text : List ℕ) (at x : ℕ) : Type 0 where
   pub inside : at ≤ length text
   pub byte : 0 < x
 
-pub record HalfAt (bs : List ℕ) (k r : ℕ) : Type 0 where
+pub record HalfAt (bs : List ℕ) (k : ℕ) (r : Option ℕ) : Type 0 where
   pub is : r ≡ half_at bs k
-  pub small : r ≤ 9
+  pub small : IfSome r (λ h. h < 9)
 
 -- up to three bytes, with zeros behind them
 unfoldable pub word_of : ℕ → ℕ → ℕ → List ℕ

@@ -1,7 +1,7 @@
 // Each byte is put in its class by ranges; bytes 128 to 255 belong to no class.
 ghost use Rattle.std.specs.Prelude.{◌≡◌};
 ghost use Rattle.alf.specs.Names.{goes_on_name};
-ghost use Rattle.token_steps.specs.Classes.{is_blank_lem, class_of, half_of};
+ghost use Rattle.token_steps.specs.Classes.{is_blank_lem, class_of, half_found, plain_found};
 
 use crate::Class;
 
@@ -22,45 +22,44 @@ pub fn class_of(b: u8) -> Class
 pub fn is_blank(b: u8) -> bool
     ensures { result ≡ is_blank_lem b }
 {
-    match class_of(b) {
-        Class::Letter => false,
-        Class::Quote => false,
-        Class::Digit => false,
-        Class::Blank => true,
-        Class::Operator => false,
-        Class::Other => false,
-    }
+    matches!(class_of(b), Class::Blank)
 }
 
 // A letter, a digit or `_`.
 pub fn is_name_byte(b: u8) -> bool
     ensures { result ≡ goes_on_name b }
 {
-    match class_of(b) {
-        Class::Letter => true,
-        Class::Quote => false,
-        Class::Digit => true,
-        Class::Blank => false,
-        Class::Operator => false,
-        Class::Other => false,
+    matches!(class_of(b), Class::Letter | Class::Digit)
+}
+
+// Which of `? 0 1 X H L W Z U`, in either case, counted from 0; `None` where it is no half.
+#[tactic(auto, unfolding(crate::specs::Classes::half_found, crate::specs::Classes::half_of, alf::specs::States::among))]
+pub fn half_of(b: u8) -> Option<u8>
+    ensures { result ≡ half_found b }
+{
+    match b {
+        b'?' => Some(0),
+        b'0' => Some(1),
+        b'1' => Some(2),
+        b'X' | b'x' => Some(3),
+        b'H' | b'h' => Some(4),
+        b'L' | b'l' => Some(5),
+        b'W' | b'w' => Some(6),
+        b'Z' | b'z' => Some(7),
+        b'U' | b'u' => Some(8),
+        _ => None,
     }
 }
 
-// Which of `? 0 1 X H L W Z U`, in either case, counted from 0; 9 where it is none of them.
-#[tactic(auto, unfolding(crate::specs::Classes::half_of, alf::specs::States::among))]
-pub fn half_of(b: u8) -> u8
-    ensures { result ≡ half_of b }
+// Which of `? 0 1`, two of which make an edge as they stand; `None` where it is none of them.
+#[tactic(auto, unfolding(crate::specs::Classes::plain_found, crate::specs::Classes::half_of, alf::specs::States::among))]
+pub fn plain_half(b: u8) -> Option<u8>
+    ensures { result ≡ plain_found b }
 {
     match b {
-        b'?' => 0,
-        b'0' => 1,
-        b'1' => 2,
-        b'X' | b'x' => 3,
-        b'H' | b'h' => 4,
-        b'L' | b'l' => 5,
-        b'W' | b'w' => 6,
-        b'Z' | b'z' => 7,
-        b'U' | b'u' => 8,
-        _ => 9,
+        b'?' => Some(0),
+        b'0' => Some(1),
+        b'1' => Some(2),
+        _ => None,
     }
 }

@@ -16,7 +16,7 @@ pub enum Class {
     Other,
 }
 
-// One token: its code and how many bytes it has. Where there is none: 255, and how far on the byte refused is.
+// One token: its code and how many bytes it has.
 #[derive(Clone, Copy)]
 pub struct Step {
     pub code: u8,

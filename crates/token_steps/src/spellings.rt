@@ -5,7 +5,7 @@ ghost use Rattle.token_steps.specs.Steps.{starts, first_of};
 ghost use Rattle.token_steps.specs.Inner.{Begun, word_of, rows};
 
 use crate::Step;
-use crate::steps::{NONE, peek};
+use crate::steps::peek;
 
 // What is spelled one way only: up to three bytes with zeros behind them, and the code. Longer ones come first.
 const SPELLINGS: [[u8; 4]; 26] = [
@@ -79,27 +79,22 @@ fn size_of(x: u8, y: u8, z: u8) -> usize
     3
 }
 
-// The first of the spellings that stands at `at`.
-pub fn find(text: &[u8], at: usize) -> Step
+// The first of the spellings that stands at `at`; where none does, the byte refused is the one there.
+pub fn find(text: &[u8], at: usize) -> Result<Step, usize>
     requires { at ≤ length text.now }
     ensures { result ≡ first_of spellings (drop at text.now) }
 {
-    let mut i: usize = 0;
-    while i < 26 {
+    for i in 0..26 {
         let row = row_of(i);
         let x = row[0];
         let y = row[1];
         let z = row[2];
         if stands(text, at, x, y, z) {
-            return Step {
+            return Ok(Step {
                 code: row[3],
                 size: size_of(x, y, z),
-            };
+            });
         }
-        i += 1;
     }
-    Step {
-        code: NONE,
-        size: 0,
-    }
+    Err(0)
 }

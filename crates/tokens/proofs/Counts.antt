@@ -1,18 +1,20 @@
 -- Laws of the limits: what a token changes, and the first that goes over.
 --   opens, closes_none, closes, leaves, uncounted, counts   `after`
 --   over_hit, over_more, over_end                           one turn of `first_over`, and its end
+--   found_here, found_none, here_found, none_found          what it finds, as an index or none
 use mathlib.Core.Path.{◌≡◌, refl, ap}
 use mathlib.Core.Bool.{Bool, true, false}
 use mathlib.Core.List.{List, [], ◌∷◌}
 use Prim.Native.Nat.{ℕ, suc, ◌+◌, ◌-◌, ◌≤◌, ◌<◌}
 use native.Mathlib.Omega.{arith}
 use native.Mathlib.Numerals.{add-one}
-use lib.Dec.{eqb}
+use lib.Dec.{eqb, ltb}
+use Rattle.std.specs.Prelude.{Some, None, if◌then◌else◌}
 use lib.ListN.{length, take, drop, get_or, drop_of_length-le, length-take}
 use lib.Seq.{drop-cons, get_or-take}
-use borrow.Author.Tests.{eq-eqb, ne_eqb, eqb-false, lt-ltb, le-ltb}
+use borrow.Author.Tests.{eq-eqb, ne_eqb, eqb-false, lt-ltb, le-ltb, ltb-true, ltb-false}
 use Rattle.tokens.specs.Texts.{opened, counted}
-use Rattle.tokens.specs.Inner.{changed, over_at}
+use Rattle.tokens.specs.Inner.{changed, over_at, over_found}
 
 module _ {b : Bool} (c n : ℕ) (h : b ≡ true) where
   pub opens : c ≡ 62 → n + 1 ≡ changed b c n
@@ -68,7 +70,7 @@ module _ (f : ℕ → ℕ → ℕ) (limit : ℕ) (xs : List ℕ) (count : ℕ) (
   abbrev rest : ℕ → List ℕ
   rest i = drop i (take count xs)
 
-  size : length (take count xs) ≡ count
+  pub size : length (take count xs) ≡ count
   size = rw length-take (omega arith)
 
   rest_cons : (i : ℕ) → i < count → rest i ≡ get_or xs i 0 ∷ rest (suc i)
@@ -97,3 +99,29 @@ module _ (f : ℕ → ℕ → ℕ) (limit : ℕ) (xs : List ℕ) (count : ℕ) (
     over_end h k =
         let y = ap (over_at f limit n) (drop_of_length-le (take count xs) {i = i} (omega (arith, size))) in
         let z = over_nil f limit n in omega arith
+
+-- what is found, as an index of the codes or none of them
+module _ (f : ℕ → ℕ → ℕ) (limit : ℕ) (cs : List ℕ) where
+  pub found_here : {i : ℕ} → i ≡ over_at f limit 0 cs → i < length cs → Some i ≡ over_found f limit cs
+  found_here {i} e h = rw (← e) (rw (lt-ltb i (length cs) h))
+
+  pub found_none : length cs ≤ over_at f limit 0 cs → None ≡ over_found f limit cs
+  found_none h = rw (le-ltb (over_at f limit 0 cs) (length cs) h)
+
+  pub here_found : {i : ℕ} → Some i ≡ over_found f limit cs → (i ≡ over_at f limit 0 cs) × (i < length cs)
+  here_found {i} e = go (ltb (over_at f limit 0 cs) (length cs)) refl e
+    where
+      go : (q : Bool) → ltb (over_at f limit 0 cs) (length cs) ≡ q
+          → Some i ≡ (if q then Some (over_at f limit 0 cs) else None)
+          → (i ≡ over_at f limit 0 cs) × (i < length cs)
+      go true h e = let k : i ≡ over_at f limit 0 cs = cc in (k, rw k (ltb-true _ _ h))
+      go false h e = absurd cc
+
+  pub none_found : None ≡ over_found f limit cs → length cs ≤ over_at f limit 0 cs
+  none_found e = go (ltb (over_at f limit 0 cs) (length cs)) refl e
+    where
+      go : (q : Bool) → ltb (over_at f limit 0 cs) (length cs) ≡ q
+          → None ≡ (if q then Some (over_at f limit 0 cs) else None)
+          → length cs ≤ over_at f limit 0 cs
+      go true h e = absurd cc
+      go false h e = ltb-false _ _ h

@@ -3,6 +3,8 @@
 --   Whole, whole_of   the text's tokens, as they were written
 --   counting          they can be counted
 --   deep_reading, many_reading, whole_reading   refused with 3, with 4, or read
+use Rattle.std.specs.Prelude.{Ok, Err, Option, Some, None}
+use Rattle.basics.specs.declared.Refusal.{Refusal}
 use mathlib.Core.Path.{◌≡◌, refl, ap, ◌∙◌}
 use mathlib.Core.Bool.{Bool, true, false}
 use mathlib.Core.List.{List}
@@ -13,23 +15,16 @@ use Rattle.basics.specs.Refusing.{refusal}
 use Rattle.tokens.specs.declared.Tokens.{Tokens}
 use Rattle.tokens.specs.Texts.{Token, Reads}
 use Rattle.tokens.specs.Texts.Reads.{done, blank, token}
-use Rattle.tokens.specs.Tokenizing.{filled, codes_of, places_of, made, refused_by, Tokenized}
-use Rattle.tokens.specs.Inner.{Scan, Counting, changed, over_at}
+use Rattle.tokens.specs.Tokenizing.{filled, codes_of, places_of, made, Tokenized}
+use Rattle.tokens.specs.Inner.{Scan, Counting, changed, over_at, over_found}
 use Rattle.tokens.specs.Inner.Scan.{stopped, whole}
-use Rattle.token_steps.proofs.Bytes.{contrary}
+use Rattle.tokens.proofs.Counts.{here_found, none_found}
 use Rattle.token_steps.proofs.TokenStarts.{token_size}
 use Rattle.tokens.proofs.Filling.{filled_front, filled_at, filled_holds, column_length}
 use Rattle.tokens.proofs.ReadingLaws.{read_stuck, read_deep, read_many, read_whole}
 
-pub stopped_reading :
-    {text : List ℕ} {t : Tokens} →
-    length text ≤ 4096 →
-    Scan text t →
-    t.refused ≡ true →
-    Tokenized text t
-unfolding made
-stopped_reading {text} l (stopped q s) h = read_stuck text l s
-stopped_reading l (whole ts r) h = absurd (contrary h refl)
+pub stopped_reading : {text : List ℕ} {r : Refusal} → length text ≤ 4096 → Scan text (Err r) → Tokenized text (Err r)
+stopped_reading {text} l (stopped q s) = read_stuck text l s
 
 pub record Whole (text : List ℕ) (t : Tokens) : Type 0 where
   pub tokens : List Token
@@ -39,10 +34,9 @@ pub record Whole (text : List ℕ) (t : Tokens) : Type 0 where
   pub places_are : t.places ≡ filled (places_of tokens)
   pub is : t ≡ made tokens
 
-pub whole_of : {text : List ℕ} {t : Tokens} → Scan text t → t.refused ≡ false → Whole text t
-unfolding made refused_by
-whole_of (stopped q s) h = absurd (contrary refl h)
-whole_of (whole ts r) h =
+pub whole_of : {text : List ℕ} {t : Tokens} → Scan text (Ok t) → Whole text t
+unfolding made
+whole_of (whole ts r) =
     record { tokens = ts; read = r; count_is = refl; codes_are = refl; places_are = refl; is = refl }
 
 -- no more tokens than bytes
@@ -76,40 +70,50 @@ module _ {text : List ℕ} {t : Tokens} (l : length text ≤ 4096) (w : Whole te
       let n = column_length (λ t. t.place) w.tokens in
       rw w.places_are (filled_at (places_of w.tokens) i (omega (arith, w.count_is)))
 
-  abbrev over : Bool → ℕ → ℕ
-  over b limit = over_at (changed b) limit 0 (take t.count t.codes)
+  abbrev over : Bool → ℕ → Option ℕ
+  over b limit = over_found (changed b) limit (take t.count t.codes)
 
-  module _ {i : ℕ} (b : Bool) (limit : ℕ) (e : i ≡ over b limit) where
-    pub found_inside : i < t.count → i < 4096
-    found_inside h = let k = bound in omega arith
+  many : length (take t.count t.codes) ≡ t.count
+  many = rw front (omega (arith, w.count_is, column_length (λ t. t.code) w.tokens))
 
-    index : i ≡ over_at (changed b) limit 0 (codes_of w.tokens)
-    index = e ∙ ap (over_at (changed b) limit 0) front
+  abbrev first : Bool → ℕ → ℕ
+  first b limit = over_at (changed b) limit 0 (codes_of w.tokens)
+
+  module _ {i : ℕ} (b : Bool) (limit : ℕ) (e : Some i ≡ over b limit) where
+    within : i < t.count
+    within = let k = here_found (changed b) limit (take t.count t.codes) e in omega (arith, k.1, many)
+
+    index : i ≡ first b limit
+    index =
+        let k = here_found (changed b) limit (take t.count t.codes) e in
+        k.0 ∙ ap (over_at (changed b) limit 0) front
 
   pub deep_reading :
-      {i : ℕ} {r : Tokens} →
-      i ≡ over true 32 →
-      i < t.count →
-      r ≡ refused_by (refusal 3 (get_or t.places i 0)) →
-      Tokenized text r
-  deep_reading {i} e h f =
+      {i : ℕ} {r : Refusal} →
+      Some i ≡ over true 32 →
+      r ≡ refusal 3 (get_or t.places i 0) →
+      Tokenized text (Err r)
+  deep_reading {i} e f =
+      let h = within true 32 e in
       rw (f, place_at i h, index true 32 e)
       (read_deep text l w.read (rw (← index true 32 e) (omega (arith, w.count_is))))
 
-  module _ {d : ℕ} (eq : d ≡ over true 32) (no : t.count ≤ d) where
-    shallow : length w.tokens ≤ over_at (changed true) 32 0 (codes_of w.tokens)
-    shallow = rw (← index true 32 eq) (omega (arith, w.count_is))
+  -- no token goes over
+  never : (b : Bool) (limit : ℕ) → None ≡ over b limit → length w.tokens ≤ first b limit
+  never b limit e =
+      let k = none_found (changed b) limit (take t.count t.codes) e in
+      let j = ap (over_at (changed b) limit 0) front in omega (arith, many, w.count_is)
 
+  module _ (no : None ≡ over true 32) where
     pub many_reading :
-        {i : ℕ} {r : Tokens} →
-        i ≡ over false 256 →
-        i < t.count →
-        r ≡ refused_by (refusal 4 (get_or t.places i 0)) →
-        Tokenized text r
-    many_reading {i} e h f =
+        {i : ℕ} {r : Refusal} →
+        Some i ≡ over false 256 →
+        r ≡ refusal 4 (get_or t.places i 0) →
+        Tokenized text (Err r)
+    many_reading {i} e f =
+        let h = within false 256 e in
         rw (f, place_at i h, index false 256 e)
-        (read_many text l w.read shallow (rw (← index false 256 e) (omega (arith, w.count_is))))
+        (read_many text l w.read (never true 32 no) (rw (← index false 256 e) (omega (arith, w.count_is))))
 
-    pub whole_reading : {i : ℕ} → i ≡ over false 256 → t.count ≤ i → Tokenized text t
-    whole_reading {i} e h =
-        rw w.is (read_whole text l w.read shallow (rw (← index false 256 e) (omega (arith, w.count_is))))
+    pub whole_reading : None ≡ over false 256 → Tokenized text (Ok t)
+    whole_reading e = rw w.is (read_whole text l w.read (never true 32 no) (never false 256 e))

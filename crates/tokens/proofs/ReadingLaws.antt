@@ -3,6 +3,7 @@
 --   of_tokens_fixes, order_fixes   each row of the order fixes its place
 --   reading_unique   two readings of a text are the same
 --   reading_total    every text has one
+use Rattle.std.specs.Prelude.{Result, Ok, Err}
 use mathlib.Core.Path.{◌≡◌, refl, ap}
 use mathlib.Core.Bool.{Bool, true, false}
 use mathlib.Core.Logic.{inl, inr}
@@ -16,9 +17,10 @@ use Rattle.alf.specs.Refusals.{Row, First, Never, check, RefusedWith, Passed, to
 use Rattle.alf.proofs.Outcomes.{Fixed, AllFixed, at_fixed, first_fixed, refused_passed}
 use Rattle.alf.proofs.Orders.{sole_fixed}
 use Rattle.basics.specs.Refusing.{refusal}
+use Rattle.basics.specs.declared.Refusal.{Refusal}
 use Rattle.tokens.specs.declared.Tokens.{Tokens}
 use Rattle.tokens.specs.Texts.{Token, Reads, Stuck, running, opened, counted, OfTokens, deep, many, order}
-use Rattle.tokens.specs.Tokenizing.{codes_of, places_of, made, refused_by, Tokenized}
+use Rattle.tokens.specs.Tokenizing.{codes_of, places_of, made, Tokenized}
 use Rattle.tokens.specs.Tokenizing.Tokenized.{refused, read}
 use Rattle.tokens.specs.Extents.{Shown, to_blank_rule, other}
 use Rattle.tokens.specs.Inner.{over_at, stopped_at}
@@ -51,19 +53,19 @@ order_fixes text = (
   ),
 )
 
-pub reading_unique : {text : List ℕ} {r s : Tokens} → Tokenized text r → Tokenized text s → r ≡ s
+pub reading_unique : {text : List ℕ} {r s : Result Tokens Refusal} → Tokenized text r → Tokenized text s → r ≡ s
 reading_unique {text} (refused r a) (refused s b) =
-    ap refused_by (refused_in_unique text (order text) (sole_fixed (order text) (order_fixes text)) a b)
+    ap Err (refused_in_unique text (order text) (sole_fixed (order text) (order_fixes text)) a b)
 reading_unique {text} (refused r a) (read b c) = absurd (refused_passed (order text) _ _ b a.by)
 reading_unique {text} (read a b) (refused r c) = absurd (refused_passed (order text) _ _ a c.by)
-reading_unique (read a b) (read c d) = ap made (reads_unique b d)
+reading_unique (read a b) (read c d) = ap (λ ts. Ok (made ts)) (reads_unique b d)
 
 -- 1, 3 and 4 show no bytes
 limits : (text : List ℕ) (n p : ℕ) → among n Shown ≡ false → RefusedWith (order text) n p
-    → Tokenized text (refused_by (refusal n p))
+    → Tokenized text (Err (refusal n p))
 limits text n p e h = refused _ (record { by = h; shows = other e refl })
 
-pub read_long : (text : List ℕ) → 4096 < length text → Tokenized text (refused_by (refusal 1 4096))
+pub read_long : (text : List ℕ) → 4096 < length text → Tokenized text (Err (refusal 1 4096))
 unfolding RefusedWith order among
 read_long text h = limits text 1 4096 refl (inl (refl, record { given = h; there = refl }))
 
@@ -71,7 +73,7 @@ module _ (text : List ℕ) (l : length text ≤ 4096) where
   short : Never (check 1 (too_long (length text)))
   short p a = let h = a.given in omega arith
 
-  pub read_stuck : {q : ℕ} → Stuck 0 text q → Tokenized text (refused_by (stopped_at text q))
+  pub read_stuck : {q : ℕ} → Stuck 0 text q → Tokenized text (Err (stopped_at text q))
   unfolding RefusedWith order
   read_stuck {q} s =
       refused _
@@ -97,7 +99,7 @@ module _ (text : List ℕ) (l : length text ≤ 4096) where
 
     pub read_deep :
         over_at opened 32 0 (codes_of ts) < length ts →
-        Tokenized text (refused_by (refusal 3 (get_or (places_of ts) (over_at opened 32 0 (codes_of ts)) 0)))
+        Tokenized text (Err (refusal 3 (get_or (places_of ts) (over_at opened 32 0 (codes_of ts)) 0)))
     unfolding RefusedWith order among
     read_deep h =
         limits text 3 _ refl
@@ -116,7 +118,7 @@ module _ (text : List ℕ) (l : length text ≤ 4096) where
     module _ (d : length ts ≤ over_at opened 32 0 (codes_of ts)) where
       pub read_many :
           over_at counted 256 0 (codes_of ts) < length ts →
-          Tokenized text (refused_by (refusal 4 (get_or (places_of ts) (over_at counted 256 0 (codes_of ts)) 0)))
+          Tokenized text (Err (refusal 4 (get_or (places_of ts) (over_at counted 256 0 (codes_of ts)) 0)))
       unfolding RefusedWith order among
       read_many h =
           limits text 4 _ refl
@@ -135,23 +137,23 @@ module _ (text : List ℕ) (l : length text ≤ 4096) where
             ),
           ))
 
-      pub read_whole : length ts ≤ over_at counted 256 0 (codes_of ts) → Tokenized text (made ts)
+      pub read_whole : length ts ≤ over_at counted 256 0 (codes_of ts) → Tokenized text (Ok (made ts))
       unfolding Passed order
       read_whole h = read (short, (unstuck, (under opened 32 d, (under counted 256 h, tt)))) r
 
 -- every text is read or refused
-pub reading_total : (text : List ℕ) → (r : Tokens) × Tokenized text r
+pub reading_total : (text : List ℕ) → (r : Result Tokens Refusal) × Tokenized text r
 reading_total text = go (ltb 4096 (length text)) refl (reads_or_stuck text)
   where
     tokens : length text ≤ 4096 → (ts : List Token) → Reads 0 text ts → (x y : Bool) →
         ltb (over_at opened 32 0 (codes_of ts)) (length ts) ≡ x →
         ltb (over_at counted 256 0 (codes_of ts)) (length ts) ≡ y →
-        (r : Tokens) × Tokenized text r
+        (r : Result Tokens Refusal) × Tokenized text r
     tokens l ts r true y e f = (_, read_deep text l r (ltb-true _ _ e))
     tokens l ts r false true e f = (_, read_many text l r (ltb-false _ _ e) (ltb-true _ _ f))
     tokens l ts r false false e f = (_, read_whole text l r (ltb-false _ _ e) (ltb-false _ _ f))
 
-    go : (x : Bool) → ltb 4096 (length text) ≡ x → Outcome 0 text → (r : Tokens) × Tokenized text r
+    go : (x : Bool) → ltb 4096 (length text) ≡ x → Outcome 0 text → (r : Result Tokens Refusal) × Tokenized text r
     go true e o = (_, read_long text (ltb-true _ _ e))
     go false e (inl (ts, r)) = tokens (ltb-false _ _ e) ts r _ _ refl refl
     go false e (inr (q, s)) = (_, read_stuck text (ltb-false _ _ e) s)

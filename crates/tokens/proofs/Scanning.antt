@@ -2,7 +2,8 @@
 --   Scanned        the tokens before the place are written, and what the rest comes to, the text comes to
 --   scan_start, scan_blank, scan_token   at the start; past a blank; past a token
 --   stop_inside, scan_stop, scan_end     where no token starts; at the text's end
-use mathlib.Core.Path.{◌≡◌, refl, ◌∙◌}
+use mathlib.Core.Path.{◌≡◌, refl, sym, subst, ◌∙◌}
+use Rattle.std.specs.Prelude.{Ok, Err}
 use mathlib.Core.Bool.{true, false}
 use mathlib.Core.Logic.{◌⊎◌, inl, inr}
 use mathlib.Core.List.{List, [], ◌∷◌, ◌++◌, append_assoc, append-nil}
@@ -17,16 +18,15 @@ use Rattle.token_steps.specs.Classes.{is_blank_lem}
 use Rattle.token_steps.specs.Taking.{Taken, NoToken}
 use Rattle.token_steps.specs.Taking.Barred.{together, overlong, loose, lone, bad_half}
 use Rattle.token_steps.specs.Taking.NoToken.{barred, tokenless}
-use Rattle.basics.specs.Refusing.{refusal}
 use Rattle.tokens.specs.Texts.{Token, token_at, Reads, Stuck}
 use Rattle.tokens.specs.Texts.Reads.{done, blank, token}
 use Rattle.tokens.specs.Texts.Stuck.{blank as blank_then, token as token_then, here}
-use Rattle.token_steps.specs.Steps.{none, step_of}
+use Rattle.token_steps.specs.Steps.{Outcome, step_of}
 use Rattle.tokens.specs.Tokenizing.{zeros, filled, codes_of, places_of, made}
 use Rattle.tokens.specs.Inner.{Scan}
 use Rattle.tokens.specs.Inner.Scan.{whole}
 use Rattle.token_steps.proofs.TokenStarts.{token_size}
-use Rattle.token_steps.proofs.Right.{Right}
+use Rattle.token_steps.proofs.Right.{Right, Right_token}
 use Rattle.token_steps.proofs.Taking.{right}
 use Rattle.basics.proofs.Bools.{below?}
 use Rattle.tokens.proofs.Filling.{filled_none, filled_more}
@@ -119,75 +119,71 @@ module _ (text : List ℕ) (p : ℕ) (h : p < length text) where
           stuck = λ q s. z.stuck q (rw rest (blank_then b s));
         })
 
-    module _ {r : Step} (e : r ≡ step_of (drop p text)) where
-      step_right : Right (drop p text) r
-      step_right = rw (e, rest) (right first (drop (suc p) text))
+    step_right : {o : Outcome} → o ≡ step_of (drop p text) → Right (drop p text) o
+    step_right e = subst (Right (drop p text)) (sym e) (rw rest (right first (drop (suc p) text)))
 
-      pub stop_fits : r.code ≡ none → r.size ≤ 3
-      stop_fits c = stop_small (step_right.stops c)
+    module _ {k : ℕ} (e : Err k ≡ step_of (drop p text)) where
+      none : NoToken (drop p text) k
+      none = step_right e
 
-      pub stop_inside : r.code ≡ none → p + r.size ≤ length text
-      stop_inside c =
-          let k = none_inside (drop p text) (step_right.stops c) in omega (arith, length-drop p text)
+      pub stop_fits : k ≤ 3
+      stop_fits = stop_small none
 
-      pub scan_stop : is_blank_lem first ≡ false → r.code ≡ none → Stuck 0 text (p + r.size)
-      scan_stop b c = z.stuck _ (rw rest (here b (rw rest at (step_right.stops c))))
+      pub stop_inside : p + k ≤ length text
+      stop_inside = let i = none_inside (drop p text) none in omega (arith, length-drop p text)
 
-      module _ (c : r.code ≡ none → ⊥) where
-        taken : Taken (drop p text) (take r.size (drop p text)) r.code (drop r.size (drop p text))
-        taken = step_right.takes c
+      pub scan_stop : is_blank_lem first ≡ false → Stuck 0 text (p + k)
+      scan_stop b = z.stuck _ (rw rest (here b (rw rest at none)))
 
-        pub token_fits : (0 < r.size) × (p + r.size ≤ length text)
-        token_fits =
-            let k = step_right.fits c in
-            let j = token_size taken.token in
-            (omega arith, omega (arith, length-take r.size (drop p text), length-drop p text))
+    module _ {r : Step} (e : Ok r ≡ step_of (drop p text)) where
+      found : Right_token (drop p text) r
+      found = step_right e
 
-        pub scan_token :
-            is_blank_lem first ≡ false →
-            length text ≤ 4096 →
-            Scanned text (p + r.size) (count + 1) (set codes count r.code) (set places count p)
-        scan_token b l =
-            record {
-              before = z.before ++ (token_at r.code p ∷ []);
-              inside = token_fits.1;
-              room = let k = token_fits.0 in omega arith;
-              count_is = rw length-append (omega arith);
-              codes_are =
-                  filled_more (λ t. t.code) z.before (token_at r.code p) z.count_is (omega arith)
-                  z.codes_are;
-              places_are =
-                  filled_more (λ t. t.place) z.before (token_at r.code p) z.count_is (omega arith)
-                  z.places_are;
-              reads =
-                  λ ts s. rw append_assoc
-                  (z.reads (token_at r.code p ∷ ts) (reads_token rest b taken (onward s)));
-              stuck = λ q s. z.stuck q (stuck_token rest b taken (onward_stuck s));
-            }
-          where
-            onward :
-                {ts : List Token} →
-                Reads (p + r.size) (drop (p + r.size) text) ts →
-                Reads (p + length (take r.size (drop p text))) (drop r.size (drop p text)) ts
-            onward s = rw (step_right.fits c, drop-drop r.size p text) s
+      pub token_fits : (0 < r.size) × (p + r.size ≤ length text)
+      token_fits =
+          let k = found.fits in
+          let j = token_size found.takes.token in
+          (omega arith, omega (arith, length-take r.size (drop p text), length-drop p text))
 
-            onward_stuck :
-                {q : ℕ} →
-                Stuck (p + r.size) (drop (p + r.size) text) q →
-                Stuck (p + length (take r.size (drop p text))) (drop r.size (drop p text)) q
-            onward_stuck s = rw (step_right.fits c, drop-drop r.size p text) s
+      pub scan_token :
+          is_blank_lem first ≡ false →
+          length text ≤ 4096 →
+          Scanned text (p + r.size) (count + 1) (set codes count r.code) (set places count p)
+      scan_token b l =
+          record {
+            before = z.before ++ (token_at r.code p ∷ []);
+            inside = token_fits.1;
+            room = let k = token_fits.0 in omega arith;
+            count_is = rw length-append (omega arith);
+            codes_are =
+                filled_more (λ t. t.code) z.before (token_at r.code p) z.count_is (omega arith)
+                z.codes_are;
+            places_are =
+                filled_more (λ t. t.place) z.before (token_at r.code p) z.count_is (omega arith)
+                z.places_are;
+            reads =
+                λ ts s. rw append_assoc
+                (z.reads (token_at r.code p ∷ ts) (reads_token rest b found.takes (onward s)));
+            stuck = λ q s. z.stuck q (stuck_token rest b found.takes (onward_stuck s));
+          }
+        where
+          onward :
+              {ts : List Token} →
+              Reads (p + r.size) (drop (p + r.size) text) ts →
+              Reads (p + length (take r.size (drop p text))) (drop r.size (drop p text)) ts
+          onward s = rw (found.fits, drop-drop r.size p text) s
+
+          onward_stuck :
+              {q : ℕ} →
+              Stuck (p + r.size) (drop (p + r.size) text) q →
+              Stuck (p + length (take r.size (drop p text))) (drop r.size (drop p text)) q
+          onward_stuck s = rw (found.fits, drop-drop r.size p text) s
 
 pub scan_end :
     (text : List ℕ) {p count : ℕ} {codes places : List ℕ} →
     length text ≤ p →
     Scanned text p count codes places →
-    Scan text (record {
-      refused = false;
-      refusal = refusal 0 0;
-      count = count;
-      codes = codes;
-      places = places;
-    })
+    Scan text (Ok (record { count = count; codes = codes; places = places }))
 unfolding made
 scan_end text {p} h z =
     rw (z.count_is, z.codes_are, z.places_are)

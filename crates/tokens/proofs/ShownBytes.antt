@@ -1,5 +1,5 @@
 -- Laws of the bytes that a refusal of a text shows.
---   blank_end, blank_more, blank_stop   the bytes up to a blank, one byte at a time
+--   blank_first            the bytes up to a blank end at the first one
 --   apart                  a number among some is not among others, where the lists have none in common
 --   extent_unique          a number at a place shows one number of bytes
 --   refused_in_unique      a text is refused in one way
@@ -8,12 +8,10 @@
 use mathlib.Core.Path.{◌≡◌, refl, sym, ap, ◌∙◌}
 use mathlib.Core.Bool.{Bool, true, false, not}
 use mathlib.Core.List.{List, [], ◌∷◌, ◌++◌}
-use Prim.Native.Nat.{ℕ, suc, ◌+◌, ◌≤◌, ◌<◌}
+use Prim.Native.Nat.{ℕ, zero, suc, ◌≤◌, ◌<◌}
 use native.Mathlib.Omega.{arith}
-use native.Mathlib.Numerals.{add-one}
 use lib.Dec.{eqb}
 use lib.ListN.{length, get_or, drop, drop_of_length-le, length-append}
-use lib.Seq.{drop-cons}
 use borrow.Author.Tests.{eqb-true, not-true}
 use Rattle.basics.specs.Words.{all}
 use Rattle.basics.specs.declared.Refusal.{Refusal}
@@ -30,19 +28,20 @@ use Rattle.token_steps.proofs.TokenStarts.{token_size}
 use Rattle.tokens.specs.Extents.{to_blank_lem, OfToken, Shown, Extent, to_blank_rule, token, at_end, other, RefusedIn}
 use Rattle.tokens.proofs.TextLaws.{taken_unique}
 
-module _ (ts : List ℕ) (i : ℕ) where
-  pub blank_end : length ts ≤ i → to_blank_lem (drop i ts) ≡ 0
-  unfolding to_blank_lem
-  blank_end h = rw (drop_of_length-le ts h)
-
-  pub blank_more : i < length ts → is_blank_lem (get_or ts i 0) ≡ false
-      → to_blank_lem (drop i ts) ≡ suc (to_blank_lem (drop (i + 1) ts))
-  unfolding to_blank_lem
-  blank_more h e = rw (add-one, drop-cons ts i 0 h, e)
-
-  pub blank_stop : i < length ts → is_blank_lem (get_or ts i 0) ≡ true → to_blank_lem (drop i ts) ≡ 0
-  unfolding to_blank_lem
-  blank_stop h e = rw (drop-cons ts i 0 h, e)
+-- the first blank ends the bytes
+pub blank_first :
+    (ts : List ℕ) (n : ℕ) →
+    n ≤ length ts →
+    ((i : ℕ) → i < n → is_blank_lem (get_or ts i 0) ≡ false) →
+    (n < length ts → is_blank_lem (get_or ts n 0) ≡ true) →
+    n ≡ to_blank_lem ts
+unfolding to_blank_lem
+blank_first [] zero w b t = refl
+blank_first [] (suc n) w b t = absurd (omega arith)
+blank_first (x ∷ ts) zero w b t = rw (t (omega arith))
+blank_first (x ∷ ts) (suc n) w b t =
+    rw (b 0 (omega arith))
+    (ap suc (blank_first ts n (omega arith) (λ i l. b (suc i) (omega arith)) (λ l. t (omega arith))))
 
 -- lists of numbers with none in common
 abbrev pub common : List ℕ → List ℕ → Bool

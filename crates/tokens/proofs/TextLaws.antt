@@ -13,7 +13,7 @@ use native.Mathlib.Omega.{arith}
 use lib.Dec.{eqb}
 use lib.ListN.{length, take, drop, length-append}
 use lib.Seq.{take-append_seam, drop-append_seam}
-use borrow.Author.Tests.{eq-eqb, ne_eqb, eqb-true, eqb-false}
+use borrow.Author.Tests.{eq-eqb, ne_eqb}
 use Rattle.token_steps.specs.Classes.{is_blank_lem}
 use Rattle.token_steps.specs.Taking.{byte_at, is_half, Barred, Taken, NoToken}
 use Rattle.token_steps.specs.Taking.Barred.{together, overlong, loose, lone, bad_half}
@@ -21,7 +21,10 @@ use Rattle.token_steps.specs.Taking.NoToken.{barred, tokenless}
 use Rattle.tokens.specs.Texts.{Token, Reads, Stuck}
 use Rattle.tokens.specs.Texts.Reads.{done, blank, token}
 use Rattle.tokens.specs.Texts.Stuck.{blank as blank_then, token as token_then, here}
-use Rattle.token_steps.specs.Steps.{none, step_of}
+use Rattle.token_steps.specs.Steps.{step_of}
+use Rattle.token_steps.specs.declared.Step.{Step}
+use Rattle.token_steps.proofs.Right.{Right}
+use Rattle.std.specs.Prelude.{Result, Ok, Err}
 use Rattle.token_steps.proofs.Bytes.{contrary, plain_unquoted, quote_unnamed}
 use Rattle.token_steps.proofs.ByteByByte.{and_false}
 use Rattle.token_steps.proofs.TokenStarts.{token_size}
@@ -140,20 +143,20 @@ by_steps zero p [] h = inl ([], done)
 by_steps zero p (b ∷ bs) h = absurd (omega arith)
 by_steps (suc n) p [] h = inl ([], done)
 by_steps (suc n) p (b ∷ bs) h =
-    go (is_blank_lem b) (eqb (step_of (b ∷ bs)).code none) refl refl (by_steps n (suc p) bs (omega arith))
+    go (is_blank_lem b) refl (step_of (b ∷ bs)) (right b bs) (by_steps n (suc p) bs (omega arith))
     (λ m after k. by_steps n m after k)
   where
     go :
-        (x y : Bool) →
+        (x : Bool) →
         is_blank_lem b ≡ x →
-        eqb (step_of (b ∷ bs)).code none ≡ y →
+        (s : Result Step ℕ) →
+        Right (b ∷ bs) s →
         Outcome (suc p) bs →
         ((m : ℕ) (after : List ℕ) → length after ≤ n → Outcome m after) →
         Outcome p (b ∷ bs)
-    go true y e f o ih = after_blank e o
-    go false true e f o ih = inr (_, here e ((right b bs).stops (eqb-true _ none f)))
-    go false false e f o ih =
-        let t = (right b bs).takes (eqb-false _ none f) in after_token e t (ih _ _ (taken_less t h))
+    go true e s r o ih = after_blank e o
+    go false e (Err k) r o ih = inr (_, here e r)
+    go false e (Ok s) r o ih = after_token e r.takes (ih _ _ (taken_less r.takes h))
 
 pub reads_or_stuck : (text : List ℕ) → Outcome 0 text
 reads_or_stuck text = by_steps (length text) 0 text (omega arith)

@@ -2,11 +2,9 @@
 --   zeros, filled           4,096 zeros; a list with zeros behind it
 --   codes_of, places_of       the codes and the places of tokens
 --   made                    the tokens, handed over
---   refused_by               a refusal, and no tokens
 --   Tokenized               what a text comes to
-use Rattle.std.specs.Prelude.{ℕ, true, false, List, map, length, replicate}
+use Rattle.std.specs.Prelude.{Result, Ok, Err, ℕ, List, map, length, replicate}
 use Rattle.basics.specs.Memory.{front}
-use Rattle.basics.specs.Refusing.{refusal}
 use Rattle.basics.specs.declared.Refusal.{Refusal}
 use Rattle.alf.specs.Refusals.{Passed}
 use Rattle.tokens.specs.declared.Tokens.{Tokens}
@@ -28,20 +26,9 @@ places_of ts = map (λ (t : Token). t.place) ts
 
 -- the tokens ts, handed over
 unfoldable pub made : List Token → Tokens
-made ts =
-    record {
-      refused = false;
-      refusal = refusal 0 0;
-      count = length ts;
-      codes = filled (codes_of ts);
-      places = filled (places_of ts);
-    }
-
--- refused: no tokens
-unfoldable pub refused_by : Refusal → Tokens
-refused_by r = record { refused = true; refusal = r; count = 0; codes = zeros; places = zeros }
+made ts = record { count = length ts; codes = filled (codes_of ts); places = filled (places_of ts) }
 
 -- 1 to 4 in their order, exactly when the table says; else the tokens of the text
-pub data Tokenized (text : List ℕ) : Tokens → Type 0 where
-  refused : (r : Refusal) → RefusedIn text (order text) r → Tokenized text (refused_by r)
-  read : {ts : List Token} → Passed (order text) → Reads 0 text ts → Tokenized text (made ts)
+pub data Tokenized (text : List ℕ) : Result Tokens Refusal → Type 0 where
+  refused : (r : Refusal) → RefusedIn text (order text) r → Tokenized text (Err r)
+  read : {ts : List Token} → Passed (order text) → Reads 0 text ts → Tokenized text (Ok (made ts))

@@ -9,12 +9,6 @@ pub fn to_blank(text: &[u8], at: usize) -> usize
     requires { at ≤ length text.now }
     ensures { result ≡ to_blank_lem (drop at text.now) }
 {
-    let mut i = at;
-    while i < text.len() {
-        if is_blank(text[i]) {
-            return i - at;
-        }
-        i += 1;
-    }
-    i - at
+    let rest = &text[at..];
+    rest.iter().position(|b| is_blank(*b)).unwrap_or(rest.len())
 }

@@ -1,6 +1,6 @@
 // The limits of a list of tokens: brackets open, and tokens counted.
 ghost use Rattle.std.specs.Prelude.{◌≡◌, ◌≤◌, take};
-ghost use Rattle.tokens.specs.Inner.{Counting, changed, over_at};
+ghost use Rattle.tokens.specs.Inner.{Counting, changed, over_found};
 
 // How many brackets are open behind a token, or how many tokens are counted up to it.
 fn after(brackets: bool, code: u8, n: usize) -> usize
@@ -28,19 +28,17 @@ fn after(brackets: bool, code: u8, n: usize) -> usize
     n + 1
 }
 
-// The first token behind which the number is over the limit; `count` where there is none.
-pub fn first_over(codes: &[u8; 4096], count: usize, brackets: bool, limit: usize) -> usize
+// The first token behind which the number is over the limit.
+pub fn first_over(codes: &[u8; 4096], count: usize, brackets: bool, limit: usize) -> Option<usize>
     requires { Counting codes.now count limit }
-    ensures { result ≡ over_at (changed brackets) limit 0 (take count codes.now) }
+    ensures { result ≡ over_found (changed brackets) limit (take count codes.now) }
 {
     let mut n: usize = 0;
-    let mut i: usize = 0;
-    while i < count {
+    for i in 0..count {
         n = after(brackets, codes[i], n);
         if limit < n {
-            return i;
+            return Some(i);
         }
-        i += 1;
     }
-    count
+    None
 }

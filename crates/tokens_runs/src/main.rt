@@ -8,7 +8,7 @@ use run_printing::printing::{character, number, refusal, small, write};
 use run_printing::texts::length;
 use std::io;
 use std::io::Stdout;
-use text_parts::lines::{behind_line, line_at};
+use text_parts::lines::Lines;
 use text_parts::parts::front;
 
 fn wide16(n: u16) -> usize {
@@ -19,13 +19,11 @@ fn wide16(n: u16) -> usize {
 fn list(to: Stdout, codes: &[u8; 4096], places: &[u16; 4096], count: usize)
     requires { count ≤ 4096 }
 {
-    let mut i: usize = 0;
-    while i < count {
+    for i in 0..count {
         character(to, b' ');
         number(to, small(codes[i]));
         character(to, b'@');
         number(to, wide16(places[i]));
-        i += 1;
     }
 }
 
@@ -37,30 +35,27 @@ fn show(to: Stdout, text: &[u8]) {
         length(to, text);
     }
     write(to, b"\n ");
-    let t = tokens::read_tokens(text);
-    let refused = t.refused;
-    if refused {
-        refusal(to, t.refusal);
-        return character(to, b'\n');
-    }
-    let count = t.count;
-    if count <= 10 {
-        let codes = t.codes;
-        let places = t.places;
-        list(to, &codes, &places, count);
-    } else {
-        write(to, b" tokens ");
-        number(to, count);
+    match tokens::read_tokens(text) {
+        Err(refused) => refusal(to, refused),
+        Ok(t) => {
+            let count = t.count;
+            if count <= 10 {
+                let codes = t.codes;
+                let places = t.places;
+                list(to, &codes, &places, count);
+            } else {
+                write(to, b" tokens ");
+                number(to, count);
+            }
+        }
     }
     character(to, b'\n');
 }
 
 // Each line of the input.
 fn show_lines(to: Stdout, input: &[u8]) {
-    let mut at: usize = 0;
-    while at < input.len() {
-        show(to, line_at(input, at));
-        at = behind_line(input, at);
+    for line in Lines(input) {
+        show(to, line);
     }
 }
 

@@ -41,34 +41,18 @@ pub fn time_at(file: &[u8], at: usize, w: usize) -> u64
 }
 
 // The mark at a place.
+#[tactic(auto, unfolding(crate::specs::Records::mark_of))]
 pub fn mark_at(file: &[u8], at: usize) -> Mark
     requires { at + 2 ≤ length file.now }
     ensures { result ≡ mark_at_lem file.now at }
 {
-    let a = file[at];
-    let b = file[at + 1];
-    if a == b'N' {
-        if b == b'M' {
-            return Mark::Name;
-        }
-        return Mark::Other;
+    match (file[at], file[at + 1]) {
+        (b'N', b'M') => Mark::Name,
+        (b'R', b'W') => Mark::Row(4),
+        (b'R', b'L') => Mark::Row(8),
+        (b'E', b'N') => Mark::End,
+        _ => Mark::Other,
     }
-    if a == b'R' {
-        if b == b'W' {
-            return Mark::Row(4);
-        }
-        if b == b'L' {
-            return Mark::Row(8);
-        }
-        return Mark::Other;
-    }
-    if a == b'E' {
-        if b == b'N' {
-            return Mark::End;
-        }
-        return Mark::Other;
-    }
-    Mark::Other
 }
 
 // How many bytes the time of a row has, from its mark.
@@ -83,23 +67,19 @@ pub fn width_at(file: &[u8], at: usize) -> usize
 }
 
 // How many bytes a time is written with: four where it fits, else eight.
+#[tactic(auto, unfolding(crate::specs::Format::fewest))]
 pub fn width_of(time: u64) -> usize
     ensures { FewestIs time result }
 {
-    if time < 4294967296 {
-        return 4;
-    }
-    8
+    if time < 4294967296 { 4 } else { 8 }
 }
 
 // The second letter of a row's mark.
+#[tactic(auto, unfolding(crate::specs::Format::row_letter))]
 pub fn letter_of(w: usize) -> u8
     ensures { result ≡ row_letter w }
 {
-    if w == 8 {
-        return b'L';
-    }
-    b'W'
+    if w == 8 { b'L' } else { b'W' }
 }
 
 // The place of the first code above 7 from one place to another, or the latter.

@@ -3,6 +3,7 @@
 --   shorter       the writer's file of the trace is shorter by four bytes for each needless `RL`
 --   write_read    what was read from a file without a needless `RL`, written again, gives the same bytes
 --   write_short   what was read from any file, written again, gives the writer's file of the same trace
+use Rattle.std.specs.Prelude.{Ok, Err}
 use Rattle.std.specs.Prelude.{if◌then◌else◌}
 use mathlib.Core.Path.{◌≡◌, refl, ◌∙◌}
 use mathlib.Core.Bool.{◌&&◌}
@@ -14,7 +15,7 @@ use lib.Dec.{eqb, ltb}
 use lib.ListN.{length, length-append}
 use borrow.Author.Tests.{lt-ltb, le-ltb}
 use Rattle.basics.specs.Memory.{front}
-use Rattle.basics.specs.declared.Outcome.{Outcome}
+use Rattle.basics.specs.Refusing.{Outcome}
 use Rattle.basics.proofs.Bools.{below?}
 use Rattle.alf.specs.Names.{names_in}
 use Rattle.trace_format.specs.Format.{Fits, Fitting, Trace, name_records, row_records, end_record}
@@ -113,7 +114,7 @@ module _ {file n₀ t₀ s₀ n₁ t₁ s₁ : List ℕ} {k n : ℕ} (g : Got fi
       {out out' : List ℕ} (r : Outcome) →
       length again ≤ length out →
       Writes g.ns g.ts g.ss n out out' r →
-      OneWriting r out' (Outcome.Done (length again)) (front again out)
+      OneWriting r out' (Ok (length again)) (front again out)
   write_short r h w = writes_bytes g.trace r h w
 
   pub write_read :
@@ -121,5 +122,5 @@ module _ {file n₀ t₀ s₀ n₁ t₁ s₁ : List ℕ} {k n : ℕ} (g : Got fi
       {out out' : List ℕ} (r : Outcome) →
       length file ≤ length out →
       Writes g.ns g.ts g.ss n out out' r →
-      OneWriting r out' (Outcome.Done (length file)) (front file out)
+      OneWriting r out' (Ok (length file)) (front file out)
   write_read none r h w = rw (again_same none) (write_short r (rw (again_same none) at h) w)

@@ -6,6 +6,8 @@
 --   read_any         reading the bytes of a trace gives the trace
 --   read_write       reading what was written gives the same names, times and states
 -- What writing makes of a file that was read is in Rewritten.antt.
+use Rattle.std.specs.Prelude.{Err, Ok}
+use Rattle.trace_reader.specs.Reading.{size}
 use mathlib.Core.Path.{◌≡◌, refl, sym, ap, ◌∙◌}
 use mathlib.Core.List.{List}
 use mathlib.Core.Logic.{◌⊎◌, inl, inr}
@@ -13,13 +15,12 @@ use Prim.Native.Nat.{ℕ, zero, suc, ◌+◌, ◌-◌, ◌*◌, ◌<◌, ◌≤�
 use native.Mathlib.Omega.{arith}
 use lib.ListN.{length}
 use Rattle.alf.specs.Names.{names_in}
-use Rattle.basics.specs.declared.Outcome.{Outcome}
+use Rattle.basics.specs.Refusing.{Outcome}
 use Rattle.alf.specs.Refusals.{Passed, Comes}
 use Rattle.basics.proofs.Refusals.{refusal_same}
 use Rattle.alf.proofs.Outcomes.{at_fixed, first_fixed, refused_passed, refused_unique, comes_unique}
 use Rattle.alf.proofs.Orders.{passed_both, fixed_both}
-use Rattle.trace_reader.specs.declared.Reading.{Reading}
-use Rattle.trace_reader.specs.declared.Reading.TheVariants.{Read, Refused}
+use Rattle.trace_reader.specs.Reading.{Reading}
 use Rattle.trace_format.specs.Format.{Fitting, fewest_of, file_in, file_of, Trace}
 use Rattle.trace_reader.specs.Reading.{FileRefused, RoomRefused, room_order, Got, Reads}
 use Rattle.trace_writer.specs.Writing.{lent_order, rows_order, lists_order, write_order, Writes, BadState}
@@ -64,21 +65,21 @@ module _ (file names times states : List ℕ) where
       Reads file names times states n₂ t₂ s₂ r' →
       OneReading r n₁ t₁ s₁ r' n₂ t₂ s₂
   unfolding Reads
-  reads_unique (Read k n) (Read k' n') g h =
+  reads_unique (Ok s) (Ok s') g h =
       let e = accepted_unique (exact_accepted (got_trace g)) (exact_accepted (got_trace h)) in
       let o = one_trace (got_trace g) (got_trace h) in
       record {
-        answer = λ i. Read (e.0 i) (e.1 i);
+        answer = λ i. Ok (size (e.0 i) (e.1 i));
         names_now = g.names_now ∙ ap (λ (x : List ℕ). front x names) o.names_same ∙ sym h.names_now;
         times_now = g.times_now ∙ ap (λ (x : List ℕ). front x times) o.times_same ∙ sym h.times_now;
         states_now = g.states_now ∙ ap (λ (x : List ℕ). front x states) o.states_same ∙ sym h.states_now;
       }
-  reads_unique (Read k n) (Refused q) g h = absurd (not_both g h.0)
-  reads_unique (Refused p) (Read k n) g h = absurd (not_both h g.0)
-  reads_unique (Refused p) (Refused q) g h =
+  reads_unique (Ok s) (Err q) g h = absurd (not_both g h.0)
+  reads_unique (Err p) (Ok s) g h = absurd (not_both h g.0)
+  reads_unique (Err p) (Err q) g h =
       let e = one_refusal g.0 h.0 in
       record {
-        answer = ap Refused (refusal_same e (g.1 ∙ sym h.1));
+        answer = ap Err (refusal_same e (g.1 ∙ sym h.1));
         names_now = g.2.names_kept ∙ sym h.2.names_kept;
         times_now = g.2.times_kept ∙ sym h.2.times_kept;
         states_now = g.2.states_kept ∙ sym h.2.states_kept;
@@ -168,10 +169,10 @@ module _ {names times states : List ℕ} {n : ℕ} (t : Trace names times states
       {out out' : List ℕ} (r : Outcome) →
       length (file_of names times states n) ≤ length out →
       Writes names times states n out out' r →
-      OneWriting r out' (Outcome.Done (length (file_of names times states n))) (front (file_of names times states n) out)
+      OneWriting r out' (Ok (length (file_of names times states n))) (front (file_of names times states n) out)
   unfolding Comes after
-  writes_bytes (Outcome.Done m) h w = record { answer = ap Outcome.Done w.outcome.1; memory = w.memory }
-  writes_bytes {out} (Outcome.Refused r) h w =
+  writes_bytes (Ok m) h w = record { answer = ap Ok w.outcome.1; memory = w.memory }
+  writes_bytes {out} (Err r) h w =
       absurd (refused_passed (write_order names times states n (length out)) _ _ (writing_passes h) w.outcome.by)
 
   -- reading the bytes of a trace, whatever the widths of its times, gives its names, times and states
@@ -182,10 +183,10 @@ module _ {names times states : List ℕ} {n : ℕ} (t : Trace names times states
         n ≤ length t₀ →
         n * names_in names ≤ length s₀ →
         Reads (file_in widths names times states n) n₀ t₀ s₀ n₁ t₁ s₁ r →
-        OneReading r n₁ t₁ s₁ (Read (names_in names) n) (front names n₀) (front times t₀) (front states s₀)
+        OneReading r n₁ t₁ s₁ (Ok (size (names_in names) n)) (front names n₀) (front times t₀) (front states s₀)
     unfolding Reads Passed
     read_any n₀ t₀ s₀ r hn ht hs w =
-        reads_unique (file_in widths names times states n) n₀ t₀ s₀ r (Read (names_in names) n) w
+        reads_unique (file_in widths names times states n) n₀ t₀ s₀ r (Ok (size (names_in names) n)) w
         (record {
           ns = names;
           ts = times;
@@ -211,5 +212,5 @@ module _ {names times states : List ℕ} {n : ℕ} (t : Trace names times states
       n ≤ length t₀ →
       n * names_in names ≤ length s₀ →
       Reads (file_of names times states n) n₀ t₀ s₀ n₁ t₁ s₁ r →
-      OneReading r n₁ t₁ s₁ (Read (names_in names) n) (front names n₀) (front times t₀) (front states s₀)
+      OneReading r n₁ t₁ s₁ (Ok (size (names_in names) n)) (front names n₀) (front times t₀) (front states s₀)
   read_write = read_any (fewest_of times) (fewest_fits t)

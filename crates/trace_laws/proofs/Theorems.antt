@@ -10,7 +10,7 @@ use Prim.Native.Nat.{ℕ, ◌<◌}
 use lib.ListN.{get_or}
 use Rattle.alf.specs.Names.{names_in}
 use Rattle.alf.proofs.Outcomes.{AllFixed, at_fixed}
-use Rattle.trace_reader.specs.declared.Reading.{Reading}
+use Rattle.trace_reader.specs.Reading.{Reading}
 use Rattle.trace_format.specs.Format.{Fitting, file_in, Trace}
 use Rattle.trace_format.specs.Records.{width_in}
 use Rattle.trace_reader.specs.Reading.{Accepted, FileRefused, room_order, Got}

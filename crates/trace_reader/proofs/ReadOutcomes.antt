@@ -1,5 +1,7 @@
 -- What reading comes to once a file is accepted: short of room, or the trace in the three lists.
 -- Main names: short_names, short_times, short_states, filled, refused. Assumes that the file is a list of bytes.
+use Rattle.std.specs.Prelude.{Err, Ok}
+use Rattle.trace_reader.specs.Reading.{size}
 use mathlib.Core.Path.{◌≡◌, refl, sym, ◌∙◌}
 use mathlib.Core.List.{List}
 use mathlib.Core.Logic.{inl, inr}
@@ -10,8 +12,7 @@ use Rattle.basics.specs.Memory.{front}
 use Rattle.basics.specs.Refusing.{refusal}
 use Rattle.basics.specs.declared.Refusal.{Refusal}
 use Rattle.alf.specs.Refusals.{RefusedWith, Passed}
-use Rattle.trace_reader.specs.declared.Reading.{Reading}
-use Rattle.trace_reader.specs.declared.Reading.TheVariants.{Read, Refused}
+use Rattle.trace_reader.specs.Reading.{Reading}
 use Rattle.trace_format.specs.Records.{name_end, width_in}
 use Rattle.trace_format.proofs.RowByRow.{codes_bound}
 use Rattle.trace_reader.specs.Reading.{Accepted, Reads}
@@ -28,7 +29,7 @@ use Rattle.trace_reader.proofs.AcceptedTraces.{
 }
 
 abbrev Short : Reading → ℕ → Type 0
-Short r needed = r ≡ Refused (refusal 9 needed)
+Short r needed = r ≡ Err (refusal 9 needed)
 
 pub codes_few : {file : List ℕ} {k n : ℕ} → Accepted file k n → n * k ≤ 2097120
 codes_few a = codes_bound (few_rows a) (few_names a)
@@ -88,7 +89,7 @@ module _ {file : List ℕ} {k n : ℕ} (accepted : Accepted file k n) (names tim
             names' ≡ front (names_of file k) names →
             times' ≡ front (times_of file k n) times →
             states' ≡ front (states_of file k n) states →
-            Reads file names times states names' times' states' (Read k n)
+            Reads file names times states names' times' states' (Ok (size k n))
         unfolding Reads Passed
         filled bytes e f g =
             record {
@@ -109,17 +110,11 @@ module _ {file : List ℕ} {k n : ℕ} (accepted : Accepted file k n) (names tim
               states_now = g;
             }
 
-module _ (file : List ℕ) {o : Reading} (checked : Checked file o) where
-  pub checked_accepted : {k n : ℕ} → o ≡ Read k n → Accepted file k n
-  unfolding Checked
-  checked_accepted e = rw e at checked
-
-  -- a file that is refused
-  pub refused :
-      (names times states : List ℕ) {r : Refusal} →
-      o ≡ Refused r →
-      Reads file names times states names times states (Refused r)
-  unfolding Checked Reads
-  refused names times states e =
-      let c = rw e at checked in
-      (inl c.0, c.1, record { names_kept = refl; times_kept = refl; states_kept = refl })
+-- a file that is refused
+pub refused :
+    (file names times states : List ℕ) (r : Refusal) →
+    Checked file (Err r) →
+    Reads file names times states names times states (Err r)
+unfolding Checked Reads
+refused file names times states r c =
+    (inl c.0, c.1, record { names_kept = refl; times_kept = refl; states_kept = refl })

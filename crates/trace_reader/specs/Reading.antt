@@ -2,15 +2,23 @@
 --   Accepted, FileRefused     what the first pass comes to
 --   room_order, RoomRefused    9, for the first list that is short
 --   Got, Untouched, Reads     the trace in the three lists, or the lists as before
+use Rattle.std.specs.Prelude.{Err, Ok, Result}
+use Rattle.trace_reader.specs.declared.Size.{Size}
+use Rattle.basics.specs.declared.Refusal.{Refusal}
 use Rattle.std.specs.Prelude.{ℕ, ◌*◌, ◌⊎◌, ◌≡◌, List, [], ◌∷◌, length}
 use Rattle.alf.specs.Names.{names_in}
 use Rattle.alf.specs.Refusals.{Order, check, no_room, RefusedWith, Bare, Passed}
 use Rattle.trace_format.specs.declared.Mark.TheVariants.{End}
-use Rattle.trace_reader.specs.declared.Reading.{Reading}
-use Rattle.trace_reader.specs.declared.Reading.TheVariants.{Read, Refused}
 use Rattle.trace_format.specs.Format.{Trace, Fitting, file_in}
 use Rattle.trace_format.specs.Records.{record_order, Good, Before}
 use Rattle.basics.specs.Memory.{front}
+
+-- what reading comes to: how many names and rows, or a refusal
+abbrev pub Reading : Type 0
+Reading = Result Size Refusal
+
+abbrev pub size : ℕ → ℕ → Size
+size k n = record { names = k; rows = n }
 
 -- k names and n rows, and a good `EN` behind them
 pub record Accepted (file : List ℕ) (k n : ℕ) : Type 0 where
@@ -61,8 +69,8 @@ pub record Untouched (names times states names' times' states' : List ℕ) : Typ
 
 unfoldable pub Reads : List ℕ → List ℕ → List ℕ → List ℕ → List ℕ → List ℕ → List ℕ
     → Reading → Type 0
-Reads file names times states names' times' states' (Read k n) =
-    Got file names times states k n names' times' states'
-Reads file names times states names' times' states' (Refused r) =
+Reads file names times states names' times' states' (Ok s) =
+    Got file names times states s.names s.rows names' times' states'
+Reads file names times states names' times' states' (Err r) =
     (FileRefused file r.number r.place ⊎ RoomRefused file names times states r.number r.place) × Bare r
     × Untouched names times states names' times' states'

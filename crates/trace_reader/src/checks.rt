@@ -1,14 +1,14 @@
 // The first pass over a file, whole: nothing is written.
 ghost use Rattle.trace_reader.specs.Checking.{Checked};
 
-use crate::Reading;
-use basics::Outcome;
-use record_checks::Cursor;
-use record_checks::checks::{check_record, pass};
+use crate::Size;
+use basics::Refusal;
+use record_checks::checks::{check_record, pass_name, pass_row};
 use record_checks::rows::pass_rows;
+use record_checks::{Cursor, Record};
 
 // The whole file: how many names and rows it has, or the refusal of the first record that is not good.
-pub fn check_file(file: &[u8]) -> Reading
+pub fn check_file(file: &[u8]) -> Result<Size, Refusal>
     ensures { Checked file.now result }
 {
     let mut s = Cursor {
@@ -19,18 +19,15 @@ pub fn check_file(file: &[u8]) -> Reading
     };
     loop {
         s = pass_rows(file, s);
-        match check_record(file, s) {
-            Outcome::Refused(r) => {
-                return Reading::Refused(r);
+        s = match check_record(file, s)? {
+            Record::Name => pass_name(file, s),
+            Record::Row(w) => pass_row(file, s, w),
+            Record::End => {
+                return Ok(Size {
+                    names: s.names,
+                    rows: s.rows,
+                });
             }
-            Outcome::Done(kind) => {
-                if kind == 3 {
-                    let k = s.names;
-                    let n = s.rows;
-                    return Reading::Read { names: k, rows: n };
-                }
-                s = pass(file, s, kind);
-            }
-        }
+        };
     }
 }

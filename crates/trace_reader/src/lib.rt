@@ -4,11 +4,9 @@
 mod checks;
 pub mod read;
 
-use basics::Refusal;
-
-// What reading comes to: how many names and rows, or a refusal.
+// How many names and rows a trace has.
 #[derive(Clone, Copy)]
-pub enum Reading {
-    Read { names: usize, rows: usize },
-    Refused(Refusal),
+pub struct Size {
+    pub names: usize,
+    pub rows: usize,
 }

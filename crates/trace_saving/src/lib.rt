@@ -2,7 +2,7 @@
 // to end; no contract can say what is written to a disk.
 #![tactic(auto)]
 
-use basics::Outcome;
+use basics::Refusal;
 use complaints::refused;
 use console::output::Console;
 use console::saving::save_front;
@@ -11,10 +11,16 @@ use std::rt::{Env, Files};
 use trace_writer::write::write_trace;
 
 // A file that was made is saved, or it is said why there is none.
-fn save_made<R: Files>(rt: &R, console: &Console, path: &[u8], out: &[u8], o: Outcome) {
+fn save_made<R: Files>(
+    rt: &R,
+    console: &Console,
+    path: &[u8],
+    out: &[u8],
+    o: Result<usize, Refusal>,
+) {
     match o {
-        Outcome::Done(n) => save_front(rt, console, path, out, n),
-        Outcome::Refused(r) => refused(console, b"trace", r),
+        Ok(n) => save_front(rt, console, path, out, n),
+        Err(r) => refused(console, b"trace", r),
     }
 }
 
@@ -31,18 +37,6 @@ fn write_file<R: Files>(
     save_made(rt, console, path, out, o);
 }
 
-fn write_lent<R: Files>(
-    rt: &R,
-    console: &Console,
-    names: &[u8],
-    times: &[u64],
-    states: &[u8],
-    path: &[u8],
-    out: &mut [u8; 2753596],
-) {
-    write_file(rt, console, names, times, states, path, out);
-}
-
 // The trace is written to the file that argument i names. There is room for the longest file.
 pub fn write_to<R: Env + Files>(
     rt: &R,
@@ -53,11 +47,16 @@ pub fn write_to<R: Env + Files>(
     states: &[u8],
 ) {
     let mut path = [0u8; 4096];
-    match path_argument(rt, console, i, b"the name of the trace to write", &mut path) {
-        Some(n) => {
-            let mut out = [0u8; 2753596];
-            write_lent(rt, console, names, times, states, &path[..n], &mut out);
-        }
-        None => {}
+    if let Some(n) = path_argument(rt, console, i, b"the name of the trace to write", &mut path) {
+        let mut out = [0u8; 2753596];
+        write_file(
+            rt,
+            console,
+            names,
+            times,
+            states,
+            &path[..n],
+            out.as_mut_slice(),
+        );
     }
 }

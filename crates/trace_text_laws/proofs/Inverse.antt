@@ -1,11 +1,12 @@
 -- The two calls are inverse: what `activity` wrote of a trace, `make_trace` reads as the same lists.
 -- Main name: shown_made.
+use Rattle.std.specs.Prelude.{Err, Ok}
+use Rattle.trace_reader.specs.Reading.{size}
 use Prim.Native.Nat.{ℕ}
 use native.Mathlib.Omega.{arith}
 use mathlib.Core.Path.{◌≡◌, refl, sym, ap, ◌∙◌}
 use mathlib.Core.List.{List, [], ◌++◌}
 use lib.ListN.{length, get_or, take, drop}
-use Rattle.basics.specs.declared.Outcome.TheVariants.{Done}
 use Rattle.basics.specs.Memory.{after, front}
 use Rattle.basics.proofs.Stores.{front_take}
 use Rattle.alf.specs.Names.{names_in}
@@ -13,8 +14,7 @@ use Rattle.alf.specs.Refusals.{Passed, Comes}
 use Rattle.alf.proofs.Orders.{passed_both}
 use Rattle.alf.proofs.Outcomes.{refused_passed}
 use Rattle.trace_format.specs.Format.{Trace}
-use Rattle.trace_reader.specs.declared.Reading.{Reading}
-use Rattle.trace_reader.specs.declared.Reading.TheVariants.{Read, Refused}
+use Rattle.trace_reader.specs.Reading.{Reading}
 use Rattle.trace_reader.specs.Reading.{room_order}
 use Rattle.activity.specs.Activity.{activity_text, ListsActivity}
 use Rattle.trace_texts.specs.Words.{Line, line}
@@ -26,7 +26,7 @@ use Rattle.trace_text_laws.proofs.ReadBack.{ReadAs, shown_read}
 
 -- the lists hold the trace at their front, and its size is told
 pub record Returns (names times states ns ts ss : List ℕ) (n : ℕ) (r : Reading) (ns' ts' ss' : List ℕ) : Type 0 where
-  pub told : r ≡ Read (names_in names) n
+  pub told : r ≡ Ok (size (names_in names) n)
   pub names_back : ns' ≡ front names ns
   pub times_back : ts' ≡ front times ts
   pub states_back : ss' ≡ front states ss
@@ -58,12 +58,12 @@ module _ {text names times states : List ℕ} {n : ℕ} (t : Trace names times s
     pub read_back : {ns' ts' ss' : List ℕ} (r : Reading) → MakesTrace text ns ts ss ns' ts' ss' r
         → Returns names times states ns ts ss n r ns' ts' ss'
     unfolding MakesTrace
-    read_back (Refused x) m = absurd (refused_passed _ _ _ passes m.0.by)
-    read_back (Read k q) m =
-        let a : k ≡ names_in names = m.named ∙ names_count in
-        let b : q ≡ n = m.counted ∙ rows_count in
+    read_back (Err x) m = absurd (refused_passed _ _ _ passes m.0.by)
+    read_back (Ok s) m =
+        let a : s.names ≡ names_in names = m.named ∙ names_count in
+        let b : s.rows ≡ n = m.counted ∙ rows_count in
         record {
-          told = rw (a, b) refl;
+          told = λ i. Ok (size (a i) (b i));
           names_back =
               m.names_now ∙ ap (λ (l : Line). front (names_made l) ns) head_is ∙ ap (λ (l : List ℕ). front l ns)
               g.names_read;
@@ -78,7 +78,7 @@ module _ {text names times states : List ℕ} {n : ℕ} (t : Trace names times s
 
 -- what the one call wrote of a trace, the other reads, where there is room
 pub shown_made : {names times states : List ℕ} {n : ℕ} → Trace names times states n
-    → {out out' : List ℕ} {size : ℕ} → ListsActivity names times states n out out' (Done size)
+    → {out out' : List ℕ} {size : ℕ} → ListsActivity names times states n out out' (Ok size)
     → (ns ts ss : List ℕ) {ns' ts' ss' : List ℕ} (r : Reading) → MakesTrace (take size out') ns ts ss ns' ts' ss' r
     → Passed (room_order ns ts ss (names_in names) n)
     → Returns names times states ns ts ss n r ns' ts' ss'

@@ -1,4 +1,6 @@
 -- What `make_trace` comes to follows from its input: the result and the lists afterwards. Main name: made_unique.
+use Rattle.std.specs.Prelude.{Err, Ok}
+use Rattle.trace_reader.specs.Reading.{size}
 use Prim.Native.Nat.{ℕ, zero, suc}
 use mathlib.Core.Path.{◌≡◌, refl, sym, ap, ◌∙◌}
 use mathlib.Core.Bool.{Bool}
@@ -6,8 +8,7 @@ use mathlib.Core.List.{List, [], ◌∷◌}
 use lib.ListN.{length}
 use Rattle.alf.proofs.Orders.{fixed_both}
 use Rattle.alf.proofs.Outcomes.{AllFixed, at_fixed, refused_passed, refused_by_unique}
-use Rattle.trace_reader.specs.declared.Reading.{Reading}
-use Rattle.trace_reader.specs.declared.Reading.TheVariants.{Read, Refused}
+use Rattle.trace_reader.specs.Reading.{Reading}
 use Rattle.trace_texts.specs.Words.{Word, Line, lines_of}
 use Rattle.trace_texts.specs.Texts.{name_words, wide, names_order, head_order, states_order, row_order, rows_order}
 use Rattle.trace_texts.specs.Texts.{said_order, text_order}
@@ -66,18 +67,18 @@ module _ (text ns ts ss : List ℕ) where
   pub made_unique : {n₁ t₁ s₁ n₂ t₂ s₂ : List ℕ} (r q : Reading) → MakesTrace text ns ts ss n₁ t₁ s₁ r
       → MakesTrace text ns ts ss n₂ t₂ s₂ q → (r ≡ q) × (n₁ ≡ n₂) × (t₁ ≡ t₂) × (s₁ ≡ s₂)
   unfolding MakesTrace
-  made_unique (Read k n) (Read l m) a b =
-      let e : k ≡ l = a.named ∙ sym b.named in
-      let f : n ≡ m = a.counted ∙ sym b.counted in (
-        rw (e, f) refl,
+  made_unique (Ok s) (Ok t) a b =
+      let e : s.names ≡ t.names = a.named ∙ sym b.named in
+      let f : s.rows ≡ t.rows = a.counted ∙ sym b.counted in (
+        λ i. Ok (size (e i) (f i)),
         a.names_now ∙ sym b.names_now,
         a.times_now ∙ sym b.times_now,
         a.states_now ∙ sym b.states_now,
       )
-  made_unique (Read k n) (Refused y) a b = absurd (refused_passed _ _ _ a.passes b.0.by)
-  made_unique (Refused x) (Read l m) a b = absurd (refused_passed _ _ _ b.passes a.0.by)
-  made_unique (Refused x) (Refused y) a b = (
-    ap Refused (refused_by_unique _ read_fixed a.0 b.0),
+  made_unique (Ok s) (Err y) a b = absurd (refused_passed _ _ _ a.passes b.0.by)
+  made_unique (Err x) (Ok t) a b = absurd (refused_passed _ _ _ b.passes a.0.by)
+  made_unique (Err x) (Err y) a b = (
+    ap Err (refused_by_unique _ read_fixed a.0 b.0),
     a.1.names_kept ∙ sym b.1.names_kept,
     a.1.times_kept ∙ sym b.1.times_kept,
     a.1.states_kept ∙ sym b.1.states_kept,

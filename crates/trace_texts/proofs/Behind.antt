@@ -1,11 +1,11 @@
 -- Line after line.
---   Passing, passing_first, passing_next, passes_end, passes_all    bytes of a line are passed, up to LF
+--   passes_end, passes_all    bytes of a line are passed, up to LF or to the text's end
 --   says_first        whether a line says something is told by the first byte of its first word
 --   Seeking, seeking_first, seeking_next, next_found, next_none     lines that say nothing are passed
 use Rattle.std.specs.Prelude.{if◌then◌else◌}
-use Prim.Native.Nat.{ℕ, ◌+◌, ◌<◌, ◌≤◌}
+use Prim.Native.Nat.{ℕ, zero, suc, ◌+◌, ◌-◌, ◌<◌, ◌≤◌}
 use native.Mathlib.Omega.{arith}
-use mathlib.Core.Path.{◌≡◌, refl, sym, ap, ◌∙◌}
+use mathlib.Core.Path.{◌≡◌, refl, sym, ap, subst, ◌∙◌}
 use mathlib.Core.Bool.{Bool, true, false, ◌||◌, not}
 use mathlib.Core.List.{List, [], ◌∷◌}
 use lib.Dec.{eqb}
@@ -15,7 +15,7 @@ use Rattle.basics.proofs.Bools.{never}
 use Rattle.trace_texts.specs.Words.{Word, Lines, word, line, lines, is_blank_lem, joins, before, lines_from}
 use Rattle.trace_texts.specs.Words.{says, saying}
 use Rattle.trace_texts.specs.Finding.{from, said_from, is_opening, Skips, Passes, Next}
-use Rattle.trace_texts.proofs.Steps.{step}
+use Rattle.trace_texts.proofs.Steps.{FirstFrom, step}
 
 -- a byte that is no LF leaves the lines behind this one
 rest_before : (p b : ℕ) (x : Lines) → eqb b 10 ≡ false → (before p b x).rest ≡ x.rest
@@ -45,45 +45,43 @@ rest_end : (text : List ℕ) {i : ℕ} → length text ≤ i → (from text i).r
 unfolding from lines_from
 rest_end text {i} h = rw (drop_of_length-le text {i = i} h) refl
 
--- bytes of a line, without LF, are passed
-pub record Passing (text : List ℕ) (p i : ℕ) : Type 0 where
-  pub low : p ≤ i
-  pub within : i ≤ length text
-  pub same_rest : (from text p).rest ≡ (from text i).rest
+-- bytes of a line are passed, up to LF
+module _ (text : List ℕ) (p r : ℕ) (f : FirstFrom (λ b. b ≡ 10) (λ b. b ≡ 10 → ⊥) text p r) where
+  same_to : (n : ℕ) → n ≤ r - p → (from text p).rest ≡ (from text (p + n)).rest
+  same_to zero h = ap (λ (i : ℕ). (from text i).rest) (omega arith)
+  same_to (suc n) h =
+      same_to n (omega arith)
+      ∙ rest_step text (omega (arith, f.within)) (ne_eqb _ 10 (f.before (p + n) (omega arith) (omega arith)))
+      ∙ ap (λ (i : ℕ). (from text i).rest) (omega arith)
 
-pub passing_first : {text : List ℕ} {p : ℕ} → p ≤ length text → Passing text p p
-passing_first h = record { low = omega arith; within = h; same_rest = refl }
+  same_rest : (from text p).rest ≡ (from text r).rest
+  same_rest =
+      let e : p + (r - p) ≡ r = omega (arith, f.low) in
+      same_to (r - p) (omega arith) ∙ ap (λ (i : ℕ). (from text i).rest) e
 
-module _ {text : List ℕ} {p i : ℕ} (g : Passing text p i) where
-  pub passing_next : i < length text → (get_or text i 0 ≡ 10 → ⊥) → Passing text p (i + 1)
-  passing_next h n =
-      record {
-        low = omega (arith, g.low);
-        within = omega arith;
-        same_rest = g.same_rest ∙ rest_step text h (ne_eqb (get_or text i 0) 10 n);
-      }
-
-  pub passes_end : i < length text → get_or text i 0 ≡ 10 → Passes text p (i + 1)
+  pub passes_end : r < length text → Passes text p (r + 1)
   unfolding said_from
-  passes_end h e =
+  passes_end h =
       record {
-        low = omega (arith, g.low);
+        low = omega (arith, f.low);
         within = omega arith;
-        on = λ l. omega (arith, g.low);
+        on = λ l. omega (arith, f.low);
         lines_behind =
             ap saying
-            (g.same_rest ∙ ap (λ (x : Lines). x.rest) (ended_step text h (eq-eqb (get_or text i 0) 10 e)));
+            (same_rest ∙ ap (λ (x : Lines). x.rest) (ended_step text h (eq-eqb (get_or text r 0) 10 (f.there h))));
       }
 
-  pub passes_all : length text ≤ i → Passes text p i
+  pub passes_all : length text ≤ r → Passes text p (length text)
   unfolding saying
   passes_all h =
-      record {
-        low = g.low;
-        within = g.within;
+      let e : r ≡ length text = omega (arith, f.within) in
+      subst (λ (i : ℕ). Passes text p i) e
+      (record {
+        low = f.low;
+        within = f.within;
         on = λ l. omega arith;
-        lines_behind = ap saying (g.same_rest ∙ rest_end text h) ∙ sym (said_end text h);
-      }
+        lines_behind = ap saying (same_rest ∙ rest_end text h) ∙ sym (said_end text h);
+      })
 
 -- the first byte of the first word
 says_joins : (p b : ℕ) (ws : List Word) → says (joins p b ws) ≡ not (eqb b 35)

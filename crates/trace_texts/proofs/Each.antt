@@ -1,6 +1,5 @@
 -- An order that is made piece by piece: o n is the order of the pieces before the n-th.
 --   piece_refused, piece_passed     a piece that is refused, and one that passes, once those before it have passed
---   comes_refused, comes_done       what a check comes to, taken apart
 use Prim.Native.Nat.{ℕ, zero, suc, ◌+◌, ◌<◌, ◌≤◌}
 use native.Mathlib.Omega.{arith}
 use native.Mathlib.Numerals.{add-one}
@@ -8,10 +7,7 @@ use mathlib.Core.Path.{◌≡◌}
 use mathlib.Core.List.{◌++◌}
 use mathlib.Core.Logic.{◌⊎◌, inl, inr}
 use Rattle.basics.proofs.Bools.{below?}
-use Rattle.basics.specs.declared.Refusal.{Refusal}
-use Rattle.basics.specs.declared.Outcome.{Outcome}
-use Rattle.basics.specs.declared.Outcome.TheVariants.{Done, Refused}
-use Rattle.alf.specs.Refusals.{Order, RefusedWith, RefusedBy, Passed, Comes}
+use Rattle.alf.specs.Refusals.{Order, RefusedWith, Passed}
 use Rattle.alf.proofs.Orders.{refused_first, refused_then, passed_both}
 
 module _ (o piece : ℕ → Order) (grows : (n : ℕ) → o (suc n) ≡ o n ++ piece n) where
@@ -31,14 +27,3 @@ module _ (o piece : ℕ → Order) (grows : (n : ℕ) → o (suc n) ≡ o n ++ p
 
   pub piece_passed : (i : ℕ) → Passed (o i) → Passed (piece i) → Passed (o (i + 1))
   piece_passed i q r = rw (add-one i, grows i) (passed_both (o i) (piece i) q r)
-
--- what a check comes to, taken apart
-pub comes_refused : (order : Order) (made : ℕ → Type 0) {x : Outcome} {r : Refusal} → Comes order made x
-    → x ≡ Refused r → RefusedBy order r
-unfolding Comes
-comes_refused order made h e = rw e at h
-
-pub comes_done : (order : Order) (made : ℕ → Type 0) {x : Outcome} {k : ℕ} → Comes order made x → x ≡ Done k
-    → Passed order × made k
-unfolding Comes
-comes_done order made h e = rw e at h

@@ -1,20 +1,20 @@
 -- One byte more: what it does to the lines of a text.
 --   step                                       the lines from a byte on, by the lines behind it
 --   blank_step, end-step                       a blank, LF
---   Skipping, skipping_first, skipping_next, skips_here, skips_all     blanks are passed
---   Running, running_first, running_next, runs_here, runs_all          bytes of a word are passed
-use Prim.Native.Nat.{ℕ, ◌+◌, ◌<◌, ◌≤◌}
+--   FirstFrom, first_from                      the first byte from a place on that passes, found from that place on
+--   skips, runs                                blanks are passed, bytes of a word are passed
+use Prim.Native.Nat.{ℕ, zero, suc, ◌+◌, ◌-◌, ◌<◌, ◌≤◌}
 use native.Mathlib.Omega.{arith}
 use native.Mathlib.Numerals.{add-one}
-use mathlib.Core.Path.{◌≡◌, refl, sym, ap, ◌∙◌}
-use mathlib.Core.Bool.{Bool, true, false}
-use mathlib.Core.Logic.{◌⊎◌, inl, inr}
+use mathlib.Core.Path.{◌≡◌, refl, sym, ap, subst, ◌∙◌}
+use mathlib.Core.Bool.{true, false}
 use mathlib.Core.List.{List}
 use lib.Dec.{eqb}
-use lib.ListN.{length, get_or}
-use lib.Seq.{drop-cons}
+use lib.ListN.{length, get_or, drop, length-drop}
+use lib.Seq.{drop-cons, get_or-drop}
 use borrow.Author.Tests.{ne_eqb}
-use Rattle.basics.proofs.Bools.{never, below?}
+use Rattle.basics.proofs.Bools.{never}
+use Rattle.basics.proofs.Walked.{FirstPlace}
 use Rattle.trace_texts.specs.Words.{is_blank_lem, before, lines_from}
 use Rattle.trace_texts.specs.Finding.{is_solid_lem, from, Skips, Runs}
 
@@ -31,62 +31,47 @@ module _ (text : List ℕ) {i : ℕ} (h : i < length text) where
   unfolding before
   blank_step t = step ∙ rw (blank_no_end t, t) refl
 
--- blanks from p on are passed
-pub record Skipping (text : List ℕ) (p i : ℕ) : Type 0 where
-  pub low : p ≤ i
-  pub within : i ≤ length text
-  pub same_lines : from text p ≡ from text i
+-- from p to r no byte passes, and at r one does
+pub record FirstFrom (Yes No : ℕ → Type 0) (text : List ℕ) (p r : ℕ) : Type 0 where
+  pub low : p ≤ r
+  pub within : r ≤ length text
+  pub before : (j : ℕ) → p ≤ j → j < r → No (get_or text j 0)
+  pub there : r < length text → Yes (get_or text r 0)
 
-pub skipping_first : {text : List ℕ} {p : ℕ} → p ≤ length text → Skipping text p p
-skipping_first h = record { low = omega arith; within = h; same_lines = refl }
+pub first_from : (Yes No : ℕ → Type 0) (text : List ℕ) (p r : ℕ) → p ≤ length text
+    → FirstPlace Yes No (drop p text) r → FirstFrom Yes No text p (p + r)
+first_from Yes No text p r h f =
+    record {
+      low = omega arith;
+      within = omega (arith, f.within, length-drop p text);
+      before =
+          λ j l m.
+          let e : p + (j - p) ≡ j = omega arith in
+          subst (λ (i : ℕ). No (get_or text i 0)) e
+          (subst No (get_or-drop p text (j - p) 0) (f.before (j - p) (omega arith)));
+      there = λ l. subst Yes (get_or-drop p text r 0) (f.there (omega (arith, l, length-drop p text)));
+    }
 
-module _ {text : List ℕ} {p i : ℕ} (g : Skipping text p i) where
-  pub skipping_next : {b : Bool} → i < length text → b ≡ is_blank_lem (get_or text i 0) → b ≡ true
-      → Skipping text p (i + 1)
-  skipping_next h e t =
-      record {
-        low = omega (arith, g.low);
-        within = omega arith;
-        same_lines = g.same_lines ∙ blank_step text h (sym e ∙ t);
-      }
+-- blanks are passed
+pub skips : (text : List ℕ) (p r : ℕ)
+    → FirstFrom (λ b. is_blank_lem b ≡ false) (λ b. is_blank_lem b ≡ true) text p r → Skips text p r
+skips text p r f =
+    record {
+      low = f.low;
+      within = f.within;
+      same_lines =
+          let e : p + (r - p) ≡ r = omega (arith, f.low) in
+          same (r - p) (omega arith) ∙ ap (from text) e;
+      behind = f.there;
+    }
+  where
+    same : (n : ℕ) → n ≤ r - p → from text p ≡ from text (p + n)
+    same zero h = ap (from text) (omega arith)
+    same (suc n) h =
+        same n (omega arith) ∙ blank_step text (omega (arith, f.within)) (f.before (p + n) (omega arith) (omega arith))
+        ∙ ap (from text) (omega arith)
 
-  pub skips_here : {b : Bool} → b ≡ is_blank_lem (get_or text i 0) → b ≡ false → Skips text p i
-  skips_here e f =
-      record { low = g.low; within = g.within; same_lines = g.same_lines; behind = λ h. sym e ∙ f }
-
-  pub skips_all : length text ≤ i → Skips text p i
-  skips_all h =
-      record {
-        low = g.low;
-        within = g.within;
-        same_lines = g.same_lines;
-        behind = λ l. absurd (omega arith);
-      }
-
--- bytes of a word from p on are passed
-pub record Running (text : List ℕ) (p i : ℕ) : Type 0 where
-  pub low : p ≤ i
-  pub within : i ≤ length text
-  pub solid : (j : ℕ) → p ≤ j → j < i → is_solid_lem (get_or text j 0) ≡ true
-
-pub running_first : {text : List ℕ} {p : ℕ} → p ≤ length text → Running text p p
-running_first h = record { low = omega arith; within = h; solid = λ j l m. absurd (omega arith) }
-
-module _ {text : List ℕ} {p i : ℕ} (g : Running text p i) where
-  pub running_next : {b : Bool} → i < length text → b ≡ is_solid_lem (get_or text i 0) → b ≡ true
-      → Running text p (i + 1)
-  running_next h e t =
-      record { low = omega (arith, g.low); within = omega arith; solid = λ j l m. go j l m (below? j i) }
-    where
-      go : (j : ℕ) → p ≤ j → j < i + 1 → (j < i) ⊎ (i ≤ j) → is_solid_lem (get_or text j 0) ≡ true
-      go j l m (inl k) = g.solid j l k
-      go j l m (inr k) =
-          let q : j ≡ i = omega arith in
-          rw q (sym e ∙ t)
-
-  pub runs_here : {b : Bool} → b ≡ is_solid_lem (get_or text i 0) → b ≡ false → Runs text p i
-  runs_here e f = record { low = g.low; within = g.within; solid = g.solid; behind = λ h. sym e ∙ f }
-
-  pub runs_all : length text ≤ i → Runs text p i
-  runs_all h =
-      record { low = g.low; within = g.within; solid = g.solid; behind = λ l. absurd (omega arith) }
+-- bytes of a word are passed
+pub runs : (text : List ℕ) (p r : ℕ)
+    → FirstFrom (λ b. is_solid_lem b ≡ false) (λ b. is_solid_lem b ≡ true) text p r → Runs text p r
+runs text p r f = record { low = f.low; within = f.within; solid = f.before; behind = f.there }

@@ -9,24 +9,18 @@ pub fn behind_line(text: &[u8], p: usize) -> usize
     requires { p ≤ length text.now }
     ensures { Passes text.now p result }
 {
-    let mut i = p;
-    while i < text.len() {
-        if text[i] == b'\n' {
-            return i + 1;
-        }
-        i += 1;
+    match text[p..].iter().position(|b| *b == b'\n') {
+        Some(n) => p + n + 1,
+        None => text.len(),
     }
-    i
 }
 
 // Whether a line whose first byte behind blanks this is says something.
+#[tactic(auto, unfolding(crate::specs::Finding::is_opening))]
 fn opens(b: u8) -> bool
     ensures { result ≡ is_opening b }
 {
-    if b == b'\n' {
-        return false;
-    }
-    b != b'#'
+    b != b'\n' && b != b'#'
 }
 
 // The first word of the next line that says something, from the line at p on; the text's end where there is none.
@@ -35,6 +29,7 @@ pub fn next_line(text: &[u8], p: usize) -> usize
     ensures { Next text.now p result }
 {
     let mut at = p;
+    // Where a line ends is known behind it: no range to go over.
     while at < text.len() {
         let w = skip_blanks(text, at);
         if w == text.len() {

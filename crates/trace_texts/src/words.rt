@@ -4,26 +4,19 @@ ghost use Rattle.trace_texts.specs.Words.{is_blank_lem};
 ghost use Rattle.trace_texts.specs.Finding.{is_solid_lem, Skips, Runs, Finds};
 
 // Whether a byte is a space, a tab or CR.
+#[tactic(auto, unfolding(crate::specs::Words::is_blank_lem))]
 pub fn is_blank(b: u8) -> bool
     ensures { result ≡ is_blank_lem b }
 {
-    if b == b' ' {
-        return true;
-    }
-    if b == b'\t' {
-        return true;
-    }
-    b == b'\r'
+    matches!(b, b' ' | b'\t' | b'\r')
 }
 
 // Whether a byte belongs to a word.
+#[tactic(auto, unfolding(crate::specs::Finding::is_solid_lem))]
 pub fn is_solid(b: u8) -> bool
     ensures { result ≡ is_solid_lem b }
 {
-    if b == b'\n' {
-        return false;
-    }
-    !is_blank(b)
+    b != b'\n' && !is_blank(b)
 }
 
 // The first place from p on where no blank stands.
@@ -31,14 +24,10 @@ pub fn skip_blanks(text: &[u8], p: usize) -> usize
     requires { p ≤ length text.now }
     ensures { Skips text.now p result }
 {
-    let mut i = p;
-    while i < text.len() {
-        if !is_blank(text[i]) {
-            return i;
-        }
-        i += 1;
-    }
-    i
+    p + text[p..]
+        .iter()
+        .position(|b| !is_blank(*b))
+        .unwrap_or(text.len() - p)
 }
 
 // The first place from p on where no byte of a word stands.
@@ -46,14 +35,10 @@ pub fn skip_word(text: &[u8], p: usize) -> usize
     requires { p ≤ length text.now }
     ensures { Runs text.now p result }
 {
-    let mut i = p;
-    while i < text.len() {
-        if !is_solid(text[i]) {
-            return i;
-        }
-        i += 1;
-    }
-    i
+    p + text[p..]
+        .iter()
+        .position(|b| !is_solid(*b))
+        .unwrap_or(text.len() - p)
 }
 
 // A word: where it starts, and where it ends.
@@ -69,11 +54,9 @@ pub fn find_word(text: &[u8], p: usize, n: usize) -> Span
     ensures { Finds text.now p n result.start result.end }
 {
     let mut at = skip_blanks(text, p);
-    let mut i: usize = 0;
-    while i < n {
+    for i in 0..n {
         let behind = skip_word(text, at);
         at = skip_blanks(text, behind);
-        i += 1;
     }
     let end = skip_word(text, at);
     Span { start: at, end }

@@ -2,6 +2,7 @@
 --   row_late, row_bad, row_passes   a row that is refused or passes
 --   rows_none, rows_passed          no row yet; all of them
 --   next_place                      the place behind a row's codes
+use Rattle.std.specs.Prelude.{Ok}
 use mathlib.Core.Path.{◌≡◌, refl}
 use mathlib.Core.Bool.{Bool, true, false}
 use mathlib.Core.List.{List}
@@ -13,8 +14,7 @@ use lib.Dec.{eqb}
 use borrow.Author.Tests.{eqb-true, eqb-false}
 use Rattle.basics.specs.Deciding.{Decides}
 use Rattle.basics.proofs.Deciding.{told, not_told}
-use Rattle.basics.specs.declared.Outcome.{Outcome}
-use Rattle.basics.specs.declared.Outcome.TheVariants.{Done}
+use Rattle.basics.specs.Refusing.{Outcome}
 use Rattle.alf.specs.Refusals.{RefusedWith, Passed, Comes}
 use Rattle.alf.proofs.Orders.{Is, plainly, refused_first, refused_then, passed_both}
 use Rattle.trace_format.specs.Parts.{CodesTo}
@@ -92,7 +92,7 @@ module _ (k : ℕ) (times states : List ℕ) (first : ℕ) where
 
   pub rows_passed : {r n : ℕ} → r ≡ n → Passed (rows_order k times states first r)
       → Comes (rows_order k times states first n)
-      (λ m. m ≡ k) (Done k)
+      (λ m. m ≡ k) (Ok k)
   unfolding Comes
   rows_passed e p = (rw e at p, refl)
 

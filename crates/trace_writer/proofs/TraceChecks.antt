@@ -5,6 +5,7 @@
 --   trace_good, rows_good                                 a trace that passes is good, and its codes are states
 --   rows_fixed, trace_fixed                               each row of the order fixes its place
 --   rows_split                                            the rows' order, of the first ones and of those behind them
+use Rattle.std.specs.Prelude.{Err, Ok}
 use mathlib.Core.Path.{◌≡◌, refl, sym}
 use mathlib.Core.Bool.{Bool, false}
 use mathlib.Core.List.{List, ◌++◌, append-nil, append_assoc}
@@ -18,8 +19,7 @@ use Rattle.basics.proofs.Bools.{below?}
 use Rattle.basics.proofs.Deciding.{not_told}
 use Rattle.basics.proofs.Stable.{le_stable, eq_stable}
 use Rattle.basics.specs.declared.Refusal.{Refusal}
-use Rattle.basics.specs.declared.Outcome.{Outcome}
-use Rattle.basics.specs.declared.Outcome.TheVariants.{Done, Refused}
+use Rattle.basics.specs.Refusing.{Outcome}
 use Rattle.alf.specs.Names.{names_in, GoodSlot}
 use Rattle.alf.specs.Refusals.{Order, bad_slot, RefusedWith, Passed, Comes}
 use Rattle.alf.proofs.Orders.{Is, plainly, by_first, by_then, none_first, passed_both, passed_left, passed_right}
@@ -56,13 +56,13 @@ module _ {names times states : List ℕ} {n : ℕ} where
   pub checked_12 : AllLists names times states n → (o : Outcome) → Comes (names_order names) (λ m. m ≡ names_in names) o
       → Comes (lent_order names times states n) (λ m. m ≡ names_in names) o
   unfolding Comes Passed
-  checked_12 all (Done k) c = (((λ p a. a.given all), (c.0.1.0, tt)), c.1)
-  checked_12 all (Refused r) c = record { by = twelve all _ _ c.by; bare = c.bare }
+  checked_12 all (Ok k) c = (((λ p a. a.given all), (c.0.1.0, tt)), c.1)
+  checked_12 all (Err r) c = record { by = twelve all _ _ c.by; bare = c.bare }
 
 -- refused by the first part of an order, whatever is asked afterwards
 pub comes_first : (o rest : Order) (made made' : ℕ → Type 0) {x : Outcome} {r : Refusal} → Comes o made x
-    → x ≡ Refused r
-    → Comes (o ++ rest) made' (Refused r)
+    → x ≡ Err r
+    → Comes (o ++ rest) made' (Err r)
 unfolding Comes
 comes_first o rest made made' c e = by_first o rest (rw e at c)
 
@@ -70,8 +70,8 @@ comes_first o rest made made' c e = by_first o rest (rw e at c)
 pub comes_then : (o rest : Order) (made : ℕ → Type 0) (x : Outcome) → Passed o → Comes rest made x
     → Comes (o ++ rest) made x
 unfolding Comes
-comes_then o rest made (Done k) h c = (passed_both o rest h c.0, c.1)
-comes_then o rest made (Refused r) h c = by_then o rest h c
+comes_then o rest made (Ok k) h c = (passed_both o rest h c.0, c.1)
+comes_then o rest made (Err r) h c = by_then o rest h c
 
 -- the lists that pass 18 and 12
 module _ {names times states : List ℕ} {n k : ℕ} (g : NamesGood names times states n k) where
@@ -127,21 +127,21 @@ passed_good {names} {times} {states} {n} p e =
 pub names_good :
     {names times states : List ℕ} {n k : ℕ} {o : Outcome} →
     Comes (lent_order names times states n) (λ m. m ≡ names_in names) o →
-    o ≡ Done k →
+    o ≡ Ok k →
     NamesGood names times states n k
 unfolding Comes
 names_good {names} {times} {states} {n} {k} c e =
-    let d : Comes (lent_order names times states n) (λ m. m ≡ names_in names) (Done k) = rw e at c in
+    let d : Comes (lent_order names times states n) (λ m. m ≡ names_in names) (Ok k) = rw e at c in
     passed_good d.0 d.1
 
 pub trace_good :
     {names times states : List ℕ} {n k : ℕ} {o : Outcome} →
     Comes (lists_order names times states n) (λ m. m ≡ names_in names) o →
-    o ≡ Done k →
+    o ≡ Ok k →
     Good names times states n k
 unfolding Comes
 trace_good {names} {times} {states} {n} {k} c e =
-    let d : Comes (lists_order names times states n) (λ m. m ≡ names_in names) (Done k) = rw e at c in
+    let d : Comes (lists_order names times states n) (λ m. m ≡ names_in names) (Ok k) = rw e at c in
     record { named = passed_good (passed_left (lent_order names times states n) _ d.0) d.1; passed = d.0 }
 
 -- rows that pass have states alone for codes

@@ -1,5 +1,6 @@
 -- What writing comes to: what the check of the trace refuses, 9, or the file in front of the buffer.
 -- Main names: writes_refused, writes_9, file_written.
+use Rattle.std.specs.Prelude.{Err, Ok}
 use mathlib.Core.Path.{◌≡◌, refl, sym}
 use mathlib.Core.List.{List}
 use mathlib.Core.Logic.{inl}
@@ -8,8 +9,7 @@ use native.Mathlib.Omega.{arith}
 use lib.ListN.{length, length-append}
 use Rattle.alf.specs.Names.{names_in}
 use Rattle.basics.specs.declared.Refusal.{Refusal}
-use Rattle.basics.specs.declared.Outcome.{Outcome}
-use Rattle.basics.specs.declared.Outcome.TheVariants.{Done, Refused}
+use Rattle.basics.specs.Refusing.{Outcome}
 use Rattle.alf.specs.Refusals.{RefusedWith, RefusedBy, Passed, Comes}
 use Rattle.alf.proofs.Orders.{Is, plainly, by_first, refused_then, passed_both}
 use Rattle.trace_format.specs.Format.{name_records, row_records, end_record, fewest_of, file_in, file_of}
@@ -25,7 +25,7 @@ use Rattle.trace_writer.proofs.TraceChecks.{rows_lent}
 module _ {names times states : List ℕ} {n : ℕ} (out : List ℕ) where
   stopped :
       {o : Outcome} {r : Refusal} →
-      o ≡ Refused r →
+      o ≡ Err r →
       RefusedBy (write_order names times states n (length out)) r →
       Writes names times states n out out o
   unfolding Comes after
@@ -35,8 +35,8 @@ module _ {names times states : List ℕ} {n : ℕ} (out : List ℕ) where
   pub writes_refused :
       {o : Outcome} {r : Refusal} (made : ℕ → Type 0) →
       Comes (lists_order names times states n) made o →
-      o ≡ Refused r →
-      Writes names times states n out out (Refused r)
+      o ≡ Err r →
+      Writes names times states n out out (Err r)
   unfolding Comes
   writes_refused {o} {r} made c e =
       stopped refl (by_first (lists_order names times states n) _ (rw e at c))
@@ -112,7 +112,7 @@ module _ {names times states : List ℕ} {n k : ℕ} (g : Good names times state
               )
 
           pub file_written : {out₃ : List ℕ} {all : ℕ} → Put out₂ end (end_record n) out₃ all
-              → Writes names times states n out out₃ (Done all)
+              → Writes names times states n out out₃ (Ok all)
           unfolding Comes Passed after file_in
           file_written {out₃} {all} end_put =
               let e : names_in names ≡ k = sym g.named.counted in

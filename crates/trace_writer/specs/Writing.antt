@@ -7,7 +7,7 @@
 --   Writes                  what the call comes to, and the buffer afterwards
 use Rattle.std.specs.Prelude.{ℕ, zero, suc, ◌+◌, ◌*◌, ◌<◌, ◌≤◌, ◌≡◌, List, [], ◌∷◌, ◌++◌, length, get_or}
 use Rattle.alf.specs.Names.{names_in}
-use Rattle.basics.specs.declared.Outcome.{Outcome}
+use Rattle.basics.specs.Refusing.{Outcome}
 use Rattle.alf.specs.Refusals.{Order, check, First, bad_lists, bad_slot, not_above, no_room, Comes}
 use Rattle.names.specs.Check.{Slots}
 use Rattle.trace_format.specs.Format.{Lists, file_of}

@@ -5,7 +5,7 @@ ghost use Rattle.basics.specs.Deciding.{Decides};
 ghost use Rattle.trace_writer.specs.Writing.{AllLists, rows_order, ChecksLists, ChecksTrace};
 ghost use Rattle.trace_writer.specs.Putting.{Later, SomeRows};
 
-use basics::Outcome;
+use basics::Refusal;
 use basics::refusing::refuse;
 use names::check_names;
 use trace_format::parts::codes_to;
@@ -54,13 +54,18 @@ fn is_later(times: &[u64], r: usize) -> bool
 }
 
 // Some of the rows of k codes, from row `first` on, one by one: 13, then 15; done, k.
-pub fn check_rows(k: usize, times: &[u64], states: &[u8], first: usize, many: usize) -> Outcome
+pub fn check_rows(
+    k: usize,
+    times: &[u64],
+    states: &[u8],
+    first: usize,
+    many: usize,
+) -> Result<usize, Refusal>
     requires { SomeRows k times.now states.now first many }
     ensures { Comes (rows_order k times.now states.now first many) (λ m. m ≡ k) result }
 {
     let mut from = first * k;
-    let mut i = 0;
-    while i < many {
+    for i in 0..many {
         let r = first + i;
         if !is_later(times, r) {
             return refuse(13, r);
@@ -71,13 +76,12 @@ pub fn check_rows(k: usize, times: &[u64], states: &[u8], first: usize, many: us
             return refuse(15, bad);
         }
         from = to;
-        i += 1;
     }
-    Outcome::Done(k)
+    Ok(k)
 }
 
 // The lists as they are lent: 18, 12; done, how many names.
-pub fn check_lists(names: &[u8], times: &[u64], states: &[u8], n: usize) -> Outcome
+pub fn check_lists(names: &[u8], times: &[u64], states: &[u8], n: usize) -> Result<usize, Refusal>
     ensures { ChecksLists names.now times.now states.now n result }
 {
     if !lists_fit(names, times, states, n) {
@@ -87,11 +91,9 @@ pub fn check_lists(names: &[u8], times: &[u64], states: &[u8], n: usize) -> Outc
 }
 
 // A trace in lists: names in slots, n times, and states row by row; done, how many names.
-pub fn check_trace(names: &[u8], times: &[u64], states: &[u8], n: usize) -> Outcome
+pub fn check_trace(names: &[u8], times: &[u64], states: &[u8], n: usize) -> Result<usize, Refusal>
     ensures { ChecksTrace names.now times.now states.now n result }
 {
-    match check_lists(names, times, states, n) {
-        Outcome::Refused(r) => Outcome::Refused(r),
-        Outcome::Done(k) => check_rows(k, times, states, 0, n),
-    }
+    let k = check_lists(names, times, states, n)?;
+    check_rows(k, times, states, 0, n)
 }

@@ -4,31 +4,25 @@ ghost use Rattle.std.specs.Prelude.{◌<◌};
 use crate::show_reading;
 use std::io::Stdout;
 use text_parts::parts::front;
-use text_parts::puts::put_byte;
+use text_parts::puts::put;
 use trace_reader::read::read_trace;
 
 // A mark and a number of four bytes.
 fn put_record(out: &mut [u8], at: usize, a: u8, b: u8, x: u32)
     requires { at < 1048576 }
 {
-    put_byte(out, at, a);
-    put_byte(out, at + 1, b);
-    put_byte(out, at + 2, (x % 256) as u8);
-    put_byte(out, at + 3, (x / 256 % 256) as u8);
-    put_byte(out, at + 4, (x / 65536 % 256) as u8);
-    put_byte(out, at + 5, (x / 16777216 % 256) as u8);
+    put(out, at, &[a, b]);
+    put(out, at + 2, &x.to_le_bytes());
 }
 
 // Rows 0 to n-1 of one name, at times 0 to n-1, all in state 0.
 fn put_rows(out: &mut [u8], n: u32)
     requires { n < 65537 }
 {
-    let mut r: u32 = 0;
-    while r < n {
+    for r in 0..n {
         let at = 4 + 7 * r as usize;
         put_record(out, at, b'R', b'W', r);
-        put_byte(out, at + 6, 0);
-        r += 1;
+        put(out, at + 6, &[0]);
     }
 }
 
@@ -36,10 +30,7 @@ fn put_rows(out: &mut [u8], n: u32)
 fn put_file(out: &mut [u8], n: u32) -> usize
     requires { n < 65537 }
 {
-    put_byte(out, 0, b'N');
-    put_byte(out, 1, b'M');
-    put_byte(out, 2, 1);
-    put_byte(out, 3, b'A');
+    put(out, 0, b"NM\x01A");
     put_rows(out, n);
     let at = 4 + 7 * n as usize;
     put_record(out, at, b'E', b'N', n);

@@ -9,15 +9,15 @@ ghost use Rattle.std.specs.Prelude.{◌≤◌};
 
 use crate::again::read_again;
 use crate::long::read_rows;
-use basics::Outcome;
+use basics::Refusal;
 use loading::files::read_all;
 use run_printing::printing::{broken, character, number, small, write};
 use run_words::words::digit;
 use std::io;
 use std::io::Stdout;
-use text_parts::lines::{behind_line, line_at};
+use text_parts::lines::Lines;
 use text_parts::parts::front;
-use trace_reader::Reading;
+use trace_reader::Size;
 use trace_reader::read::read_trace;
 use trace_writer::write::write_trace;
 
@@ -30,17 +30,17 @@ fn line(to: Stdout, word: &[u8], a: usize, between: &[u8], b: usize) {
     character(to, b'\n');
 }
 
-fn show_reading(to: Stdout, r: Reading) {
+fn show_reading(to: Stdout, r: Result<Size, Refusal>) {
     match r {
-        Reading::Read { names, rows } => line(to, b"read ", names, b" ", rows),
-        Reading::Refused(f) => line(to, b"refused ", small(f.number), b" at ", f.place),
+        Ok(Size { names, rows }) => line(to, b"read ", names, b" ", rows),
+        Err(f) => line(to, b"refused ", small(f.number), b" at ", f.place),
     }
 }
 
-fn show_outcome(to: Stdout, r: Outcome) {
+fn show_outcome(to: Stdout, r: Result<usize, Refusal>) {
     match r {
-        Outcome::Done(n) => line(to, b"done ", n, b" ", 0),
-        Outcome::Refused(f) => line(to, b"refused ", small(f.number), b" at ", f.place),
+        Ok(n) => line(to, b"done ", n, b" ", 0),
+        Err(f) => line(to, b"refused ", small(f.number), b" at ", f.place),
     }
 }
 
@@ -63,10 +63,8 @@ fn read(to: Stdout, file: &[u8]) {
 
 // Every beginning of a file but the whole.
 fn read_cut(to: Stdout, file: &[u8]) {
-    let mut n = 0;
-    while n < file.len() {
+    for n in 0..file.len() {
         read(to, &file[..n]);
-        n += 1;
     }
 }
 
@@ -139,13 +137,11 @@ fn no_bytes() -> [u8; 512] {
 // The bytes that pairs of digits stand for.
 fn bytes_of(digits: &[u8]) -> [u8; 512] {
     let mut out = no_bytes();
-    let mut i: usize = 0;
-    while i < 512 {
+    for i in 0..512 {
         if digits.len() / 2 <= i {
             return out;
         }
         out[i] = 16 * digit(digits[2 * i]) + digit(digits[2 * i + 1]);
-        i += 1;
     }
     out
 }
@@ -207,10 +203,8 @@ fn show_line(to: Stdout, line: &[u8], first: bool) -> bool {
 // Each line of the input.
 fn show_lines(to: Stdout, input: &[u8]) {
     let mut first = true;
-    let mut at: usize = 0;
-    while at < input.len() {
-        first = show_line(to, line_at(input, at), first);
-        at = behind_line(input, at);
+    for line in Lines(input) {
+        first = show_line(to, line, first);
     }
 }
 

@@ -3,17 +3,17 @@
 --   answers_asked, answers_filled, answers_listable, answers_listed    the answers that are listed
 --   counted_few, line_refused, line_written   the line, by what is counted
 --   listed_most                   a list from a rule is as small as the rule
-use Prim.Native.Nat.{ℕ, ◌+◌, ◌<◌, ◌≤◌}
+use Rattle.std.specs.Prelude.{Err, Ok}
+use Prim.Native.Nat.{ℕ, ◌<◌, ◌≤◌}
 use native.Mathlib.Omega.{arith}
 use mathlib.Core.Path.{◌≡◌, refl, sym, ap, ◌∙◌}
 use mathlib.Core.List.{List}
 use lib.Dec.{eqb}
-use lib.ListN.{length, get_or, take}
+use lib.ListN.{length, get_or}
 use Rattle.alf.specs.declared.Rules.{Rules}
 use Rattle.alf.specs.declared.Sort.TheVariants as sort
 use Rattle.basics.specs.declared.Refusal.{Refusal}
-use Rattle.basics.specs.declared.Outcome.{Outcome}
-use Rattle.basics.specs.declared.Outcome.TheVariants as outcome
+use Rattle.basics.specs.Refusing.{Outcome}
 use Rattle.basics.specs.Words.{listed}
 use Rattle.basics.specs.Memory.{after, placed}
 use Rattle.basics.proofs.Deciding.{eqb_decides}
@@ -30,15 +30,13 @@ use Rattle.acceptance.specs.Accepted.{Accepted}
 use Rattle.states.specs.FirstBadCode.{Codes}
 use Rattle.matcher.specs.declared.tables.Total.{Total}
 use Rattle.correction.specs.Corrections.{RewriteAsked}
-use Rattle.rewriting.specs.declared.lists.Alternatives.{Alternatives}
-use Rattle.rewriting.specs.Lists.{Holds}
-use Rattle.judging.specs.declared.checks.Verdict.{Verdict}
-use Rattle.judging.specs.declared.checks.Verdict.TheVariants.{Good, Refused}
+use Rattle.alternatives.specs.declared.lists.Lists.{Lists}
+use Rattle.rewriting.specs.Lists.{StandFor}
+use Rattle.judging.specs.Orders.{Verdict}
 use Rattle.judging.specs.Orders.{Rows, order, codes, rows_order, Judged, ChecksRows}
 use Rattle.judging.proofs.Verdicts.{judged_good, judged_not}
 use Rattle.judging.proofs.Checked.{lent_as}
-use Rattle.matching_calls.specs.declared.matching.Counting.{Counting}
-use Rattle.matching_calls.specs.declared.matching.Counting.TheVariants as counting
+use Rattle.matching_calls.specs.Matching.{Counting}
 use Rattle.matching_calls.specs.Matching.{expression, answers_on, Counts, RowTotals}
 use Rattle.matching_calls.proofs.Matches.{rows_asked}
 use Rattle.matching_calls.proofs.ByAlternatives.{xs, numbers_on}
@@ -61,8 +59,8 @@ module _ (ρ : Rules) (lists : Type 0) (names : ℕ) (tree states text : List �
   text_written : (room : ℕ) (r : Outcome) → Passed checks → Comes (line_order text room) (λ m. m ≡ length text) r
       → Comes (text_order ρ lists names tree states text room) (λ m. m ≡ length text) r
   unfolding Comes
-  text_written room (outcome.Done m) p c = (passed_both checks (line_order text room) p c.0, c.1)
-  text_written room (outcome.Refused r) p c = by_then checks (line_order text room) p c
+  text_written room (Ok m) p c = (passed_both checks (line_order text room) p c.0, c.1)
+  text_written room (Err r) p c = by_then checks (line_order text room) p c
 
 -- The answers, in a list of n entries.
 pub listed_most : (most n : ℕ) (f : ℕ → ℕ) → ((i : ℕ) → f i ≤ most) → (i : ℕ) → i < length (listed 0 n f)
@@ -70,10 +68,10 @@ pub listed_most : (most n : ℕ) (f : ℕ → ℕ) → ((i : ℕ) → f i ≤ mo
 listed_most most n f h i l = rw (listed_at n i f 0 (omega (arith, listed_length 0 n f))) (h i)
 
 module _ {ρ : Rules} {names n : ℕ} {tree states answers : List ℕ} (f : Filling ρ names n tree states answers) where
-  module _ {a : Alternatives} (h : Holds ρ tree names a) where
-    pub answers_asked : RewriteAsked tree names states (take a.count a.steps)
-        (take a.step_count a.tests) (take a.test_count a.edges)
-        (take a.test_count a.operands) n 0 n answers
+  module _ {ls : Lists} (h : StandFor ρ tree names ls) where
+    pub answers_asked : RewriteAsked tree names states ls.steps.now
+        ls.tests.now ls.edges.now
+        ls.operands.now n 0 n answers
     answers_asked =
         record {
           asked = record { shape = h.shape; rows = f.answered.asked.rows };
@@ -123,13 +121,13 @@ module _ {ρ : Rules} {names n : ℕ} {tree states : List ℕ} (times : List ℕ
       lent_as ρ names n tree sort.Vector states (eqb (length times) n) (length times ≡ n)
       (eqb_decides (length times) n) c
 
-  pub list_asked : v ≡ Good → Answered ρ names (length times) tree states
+  pub list_asked : v ≡ (Ok tt) → Answered ρ names (length times) tree states
   list_asked e =
       let ((x, l), a, s) = (judged_good as_lists e).1 in
       rw x (record { asked = record { accepted = a; rows = rows_asked l s }; some = l.row_count.0 })
 
-  pub list_refused : {out : List ℕ} {r : Refusal} → v ≡ Refused r
-      → ListsTree ρ names n tree times states out out (outcome.Refused r)
+  pub list_refused : {out : List ℕ} {r : Refusal} → v ≡ Err r
+      → ListsTree ρ names n tree times states out out (Err r)
   unfolding Comes after
   list_refused {out} {r} e =
       record {
@@ -137,7 +135,7 @@ module _ {ρ : Rules} {names n : ℕ} {tree states : List ℕ} (times : List ℕ
         memory = refl;
       }
 
-  pub list_written : {out out' : List ℕ} {r : Outcome} → v ≡ Good
+  pub list_written : {out out' : List ℕ} {r : Outcome} → v ≡ (Ok tt)
       → Delivers (pattern_listing ρ names times states (expression ρ tree names)) out out' r
       → ListsTree ρ names n tree times states out out' r
   list_written {out} {r = r} e d =
@@ -148,17 +146,17 @@ module _ {ρ : Rules} {names n : ℕ} {tree states : List ℕ} (times : List ℕ
 
 -- The line, by what is counted.
 module _ {ρ : Rules} {names n : ℕ} {tree states : List ℕ} {c : Counting} (h : RowTotals ρ names n tree states c) where
-  counted : {t : Total} → c ≡ counting.Counted t → RowTotals ρ names n tree states (counting.Counted t)
+  counted : {t : Total} → c ≡ Ok t → RowTotals ρ names n tree states (Ok t)
   counted e = rw e at h
 
-  pub counted_few : {t : Total} → c ≡ counting.Counted t → n ≤ 65535
+  pub counted_few : {t : Total} → c ≡ Ok t → n ≤ 65535
   unfolding Counts Passed
   counted_few e =
       let p = (counted e).comes.0 in
       le_stable n 65535 (λ k. p.0 0 (record { given = λ l. k l.row_count.1; there = refl }))
 
-  pub line_refused : {shown out : List ℕ} {r : Refusal} → c ≡ counting.Refused r
-      → LinesTree ρ names n tree states shown out out (outcome.Refused r)
+  pub line_refused : {shown out : List ℕ} {r : Refusal} → c ≡ Err r
+      → LinesTree ρ names n tree states shown out out (Err r)
   unfolding Counts Comes after
   line_refused {shown} {out} {r} e =
       record {
@@ -168,7 +166,7 @@ module _ {ρ : Rules} {names n : ℕ} {tree states : List ℕ} {c : Counting} (h
         memory = refl;
       }
 
-  pub line_written : (shown : List ℕ) {out out' : List ℕ} {t : Total} {r : Outcome} → c ≡ counting.Counted t
+  pub line_written : (shown : List ℕ) {out out' : List ℕ} {t : Total} {r : Outcome} → c ≡ Ok t
       → Delivers (pattern_line shown t.yes t.unknown t.no n) out out' r
       → LinesTree ρ names n tree states shown out out' r
   unfolding Counts totals_line

@@ -8,7 +8,7 @@
 use Rattle.std.specs.Prelude.{ℕ, ◌≤◌, ◌≡◌, List, ◌∷◌, length}
 use Rattle.alf.specs.declared.Rules.{Rules}
 use Rattle.alf.specs.declared.Sort.TheVariants as sort
-use Rattle.basics.specs.declared.Outcome.{Outcome}
+use Rattle.basics.specs.Refusing.{Outcome}
 use Rattle.basics.specs.Words.{listed}
 use Rattle.basics.specs.Memory.{after, front}
 use Rattle.alf.specs.Expressions.{Vector}

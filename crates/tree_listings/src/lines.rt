@@ -2,8 +2,8 @@
 ghost use Rattle.tree_listings.specs.TreeTexts.{LinesTree};
 
 use alf::Rules;
-use basics::Outcome;
-use matching_calls::matching::{Counting, totals};
+use basics::Refusal;
+use matching_calls::matching::totals;
 use table_lines::lines::write_line;
 
 // The line of a pattern, shown as `pattern`, with the totals of its tree; its length. Refused with 18, 10, 15 or 9.
@@ -15,13 +15,10 @@ pub fn write_totals(
     states: &[u8],
     pattern: &[u8],
     out: &mut [u8],
-) -> Outcome
+) -> Result<usize, Refusal>
     ensures { LinesTree rules names n tree.now states.now pattern.now
         out.old out.new result }
 {
-    let counted = totals(rules, names, n, tree, states);
-    match counted {
-        Counting::Refused(r) => Outcome::Refused(r),
-        Counting::Counted(t) => write_line(pattern, t, n as u32, out),
-    }
+    let t = totals(rules, names, n, tree, states)?;
+    write_line(pattern, t, n as u32, out)
 }

@@ -7,10 +7,11 @@ ghost use Rattle.matching_calls.specs.Matching.{expression, answers_on};
 ghost use Rattle.tree_listings.specs.TreeTexts.{pattern_listing, ListsTree, Answered, Filling, Holding};
 
 use alf::{Rules, Sort};
-use basics::Outcome;
+use basics::Refusal;
 use column_listings::listings::write_listing;
 use correction::corrections::rewrite;
-use judging::checks::{Verdict, check_rows};
+use judging::checks::check_rows;
+use matcher::scenes::Scene;
 use rewriting::lists::alternatives_of;
 
 // The answers of an accepted tree at n rows, into a list of n.
@@ -27,27 +28,14 @@ fn fill_answers(
         states.now) }
 {
     let a = alternatives_of(rules, tree, names);
-    let count = a.count;
-    let step_count = a.step_count;
-    let test_count = a.test_count;
-    let steps = a.steps;
-    let tests = a.tests;
-    let edges = a.edges;
-    let operands = a.operands;
-    rewrite(
+    let lists = a.lists();
+    let scene = Scene {
         rules,
         tree,
         names,
         states,
-        &steps[..count],
-        &tests[..step_count],
-        &edges[..test_count],
-        &operands[..test_count],
-        n,
-        0,
-        n,
-        answers,
-    )
+    };
+    rewrite(&scene, &lists, n, 0, n, answers)
 }
 
 // They are found, and listed.
@@ -59,7 +47,7 @@ fn list_filled(
     states: &[u8],
     answers: &mut [u8],
     out: &mut [u8],
-) -> Outcome
+) -> Result<usize, Refusal>
     requires { Filling rules names (length times.now) tree.now states.now answers.old }
     ensures { Delivers (pattern_listing rules names times.now states.now
         (expression rules tree.now names)) out.old out.new result }
@@ -77,7 +65,7 @@ fn list_front(
     states: &[u8],
     answers: &mut [u8],
     out: &mut [u8],
-) -> Outcome
+) -> Result<usize, Refusal>
     requires { Holding rules names (length times.now) tree.now states.now answers.old }
     ensures { Delivers (pattern_listing rules names times.now states.now
         (expression rules tree.now names)) out.old out.new result }
@@ -94,7 +82,7 @@ fn list_lent(
     states: &[u8],
     answers: &mut [u8; 65535],
     out: &mut [u8],
-) -> Outcome
+) -> Result<usize, Refusal>
     requires { Answered rules names (length times.now) tree.now states.now }
     ensures { Delivers (pattern_listing rules names times.now states.now
         (expression rules tree.now names)) out.old out.new result }
@@ -110,7 +98,7 @@ fn list_good(
     times: &[u64],
     states: &[u8],
     out: &mut [u8],
-) -> Outcome
+) -> Result<usize, Refusal>
     requires { Answered rules names (length times.now) tree.now states.now }
     ensures { Delivers (pattern_listing rules names times.now states.now
         (expression rules tree.now names)) out.old out.new result }
@@ -129,14 +117,11 @@ pub fn list(
     times: &[u64],
     states: &[u8],
     out: &mut [u8],
-) -> Outcome
+) -> Result<usize, Refusal>
     ensures { ListsTree rules names n tree.now times.now states.now
         out.old out.new result }
 {
     let lent = times.len() == n;
-    let v = check_rows(rules, names, n, lent, tree, Sort::Vector, states);
-    match v {
-        Verdict::Refused(r) => Outcome::Refused(r),
-        Verdict::Good => list_good(rules, names, tree, times, states, out),
-    }
+    check_rows(rules, names, n, lent, tree, Sort::Vector, states)?;
+    list_good(rules, names, tree, times, states, out)
 }

@@ -1,16 +1,14 @@
 -- The kind of what a byte makes, from its operands' kinds, and where it starts.
 -- Main names: none, leaf_found, one_found, pair_found, three_found; no_right, no_left, no_first, where an operand is
--- missing; ending_unique.
-use Rattle.std.specs.Prelude.{if◌then◌else◌}
+-- missing; ending_is, ending_from, ending_none.
+use Rattle.std.specs.Prelude.{Option, Some, None, if◌then◌else◌}
 use Prim.Native.Nat.{ℕ, ◌-◌, ◌<◌, ◌≤◌}
 use native.Mathlib.Omega.{arith}
 use mathlib.Core.Path.{◌≡◌, refl, ap, sym, ◌∙◌}
 use mathlib.Core.Bool.{Bool, true, false}
 use mathlib.Core.List.{List}
 use lib.ListN.{get_or, length}
-use lib.Dec.{ltb, eqb}
 use native.Mathlib.Nat.{zero-add}
-use borrow.Author.Tests.{ltb-true, ltb-false, ne_eqb}
 use Rattle.alf.specs.Expressions.{Boolean, boolean, Vector, vector}
 use Rattle.alf.specs.Decoder.{Stack, empty, broken, push, Operation, leaf_at, pair_at, three_at, one_at}
 use Rattle.alf.specs.Decoder.{is_boolean, is_vector, under, if_so, run, arity_at, stack_at}
@@ -18,37 +16,45 @@ use Rattle.basics.proofs.Bools.{never}
 use Rattle.alf.proofs.OperatorBytes.{leaf_class, pair_class, three_class, one_class}
 use Rattle.alf.proofs.Parts.{last, arity_zero, arity_one, arity_two, arity_three, deep, unders}
 use Rattle.trees.specs.Parts.{is_whole, Ends, Start}
-use Rattle.trees.specs.Sorts.{kind_of, given_one, given_two, leaf_kind, one_kind, pair_kind}
-use Rattle.trees.specs.Sorts.{three_kind, start_of, Ending}
+use Rattle.alf.specs.declared.Sort.{Sort}
+use Rattle.alf.specs.declared.Sort.TheVariants as sort
+use Rattle.trees.specs.declared.sorts.Part.{Part}
+use Rattle.trees.specs.Sorts.{kind_of, boolean_sort, vector_sort, given, leaf_kind, one_kind, pair_kind}
+use Rattle.trees.specs.Sorts.{three_kind, Ending, nothing, part}
 use Rattle.trees.proofs.Operands.{arity_some, arity_more}
-use Rattle.trees.proofs.Starts.{Going, going_first, going_on, going_part, going_done, whole_at, start_unique}
+use Rattle.trees.proofs.Starts.{Going, going_first, going_on, going_part, going_done, whole_at}
 
-boolean_kind : (s : Stack) → is_boolean s ≡ eqb (kind_of s) 1
-unfolding is_boolean kind_of
-boolean_kind empty = refl
-boolean_kind broken = refl
-boolean_kind (push (boolean c) s) = refl
-boolean_kind (push (vector p) s) = refl
+-- the sort of what is on top, as the decoder's tests have it
+boolean_top : (s : Stack) (k : Sort) → Some k ≡ kind_of s → is_boolean s ≡ boolean_sort k
+unfolding is_boolean kind_of boolean_sort
+boolean_top empty k h = cc
+boolean_top broken k h = cc
+boolean_top (push (boolean c) s) sort.Boolean h = refl
+boolean_top (push (boolean c) s) sort.Vector h = cc
+boolean_top (push (vector p) s) sort.Boolean h = cc
+boolean_top (push (vector p) s) sort.Vector h = refl
 
-vector_kind : (s : Stack) → is_vector s ≡ eqb (kind_of s) 2
-unfolding is_vector kind_of
-vector_kind empty = refl
-vector_kind broken = refl
-vector_kind (push (boolean c) s) = refl
-vector_kind (push (vector p) s) = refl
+vector_top : (s : Stack) (k : Sort) → Some k ≡ kind_of s → is_vector s ≡ vector_sort k
+unfolding is_vector kind_of vector_sort
+vector_top empty k h = cc
+vector_top broken k h = cc
+vector_top (push (boolean c) s) sort.Boolean h = refl
+vector_top (push (boolean c) s) sort.Vector h = cc
+vector_top (push (vector p) s) sort.Boolean h = cc
+vector_top (push (vector p) s) sort.Vector h = refl
 
-kind_whole : (s : Stack) → 0 < kind_of s → is_whole s ≡ true
+kind_whole : (s : Stack) (k : Sort) → kind_of s ≡ Some k → is_whole s ≡ true
 unfolding kind_of is_whole
-kind_whole empty h = absurd (omega arith)
-kind_whole broken h = absurd (omega arith)
-kind_whole (push e s) h = refl
+kind_whole empty k h = cc
+kind_whole broken k h = cc
+kind_whole (push e s) k h = refl
 
-pub whole_kind_lem : (s : Stack) → is_whole s ≡ true → 0 < kind_of s
+pub whole_kind_lem : (s : Stack) → is_whole s ≡ true → kind_of s ≡ None → ⊥
 unfolding kind_of is_whole
-whole_kind_lem empty h = never h
-whole_kind_lem broken h = never h
-whole_kind_lem (push (boolean c) s) h = omega arith
-whole_kind_lem (push (vector p) s) h = omega arith
+whole_kind_lem empty h k = never h
+whole_kind_lem broken h k = never h
+whole_kind_lem (push (boolean c) s) h k = cc
+whole_kind_lem (push (vector p) s) h k = cc
 
 -- the kind of what a choice of operations, or a stack under a condition, gives
 kind_choice : (q : Bool) (x y : Operation) (s : Stack)
@@ -56,21 +62,21 @@ kind_choice : (q : Bool) (x y : Operation) (s : Stack)
 kind_choice true x y s = refl
 kind_choice false x y s = refl
 
-so_boolean : (q : Bool) (c : Boolean) (s : Stack) → kind_of (if_so q (push (boolean c) s)) ≡ (if q then 1 else 0)
-unfolding kind_of if_so
+so_boolean : (q : Bool) (c : Boolean) (s : Stack) → kind_of (if_so q (push (boolean c) s)) ≡ given q sort.Boolean
+unfolding kind_of if_so given
 so_boolean true c s = refl
 so_boolean false c s = refl
 
-so_vector : (q : Bool) (p : Vector) (s : Stack) → kind_of (if_so q (push (vector p) s)) ≡ (if q then 2 else 0)
-unfolding kind_of if_so
+so_vector : (q : Bool) (p : Vector) (s : Stack) → kind_of (if_so q (push (vector p) s)) ≡ given q sort.Vector
+unfolding kind_of if_so given
 so_vector true p s = refl
 so_vector false p s = refl
 
-kind_broken : kind_of broken ≡ 0
+kind_broken : kind_of broken ≡ None
 unfolding kind_of
 kind_broken = refl
 
-kind_leaf : (c : Boolean) (s : Stack) → kind_of (push (boolean c) s) ≡ 1
+kind_leaf : (c : Boolean) (s : Stack) → kind_of (push (boolean c) s) ≡ Some sort.Boolean
 unfolding kind_of
 kind_leaf c s = refl
 
@@ -78,125 +84,141 @@ leaf_kind_lem : (names b : ℕ) (s : Stack) → kind_of (run (leaf_at names b) s
 unfolding leaf_at leaf_kind run
 leaf_kind_lem names b s = simp (kind_choice, kind_leaf, kind_broken)
 
-one_kind_lem : (b : ℕ) (s : Stack) → kind_of (run (one_at b) s) ≡ one_kind b (kind_of s)
-unfolding one_at one_kind given_one run
-one_kind_lem b s = simp (kind_choice, so_boolean, so_vector, boolean_kind, kind_broken)
+one_kind_lem : (b : ℕ) (s : Stack) (r : Sort) → Some r ≡ kind_of s → kind_of (run (one_at b) s) ≡ one_kind b r
+unfolding one_at one_kind run
+one_kind_lem b s r h = simp (kind_choice, so_boolean, so_vector, boolean_top s r h, kind_broken)
 
-pair_kind_lem : (b : ℕ) (s : Stack) → kind_of (run (pair_at b) s) ≡ pair_kind b (kind_of (under s)) (kind_of s)
-unfolding pair_at pair_kind given_two run
-pair_kind_lem b s = simp (kind_choice, so_boolean, so_vector, boolean_kind, vector_kind, kind_broken)
+pair_kind_lem : (b : ℕ) (s : Stack) (l r : Sort) → Some l ≡ kind_of (under s) → Some r ≡ kind_of s
+    → kind_of (run (pair_at b) s) ≡ pair_kind b l r
+unfolding pair_at pair_kind run
+pair_kind_lem b s l r h k =
+    simp (
+      kind_choice,
+      so_boolean,
+      so_vector,
+      boolean_top s r k,
+      vector_top s r k,
+      boolean_top (under s) l h,
+      vector_top (under s) l h,
+      kind_broken,
+    )
 
-three_kind_lem : (b : ℕ) (s : Stack)
-    → kind_of (run (three_at b) s) ≡ three_kind b (kind_of (under (under s))) (kind_of (under s)) (kind_of s)
+three_kind_lem : (b : ℕ) (s : Stack) (f l r : Sort) → Some f ≡ kind_of (under (under s))
+    → Some l ≡ kind_of (under s) → Some r ≡ kind_of s → kind_of (run (three_at b) s) ≡ three_kind b f l r
 unfolding three_at three_kind run
-three_kind_lem b s = simp (kind_choice, so_boolean, boolean_kind, kind_broken)
+three_kind_lem b s f l r g h k =
+    simp (
+      kind_choice,
+      so_boolean,
+      boolean_top s r k,
+      boolean_top (under s) l h,
+      boolean_top (under (under s)) f g,
+      kind_broken,
+    )
 
-pub none : (t : List ℕ) (names : ℕ) → Ending t names 0 0 (start_of 0 0)
-unfolding stack_at kind_of start_of
-none t names = record { is = refl; from = λ q. absurd (omega arith); nowhere = λ q. refl }
+-- a kind and a place, as what the bytes end with
+abbrev pub placed : Option Sort → ℕ → Option Part
+placed None m = None
+placed (Some k) m = Some (record { sort = k; start = m })
+
+pub none : (t : List ℕ) (names : ℕ) → Ending t names 0 None
+unfolding stack_at kind_of
+none t names = nothing refl
+
+-- what is known of what the bytes end with
+pub ending_is : {t : List ℕ} {names end : ℕ} {p : Part} → Ending t names end (Some p)
+    → Some p.sort ≡ kind_of (stack_at t names end)
+ending_is (part k s) = k
+
+pub ending_from : {t : List ℕ} {names end : ℕ} {p : Part} → Ending t names end (Some p) → Start t names end p.start
+ending_from (part k s) = s
+
+pub ending_none : {t : List ℕ} {names end : ℕ} → Ending t names end None → kind_of (stack_at t names end) ≡ None
+ending_none (nothing k) = k
 
 -- an expression that a byte takes has a kind
-deep_at : (k n : ℕ) (s : Stack) → k < n → deep n s → 0 < kind_of (unders k s)
+deep_at : (k n : ℕ) (s : Stack) → k < n → deep n s → kind_of (unders k s) ≡ None → ⊥
 deep_at k n s l d = whole_kind_lem (unders k s) (whole_at k n s l d)
 
 -- the last byte of the bytes before `end`, and what it makes
 module _ (t : List ℕ) (names end : ℕ) (p : 0 < end) (u : end ≤ length t) where
-  gone : 0 < kind_of (stack_at t names end) → Going t names end (end - 1) (arity_at (get_or t (end - 1) 0))
-  gone q =
-      let w : Ends t names end = record { within = u; whole = kind_whole _ q } in
+  gone : {k : Sort} → kind_of (stack_at t names end) ≡ Some k
+      → Going t names end (end - 1) (arity_at (get_or t (end - 1) 0))
+  gone {k} q =
+      let w : Ends t names end = record { within = u; whole = kind_whole _ k q } in
       rw zero-add at (going_on t names end end 1 (going_first w) (omega arith))
 
-  ended : {v : ℕ} (m : ℕ) → v ≡ kind_of (stack_at t names end)
+  ended : (v : Option Sort) (m : ℕ) → v ≡ kind_of (stack_at t names end)
       → (Going t names end (end - 1) (arity_at (get_or t (end - 1) 0)) → Start t names end m)
-      → Ending t names end v (start_of v m)
-  unfolding start_of
-  ended {v} m e f =
-      record {
-        is = e;
-        from = λ q. let z : v ≡ 0 → ⊥ = λ o. omega arith in rw (ne_eqb _ _ z) (f (gone (rw e at q)));
-        nowhere = λ o. rw o refl;
-      }
+      → Ending t names end (placed v m)
+  ended None m e f = nothing (sym e)
+  ended (Some k) m e f = part e (f (gone (sym e)))
 
-  absent : (Going t names end (end - 1) (arity_at (get_or t (end - 1) 0)) → ⊥) → Ending t names end 0 (start_of 0 0)
-  absent f = ended 0 (sym (go (ltb 0 (kind_of (stack_at t names end))) refl)) (λ g. absurd (f g))
+  absent : (Going t names end (end - 1) (arity_at (get_or t (end - 1) 0)) → ⊥) → Ending t names end None
+  absent f = nothing (go (kind_of (stack_at t names end)) refl)
     where
-      go : (q : Bool) → ltb 0 (kind_of (stack_at t names end)) ≡ q → kind_of (stack_at t names end) ≡ 0
-      go true e = absurd (f (gone (ltb-true _ _ e)))
-      go false e = let l = ltb-false 0 (kind_of (stack_at t names end)) e in omega arith
+      go : (k : Option Sort) → kind_of (stack_at t names end) ≡ k → kind_of (stack_at t names end) ≡ None
+      go None e = e
+      go (Some k) e = absurd (f (gone e))
 
-  pub leaf_found : {v : ℕ} → get_or t (end - 1) 0 < 40 → v ≡ leaf_kind names (get_or t (end - 1) 0)
-      → Ending t names end v (start_of v (end - 1))
-  leaf_found k e =
-      ended (end - 1) (rw (last t names end p, leaf_class names _ k, leaf_kind_lem) e)
+  pub leaf_found : {v : Option Sort} → get_or t (end - 1) 0 < 40 → v ≡ leaf_kind names (get_or t (end - 1) 0)
+      → Ending t names end (placed v (end - 1))
+  leaf_found {v} k e =
+      ended v (end - 1) (rw (last t names end p, leaf_class names _ k, leaf_kind_lem) e)
       (λ g. going_done (rw (arity_zero _ k) at g) (omega arith))
 
-  module _ {r m : ℕ} (a : Ending t names (end - 1) r m) where
-    pub no_right : 40 ≤ get_or t (end - 1) 0 → r ≡ 0 → Ending t names end 0 (start_of 0 0)
+  pub no_right : Ending t names (end - 1) None → 40 ≤ get_or t (end - 1) 0 → Ending t names end None
+  unfolding unders
+  no_right a k = absent (λ g. deep_at 0 _ _ (arity_some _ k) g.has (ending_none a))
+
+  module _ {r : Part} (a : Ending t names (end - 1) (Some r)) where
+    pub one_found : {v : Option Sort} → 64 ≤ get_or t (end - 1) 0 → v ≡ one_kind (get_or t (end - 1) 0) r.sort
+        → Ending t names end (placed v r.start)
+    one_found {v} k e =
+        ended v r.start (rw (last t names end p, one_class names _ k, one_kind_lem _ _ r.sort (ending_is a)) e)
+        (λ g. going_done (going_part t names end _ 0 r.start (rw (arity_one _ k) at g) (ending_from a)) (omega arith))
+
+    pub no_left : Ending t names r.start None → 40 ≤ get_or t (end - 1) 0 → get_or t (end - 1) 0 < 64
+        → Ending t names end None
     unfolding unders
-    no_right k z =
-        absent (λ g. let d = deep_at 0 _ _ (arity_some _ k) g.has in let i = a.is in omega arith)
+    no_left c k j =
+        absent (λ g. deep_at 1 _ _ (arity_more _ k j) g.has (ap kind_of (sym (ending_from a).left) ∙ ending_none c))
 
-    module _ (q : 0 < r) where
-      pub one_found : {v : ℕ} → 64 ≤ get_or t (end - 1) 0 → v ≡ one_kind (get_or t (end - 1) 0) r
-          → Ending t names end v (start_of v m)
-      one_found k e =
-          ended m (rw (last t names end p, one_class names _ k, one_kind_lem, ← a.is) e)
-          (λ g. going_done (going_part t names end _ 0 m (rw (arity_one _ k) at g) (a.from q)) (omega arith))
+    module _ {l : Part} (c : Ending t names r.start (Some l)) where
+      left_is : Some l.sort ≡ kind_of (under (stack_at t names (end - 1)))
+      left_is = ending_is c ∙ ap kind_of (ending_from a).left
 
-      module _ {l o : ℕ} (c : Ending t names m l o) where
-        pub no_left : 40 ≤ get_or t (end - 1) 0 → get_or t (end - 1) 0 < 64 → l ≡ 0
-            → Ending t names end 0 (start_of 0 0)
-        unfolding unders
-        no_left k j z =
-            absent (λ g.
-            let d = deep_at 1 _ _ (arity_more _ k j) g.has in
-            let i = c.is ∙ ap kind_of (a.from q).left in
-            omega arith)
+      pub pair_found : {v : Option Sort} → 40 ≤ get_or t (end - 1) 0 → get_or t (end - 1) 0 < 60
+          → v ≡ pair_kind (get_or t (end - 1) 0) l.sort r.sort → Ending t names end (placed v l.start)
+      pair_found {v} k j e =
+          ended v l.start
+          (rw (last t names end p, pair_class names _ k j, pair_kind_lem _ _ l.sort r.sort left_is (ending_is a)) e)
+          (λ g.
+          let h = going_part t names end _ 1 r.start (rw (arity_two _ k j) at g) (ending_from a) in
+          going_done (going_part t names end r.start 0 l.start h (ending_from c)) (omega arith))
 
-        module _ (w : 0 < l) where
-          pub pair_found : {v : ℕ} → 40 ≤ get_or t (end - 1) 0 → get_or t (end - 1) 0 < 60
-              → v ≡ pair_kind (get_or t (end - 1) 0) l r → Ending t names end v (start_of v o)
-          pair_found k j e =
-              ended o
-              (rw (last t names end p, pair_class names _ k j, pair_kind_lem, ← (a.from q).left, ← a.is, ← c.is) e)
-              (λ g.
-              let h = going_part t names end _ 1 m (rw (arity_two _ k j) at g) (a.from q) in
-              going_done (going_part t names end m 0 o h (c.from w)) (omega arith))
+      second_is : kind_of (under (under (stack_at t names (end - 1)))) ≡ kind_of (stack_at t names l.start)
+      second_is = ap kind_of (sym ((ending_from c).left ∙ ap under (ending_from a).left))
 
-          module _ {f n : ℕ} (y : Ending t names o f n) where
-            pub no_first : 60 ≤ get_or t (end - 1) 0 → get_or t (end - 1) 0 < 64 → f ≡ 0
-                → Ending t names end 0 (start_of 0 0)
-            unfolding unders
-            no_first k j z =
-                absent (λ g.
-                let h = rw (arity_three _ k j) at g.has in
-                let d = deep_at 2 3 _ (omega arith) h in
-                let i = y.is ∙ ap kind_of ((c.from w).left ∙ ap under (a.from q).left) in
-                omega arith)
+      pub no_first : Ending t names l.start None → 60 ≤ get_or t (end - 1) 0 → get_or t (end - 1) 0 < 64
+          → Ending t names end None
+      unfolding unders
+      no_first y k j =
+          absent (λ g.
+          let h = rw (arity_three _ k j) at g.has in
+          deep_at 2 3 _ (omega arith) h (second_is ∙ ending_none y))
 
-            pub three_found : {v : ℕ} → 60 ≤ get_or t (end - 1) 0 → get_or t (end - 1) 0 < 64 → 0 < f
-                → v ≡ three_kind (get_or t (end - 1) 0) f l r → Ending t names end v (start_of v n)
-            three_found k j x e =
-                ended n
-                (rw (last t names end p, three_class names _ k j, three_kind_lem)
-                (rw (← (a.from q).left, ← (c.from w).left, ← a.is, ← c.is, ← y.is) e))
-                (λ g.
-                let h = going_part t names end _ 2 m (rw (arity_three _ k j) at g) (a.from q) in
-                let i = going_part t names end m 1 o h (c.from w) in
-                going_done (going_part t names end o 0 n i (y.from x)) (omega arith))
-
--- bytes end with one thing only
-pub ending_unique : {t : List ℕ} {names end k m k' m' : ℕ} → Ending t names end k m
-    → Ending t names end k' m'
-    → (k ≡ k') × (m ≡ m')
-ending_unique {k = k} {m = m} {k' = k'} {m' = m'} x y = (x.is ∙ sym y.is, go (ltb 0 k) refl)
-  where
-    same : k ≡ k'
-    same = x.is ∙ sym y.is
-
-    go : (q : Bool) → ltb 0 k ≡ q → m ≡ m'
-    go true h = let l = ltb-true 0 k h in start_unique (x.from l) (y.from (rw same at l))
-    go false h =
-        let l = ltb-false 0 k h in
-        let e = same in
-        x.nowhere (omega arith) ∙ sym (y.nowhere (omega arith))
+      pub three_found : {f : Part} {v : Option Sort} → Ending t names l.start (Some f)
+          → 60 ≤ get_or t (end - 1) 0 → get_or t (end - 1) 0 < 64
+          → v ≡ three_kind (get_or t (end - 1) 0) f.sort l.sort r.sort → Ending t names end (placed v f.start)
+      three_found {f} {v} y k j e =
+          ended v f.start
+          (rw (
+            last t names end p,
+            three_class names _ k j,
+            three_kind_lem _ _ f.sort l.sort r.sort (ending_is y ∙ sym second_is) left_is (ending_is a),
+          ) e)
+          (λ g.
+          let h = going_part t names end _ 2 r.start (rw (arity_three _ k j) at g) (ending_from a) in
+          let i = going_part t names end r.start 1 l.start h (ending_from c) in
+          going_done (going_part t names end l.start 0 f.start i (ending_from y)) (omega arith))

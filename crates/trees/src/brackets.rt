@@ -1,5 +1,5 @@
 // How deep the brackets nest in an expression's text with only needed brackets.
-ghost use Rattle.std.specs.Prelude.{◌≡◌, ◌+◌, ◌<◌, ◌≤◌, min, max, ltb, if◌then◌else◌};
+ghost use Rattle.std.specs.Prelude.{◌≡◌, ◌+◌, ◌<◌, ◌≤◌, min, ltb, if◌then◌else◌};
 ghost use Rattle.trees.specs.Parts.{Ends, expression_at};
 ghost use Rattle.trees.specs.Brackets.{level_at, depth_of};
 
@@ -8,22 +8,17 @@ use crate::parts;
 // The levels of the bytes 40 to 55: & | ^ ~^ == != > < >= <= and -> <-> &> <&> & |.
 const LEVELS: [u8; 16] = [3, 5, 2, 2, 2, 2, 2, 2, 2, 2, 4, 4, 4, 4, 3, 5];
 
+#[tactic(auto, unfolding(crate::specs::Brackets::level_at))]
 fn level(b: u8) -> u8
     ensures { result ≡ level_at b }
 {
-    if b < 40 {
-        return 0;
+    match b {
+        0..=39 => 0,
+        40..=55 => LEVELS[(b - 40) as usize],
+        56..=59 => 3,
+        60..=63 => 6,
+        _ => 1,
     }
-    if b < 56 {
-        return LEVELS[(b - 40) as usize];
-    }
-    if b < 60 {
-        return 3;
-    }
-    if b < 64 {
-        return 6;
-    }
-    1
 }
 
 // The depth of an operand whose last byte is `b`, in a place that takes levels up to `place`; 33 stands for more.
@@ -34,13 +29,7 @@ fn bracket(place: u8, b: u8, depth: usize) -> usize
     if level(b) <= place {
         return depth;
     }
-    if depth < 33 { depth + 1 } else { 33 }
-}
-
-fn deeper(x: usize, y: usize) -> usize
-    ensures { result ≡ max x y }
-{
-    if x < y { y } else { x }
+    (depth + 1).min(33)
 }
 
 // How deep the brackets of the expression that ends at `end` nest; 33 stands for more than 32.
@@ -62,9 +51,9 @@ pub fn depth_of(tree: &[u8], end: usize, names: usize) -> usize
     if b < 60 {
         let place = level(b);
         let x = bracket(place, tree[middle - 1], left);
-        return deeper(x, bracket(place - 1, tree[at - 1], right));
+        return x.max(bracket(place - 1, tree[at - 1], right));
     }
     let start = crate::parts::start_of(tree, middle, names);
     let first = depth_of(tree, start, names);
-    deeper(bracket(5, tree[start - 1], first), deeper(left, right))
+    bracket(5, tree[start - 1], first).max(left.max(right))
 }

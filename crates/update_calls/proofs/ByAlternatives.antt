@@ -8,8 +8,8 @@ use Rattle.alf.specs.Traces.{corrected, last_rewritten}
 use Rattle.basics.specs.Words.{listed}
 use Rattle.basics.specs.Memory.{placed}
 use Rattle.correction.specs.Corrections.{Corrects}
-use Rattle.rewriting.specs.declared.lists.Alternatives.{Alternatives}
-use Rattle.rewriting.specs.Lists.{Holds}
+use Rattle.alternatives.specs.declared.lists.Lists.{Lists}
+use Rattle.rewriting.specs.Lists.{StandFor}
 use Rattle.update_calls.specs.Correcting.{CorrectsTree}
 use Rattle.matching_calls.proofs.ByAlternatives.{xs, numbers_on, steps_are}
 
@@ -19,7 +19,7 @@ same_rewritten : (answers : List ℕ) (n r : ℕ) {k k' : ℕ} {f g : ℕ → �
 same_rewritten answers n r =
     ap₂ (λ (k : ℕ) (f : ℕ → ℕ). placed answers r (listed r (last_rewritten k n r + 1 - r) f))
 
-module _ {ρ : Rules} {names : ℕ} {tree : List ℕ} {a : Alternatives} (h : Holds ρ tree names a) where
+module _ {ρ : Rules} {names : ℕ} {tree : List ℕ} {ls : Lists} (h : StandFor ρ tree names ls) where
   pub tree_corrects : {n r : ℕ} {states answers new states' answers' : List ℕ}
       → Corrects ρ names (xs h) n r states answers new states' answers'
       → CorrectsTree ρ names n tree states answers r new states' answers'

@@ -1,38 +1,47 @@
 -- What the correction comes to, case by case.
 --   judges_correction     verdicts put together: of the trace, of the new row, of its place
 --   correction_asked, correction_refused, correction_told
+use Rattle.std.specs.Prelude.{Err, Ok}
 use mathlib.Core.Path.{◌≡◌, refl}
 use mathlib.Core.Bool.{Bool}
-use mathlib.Core.List.{List}
+use mathlib.Core.List.{List, ◌++◌}
 use Prim.Native.Nat.{ℕ, ◌<◌}
 use lib.ListN.{length}
 use Rattle.basics.specs.declared.Refusal.{Refusal}
 use Rattle.alf.specs.declared.Rules.{Rules}
 use Rattle.alf.specs.declared.Sort.TheVariants.{Vector}
-use Rattle.basics.specs.declared.Outcome.TheVariants as outcome
 use Rattle.alf.specs.Refusals.{Comes}
 use Rattle.acceptance.specs.Accepted.{Accepted}
 use Rattle.basics.specs.Deciding.{Decides}
 use Rattle.states.specs.FirstBadCode.{Codes}
-use Rattle.judging.specs.declared.checks.Verdict.{Verdict}
-use Rattle.judging.specs.declared.checks.Verdict.TheVariants.{Good, Refused}
-use Rattle.judging.specs.Orders.{codes, place, next_of, Judged, JudgesTrace, JudgesCorrection}
+use Rattle.judging.specs.Orders.{Verdict}
+use Rattle.judging.specs.Orders.{codes, place, Judged, JudgesTrace, JudgesCorrection}
 use Rattle.basics.specs.Memory.{after}
 use Rattle.update_calls.specs.Correcting.{Lists, correction_order, Correction, TreeCorrection, CorrectsTree}
-use Rattle.judging.proofs.Verdicts.{judged_as, judged_good, judged_not, judged_next, judged_facts}
+use Rattle.judging.proofs.Verdicts.{judged_as, judged_good, judged_not, judged_stop, judged_go, judged_facts}
 use Rattle.matching_calls.proofs.Matches.{rows_asked}
 
-pub judges_correction : {fits good : Bool} {states new : List ℕ} {n row : ℕ} {a b ab c r : Verdict}
-    → JudgesTrace fits good states a
-    → Judged (codes new) (Codes new) b
-    → Judged (place n row) (row < n) c
-    → ab ≡ next_of a b → r ≡ next_of ab c
-    → JudgesCorrection fits good states new n row r
-judges_correction x y z d e =
-    rw (e, d)
-    (record {
-      is = judged_facts (λ (((f, g, s), w), k). (f, g, (s, w, k))) (judged_next (judged_next x.is y) z);
-    })
+-- verdicts one after the other
+module _ {fits good : Bool} {states new : List ℕ} {n row : ℕ} {a : Verdict} (x : JudgesTrace fits good states a) where
+  pub trace_refused : {r : Refusal} → a ≡ Err r → JudgesCorrection fits good states new n row (Err r)
+  trace_refused e =
+      record {
+        is = judged_facts (λ ((f, g, s), (w, k)). (f, g, (s, w, k)))
+            (judged_stop (codes new ++ place n row) {G = Codes new × (row < n)} x.is e);
+      }
+
+  module _ (d : a ≡ (Ok tt)) {b : Verdict} (y : Judged (codes new) (Codes new) b) where
+    pub new_refused : {r : Refusal} → b ≡ Err r → JudgesCorrection fits good states new n row (Err r)
+    new_refused e =
+        record {
+          is = judged_facts (λ ((f, g, s), (w, k)). (f, g, (s, w, k)))
+              (judged_go x.is d (judged_stop (place n row) {G = row < n} y e));
+        }
+
+    pub new_good : b ≡ (Ok tt) → {c : Verdict} → Judged (place n row) (row < n) c
+        → JudgesCorrection fits good states new n row c
+    new_good e z =
+        record { is = judged_facts (λ ((f, g, s), (w, k)). (f, g, (s, w, k))) (judged_go x.is d (judged_go y e z)) }
 
 module _ {ρ : Rules} {names n : ℕ} {tree states : List ℕ} (answers : List ℕ) {row : ℕ} {new : List ℕ} {fits good : Bool}
     {v : Verdict}
@@ -43,7 +52,7 @@ module _ {ρ : Rules} {names n : ℕ} {tree states : List ℕ} (answers : List �
       × (Codes states × Codes new × (row < n))) v
   as_correction = judged_as fits good _ _ f (λ x. g) _ j.is
 
-  pub correction_asked : v ≡ Good → TreeCorrection ρ names n tree states answers row new
+  pub correction_asked : v ≡ (Ok tt) → TreeCorrection ρ names n tree states answers row new
   correction_asked e =
       let (l, a, (s, w, r)) = (judged_good as_correction e).1 in
       record {
@@ -54,15 +63,15 @@ module _ {ρ : Rules} {names n : ℕ} {tree states : List ℕ} (answers : List �
         codes = w;
       }
 
-  pub correction_refused : {r : Refusal} → v ≡ Refused r
-      → Correction ρ names n tree states answers row new states answers (outcome.Refused r)
+  pub correction_refused : {r : Refusal} → v ≡ Err r
+      → Correction ρ names n tree states answers row new states answers (Err r)
   unfolding Comes after
   correction_refused e =
       record { comes = judged_not as_correction e; states_memory = refl; answers_memory = refl }
 
-  pub correction_told : {states' answers' : List ℕ} → v ≡ Good
+  pub correction_told : {states' answers' : List ℕ} → v ≡ (Ok tt)
       → CorrectsTree ρ names n tree states answers row new states' answers'
-      → Correction ρ names n tree states answers row new states' answers' (outcome.Done 1)
+      → Correction ρ names n tree states answers row new states' answers' (Ok 1)
   unfolding Comes after
   correction_told e k =
       record {

@@ -5,8 +5,8 @@ ghost use Rattle.update_calls.specs.Correcting.{Lists, TreeCorrection, CorrectsT
 
 use acceptance::accepting::accepts;
 use alf::{RowNo, Rules, Sort};
-use basics::Outcome;
-use judging::checks::{Verdict, judge, judge_codes, judge_place, next, rows_fit};
+use basics::Refusal;
+use judging::checks::{judge, judge_codes, judge_place, rows_fit};
 use rewriting::lists::alternatives_of;
 
 // Whether the lists of a correction fit: the trace, an answer for each row, a new state for each name.
@@ -30,12 +30,12 @@ pub fn judge_correction(
     new: &[u8],
     n: usize,
     row: usize,
-) -> Verdict
+) -> Result<(), Refusal>
     ensures { JudgesCorrection fits good states.now new.now n row result }
 {
-    let trace = judge(fits, good, states);
-    let codes = judge_codes(new);
-    next(next(trace, codes), judge_place(n, row))
+    judge(fits, good, states)?;
+    judge_codes(new)?;
+    judge_place(n, row)
 }
 
 // An accepted tree, and lists that fit.
@@ -55,27 +55,8 @@ fn correct_tree(
         new.now states.new answers.new }
 {
     let a = alternatives_of(rules, tree, names);
-    let count = a.count;
-    let step_count = a.step_count;
-    let test_count = a.test_count;
-    let steps = a.steps;
-    let tests = a.tests;
-    let edges = a.edges;
-    let operands = a.operands;
-    correction::corrections::correct(
-        rules,
-        tree,
-        names,
-        &steps[..count],
-        &tests[..step_count],
-        &edges[..test_count],
-        &operands[..test_count],
-        n,
-        states,
-        answers,
-        row,
-        new,
-    )
+    let lists = a.lists();
+    correction::corrections::correct(rules, tree, names, &lists, n, states, answers, row, new)
 }
 
 // The new states become row `row`, and the answers from there on that can depend on it are written anew; one row.
@@ -88,18 +69,13 @@ pub fn correct(
     answers: &mut [u8],
     row: RowNo,
     new: &[u8],
-) -> Outcome
+) -> Result<usize, Refusal>
     ensures { Correction rules names n tree.now states.old answers.old row.0
         new.now states.new answers.new result }
 {
     let fits = correction_fits(names, n, states.len(), answers.len(), new.len());
     let good = accepts(rules, tree, names, Sort::Vector);
-    let v = judge_correction(fits, good, states, new, n, row.0 as usize);
-    match v {
-        Verdict::Refused(r) => Outcome::Refused(r),
-        Verdict::Good => {
-            correct_tree(rules, names, n, tree, states, answers, row, new);
-            Outcome::Done(1)
-        }
-    }
+    judge_correction(fits, good, states, new, n, row.0 as usize)?;
+    correct_tree(rules, names, n, tree, states, answers, row, new);
+    Ok(1)
 }

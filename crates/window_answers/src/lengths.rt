@@ -1,22 +1,10 @@
 // How many events the longest window has on which a vector expression can answer other than no, by recursion over the
 // tree in its array: each operand ends before its operator.
-ghost use Rattle.std.specs.Prelude.{◌≡◌, min, max};
+ghost use Rattle.std.specs.Prelude.{◌≡◌};
 ghost use Rattle.trees.specs.Parts.{EndsVector, vector_at};
 ghost use Rattle.window_answers.specs.Lengths.{longest};
 
 use trees::parts::start_of;
-
-pub fn smaller(x: usize, y: usize) -> usize
-    ensures { result ≡ min x y }
-{
-    if x < y { x } else { y }
-}
-
-fn larger(x: usize, y: usize) -> usize
-    ensures { result ≡ max x y }
-{
-    if x < y { y } else { x }
-}
 
 // The longest window of the vector expression that ends at `end`: on windows of more events it answers no.
 pub fn longest(tree: &[u8], end: usize, names: usize) -> usize
@@ -40,5 +28,5 @@ pub fn longest(tree: &[u8], end: usize, names: usize) -> usize
     if b < 54 {
         return x + y;
     }
-    larger(x, y)
+    x.max(y)
 }

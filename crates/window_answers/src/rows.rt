@@ -14,11 +14,10 @@ ghost use Rattle.window_answers.specs.Spans.{Pattern, pinned_on, pinned_best, an
 ghost use Rattle.answer_table.specs.Tables.{Ending, stored};
 
 use crate::filling::fill;
-use crate::lengths::{longest, smaller};
+use crate::lengths::longest;
 use alf::{Answer, Rules};
 use answer_table::cuts::read;
 use evaluator::ranks::name_of;
-use states::edges::greater;
 use steady_pins::finding::find;
 
 // A table with nothing worked out.
@@ -65,10 +64,8 @@ fn best_of(table: &[u8; 65536], base: usize, n: usize) -> u8
     ensures { result ≡ greatest n (λ a. stored table.now base a n) }
 {
     let mut best: u8 = 0;
-    let mut a = 0;
-    while a < n {
-        best = greater(best, read(table, base, a, n));
-        a += 1;
+    for a in 0..n {
+        best = best.max(read(table, base, a, n));
     }
     best
 }
@@ -90,7 +87,7 @@ pub fn best_with(
     ensures { result ≡ pinned_best rules tree.now pins.now names states.now end
         row }
 {
-    let n = smaller(row, longest(tree, end, names));
+    let n = row.min(longest(tree, end, names));
     let mut table = blank();
     fill(
         rules,

@@ -4,6 +4,7 @@
 --   under_old, not_old                           accepted, and not, under the rules that are asked
 --   refused_names, refused_tree, names_passed    18, 12 and 10, before the text is made
 --   laid, lined, wrote                           an accepted tree is laid out, spelled and delivered
+use Rattle.std.specs.Prelude.{Err, Ok}
 use Prim.Native.Nat.{ℕ, ◌+◌, ◌/◌, ◌<◌, ◌≤◌}
 use native.Mathlib.Omega.{arith}
 use mathlib.Core.Path.{◌≡◌, refl, sym, ap, ◌∙◌}
@@ -16,8 +17,7 @@ use Rattle.alf.specs.declared.Sort.{Sort}
 use Rattle.alf.specs.declared.Rules.{Rules}
 use Rattle.basics.specs.declared.Refusal.{Refusal}
 use Rattle.basics.specs.Refusing.{refusal}
-use Rattle.basics.specs.declared.Outcome.{Outcome}
-use Rattle.basics.specs.declared.Outcome.TheVariants.{Done, Refused}
+use Rattle.basics.specs.Refusing.{Outcome}
 use Rattle.alf.specs.Names.{names_in, is_name, name_at}
 use Rattle.alf.specs.Expressions.{Expression, ExpressionOver}
 use Rattle.alf.specs.Values.{old_rules_lem}
@@ -49,7 +49,7 @@ use Rattle.spelling.proofs.Lines.{line_text, text_short, signs_spellable}
 
 -- 1, 9, or the text at the front
 pub delivered_long : {w out : List ℕ} → 4096 < length w
-    → Delivers w out out (Refused (refusal 1 4096))
+    → Delivers w out out (Err (refusal 1 4096))
 unfolding Comes RefusedWith end_order after
 delivered_long h =
     record {
@@ -58,7 +58,7 @@ delivered_long h =
     }
 
 pub delivered_short : {w out : List ℕ} → length w ≤ 4096 → length out < length w
-    → Delivers w out out (Refused (refusal 9 (length w)))
+    → Delivers w out out (Err (refusal 9 (length w)))
 unfolding Comes RefusedWith end_order after
 delivered_short h k =
     record {
@@ -71,7 +71,7 @@ delivered_short h k =
     }
 
 pub delivered : {w out out' : List ℕ} {r : ℕ} → length w ≤ 4096 → length w ≤ length out
-    → Put out 0 w out' r → Delivers w out out' (Done (length w))
+    → Put out 0 w out' r → Delivers w out out' (Ok (length w))
 unfolding Comes Passed end_order after
 delivered {w} {out} h k p =
     let e : ◌≡◌ {A = ℕ} (0 + length w) (length w) = omega arith in
@@ -108,13 +108,13 @@ module _ (names tree : List ℕ) (sort : Sort) (room : ℕ) where
   names_refused n p (inr (m, inl x)) = inr (m, inl x)
   names_refused n p (inr (m, inr (l, x))) = absurd x
 
-  comes_names : (made : ℕ → Type 0) (r : Refusal) → Comes (names_order names) made (Refused r)
-      → Comes (order names tree sort room) (done names tree) (Refused r)
+  comes_names : (made : ℕ → Type 0) (r : Refusal) → Comes (names_order names) made (Err r)
+      → Comes (order names tree sort room) (done names tree) (Err r)
   unfolding Comes
   comes_names made r x = record { by = names_refused r.number r.place x.by; bare = x.bare }
 
   comes_ten : Named names → (Accepted old_rules_lem (names_in names) sort tree → ⊥)
-      → Comes (order names tree sort room) (done names tree) (Refused (refusal 10 0))
+      → Comes (order names tree sort room) (done names tree) (Err (refusal 10 0))
   unfolding Comes RefusedWith Passed order
   comes_ten h f =
       record {
@@ -126,8 +126,8 @@ module _ (names tree : List ℕ) (sort : Sort) (room : ℕ) where
       → Comes (end_order (text_at names tree) room) (done names tree) r
       → Comes (order names tree sort room) (done names tree) r
   unfolding Comes RefusedWith Passed order end_order
-  comes_end h a (Done k) x = ((h.passed.0, (h.passed.1.0, ((λ p y. y.given a), x.0))), x.1)
-  comes_end h a (Refused q) x =
+  comes_end h a (Ok k) x = ((h.passed.0, (h.passed.1.0, ((λ p y. y.given a), x.0))), x.1)
+  comes_end h a (Err q) x =
       record {
         by = inr (h.passed.0, inr (h.passed.1.0, inr ((λ p y. y.given a), x.by)));
         bare = x.bare;
@@ -144,14 +144,14 @@ module _ {ρ : Rules} {n : ℕ} {sort : Sort} {tree : List ℕ} (e : ρ ≡ old_
 -- refused before the text is made
 pub refused_names : {names tree : List ℕ} {sort : Sort} {out : List ℕ} (made : ℕ → Type 0) {r : Refusal}
     {o : Outcome}
-    → Comes (names_order names) made o → o ≡ Refused r → Writes names tree sort out out (Refused r)
+    → Comes (names_order names) made o → o ≡ Err r → Writes names tree sort out out (Err r)
 unfolding after
 refused_names {names} {tree} {sort} {out} made {r} x e =
     record { outcome = comes_names names tree sort (length out) made r (rw e at x); memory = refl }
 
 pub refused_tree : {names tree : List ℕ} {sort : Sort} {out : List ℕ} {o : Outcome}
     → Named names → (Accepted old_rules_lem (names_in names) sort tree → ⊥)
-    → o ≡ Refused (refusal 10 0)
+    → o ≡ Err (refusal 10 0)
     → Writes names tree sort out out o
 unfolding after
 refused_tree {names} {tree} {sort} {out} h f e =
@@ -159,7 +159,7 @@ refused_tree {names} {tree} {sort} {out} h f e =
 
 pub names_passed : {names : List ℕ} (made : ℕ → Type 0) {k : ℕ} {o : Outcome}
     → Comes (names_order names) made o
-    → o ≡ Done k → Named names
+    → o ≡ Ok k → Named names
 unfolding Comes
 names_passed made x e = record { passed = (rw e at x).0 }
 

@@ -9,7 +9,7 @@ use Rattle.std.specs.Prelude.{ℕ, ◌≤◌, ◌<◌, ◌≡◌, List, [], ◌�
 use Rattle.alf.specs.Names.{names_in}
 use Rattle.alf.specs.declared.Sort.{Sort}
 use Rattle.alf.specs.Values.{old_rules_lem}
-use Rattle.basics.specs.declared.Outcome.{Outcome}
+use Rattle.basics.specs.Refusing.{Outcome}
 use Rattle.alf.specs.Refusals.{Order, check, bad_lists, bad_slot, cannot_be, too_long, no_room}
 use Rattle.alf.specs.Refusals.{Passed, Comes}
 use Rattle.names.specs.Check.{Slots, names_order}

@@ -11,7 +11,7 @@ ghost use Rattle.basics.specs.Memory.{Holds};
 use crate::layout::emit;
 use acceptance::accepting::accepts;
 use alf::Sort;
-use basics::Outcome;
+use basics::Refusal;
 use basics::puts::put;
 use basics::refusing::refuse;
 use names::check_names;
@@ -36,7 +36,7 @@ fn spell_out(names: &[u8], list: &[u8; 1024], count: usize, buffer: &mut [u8; 33
 }
 
 // A text: 1, 9, or handed over.
-fn deliver(text: &[u8], out: &mut [u8]) -> Outcome
+fn deliver(text: &[u8], out: &mut [u8]) -> Result<usize, Refusal>
     ensures { Delivers text.now out.old out.new result }
 {
     let size = text.len();
@@ -47,11 +47,11 @@ fn deliver(text: &[u8], out: &mut [u8]) -> Outcome
         return refuse(9, size);
     }
     put(text, out, 0);
-    Outcome::Done(size)
+    Ok(size)
 }
 
 // Where the names are checked. The limits are asked of the tree as it is written, without steady pins.
-fn write_tree(names: &[u8], tree: &[u8], sort: Sort, out: &mut [u8]) -> Outcome
+fn write_tree(names: &[u8], tree: &[u8], sort: Sort, out: &mut [u8]) -> Result<usize, Refusal>
     requires { Named names.now }
     ensures { Writes names.now tree.now sort out.old
         out.new result }
@@ -68,13 +68,18 @@ fn write_tree(names: &[u8], tree: &[u8], sort: Sort, out: &mut [u8]) -> Outcome
 }
 
 // The text of a tree into a lent buffer; its length. Refused with 18, 12, 10, 1 or 9, in this order.
-pub fn write_expression(names: &[u8], tree: &[u8], sort: Sort, out: &mut [u8]) -> Outcome
+pub fn write_expression(
+    names: &[u8],
+    tree: &[u8],
+    sort: Sort,
+    out: &mut [u8],
+) -> Result<usize, Refusal>
     ensures { Writes names.now tree.now sort out.old
         out.new result }
 {
     let checked = check_names(names);
     match checked {
-        Outcome::Refused(r) => Outcome::Refused(r),
-        Outcome::Done(_) => write_tree(names, tree, sort, out),
+        Err(r) => Err(r),
+        Ok(_) => write_tree(names, tree, sort, out),
     }
 }

@@ -4,7 +4,7 @@ use Rattle.alternative_listings.proofs.WritingCases.{refused_names}
 use Rattle.alternative_listings.proofs.write_alternatives.Goals as goal
 
 pub write_named-requires : goal.write_named-requires
-write_named-requires c = names_passed _ c.check_names-checked.ensures c.in-Done.is
+write_named-requires c = names_passed _ c.check_names-checked.ensures c.in-Ok.is
 
-pub returns-in-Refused : goal.returns-in-Refused
-returns-in-Refused c = refused_names _ c.check_names-checked.ensures c.in-Refused.is
+pub returns-in-Err : goal.returns-in-Err
+returns-in-Err c = refused_names _ c.check_names-checked.ensures c.in-Err.is

@@ -6,6 +6,3 @@ use Rattle.names.proofs.check_names.Given as goal
 
 abbrev pub invariant-loop-i : goal.invariant-loop-i
 invariant-loop-i l = (l.i ≤ l.k) × Slots l.names × ((j : ℕ) → j < l.i → GoodSlot l.names j)
-
-abbrev pub decreases-loop-i : goal.decreases-loop-i
-decreases-loop-i l = l.k - l.i

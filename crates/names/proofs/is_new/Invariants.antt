@@ -6,6 +6,3 @@ use Rattle.names.proofs.is_new.Given as goal
 
 abbrev pub invariant-loop-j : goal.invariant-loop-j
 invariant-loop-j l = (l.j ≤ l.k) × ((i : ℕ) → i < l.j → name_at l.names i ≡ name_at l.names l.k → ⊥)
-
-abbrev pub decreases-loop-j : goal.decreases-loop-j
-decreases-loop-j l = l.k - l.j

@@ -1,26 +1,15 @@
+-- `name_len` meets its contract: what is before the first zero.
+use mathlib.Core.Path.{◌≡◌}
 use borrow.Author.Rules.{rules}
-use mathlib.Core.Path.{refl}
-use Rattle.names.proofs.Names.{until_end, until_zero_lem, until_more}
+use borrow.Author.Tests.{tests}
+use Rattle.std.proofs.lemmas.Iterator.{YieldsList-from_slice, IsFirst-from_position}
+use Rattle.basics.proofs.Walked.{first_place}
+use Rattle.names.proofs.Names.{until_first}
 use Rattle.names.proofs.name_len.Goals as goal
-
-pub loop-i-init : goal.loop-i-init
-loop-i-init c = (search rules, refl)
-
-pub returns-then-slot-i-eq0 : goal.returns-then-slot-i-eq0
-returns-then-slot-i-eq0 c =
-    record {
-      name =
-          until_zero_lem _ _ c.loop-i.invariant.1 c.loop-i-test.true
-          c.if-slot-i-eq0.true;
-      within = search rules;
-    }
-
-pub loop-i-preserved : goal.loop-i-preserved
-loop-i-preserved c = (
-  search rules,
-  until_more _ _ c.loop-i.invariant.1 c.loop-i-test.true c.if-slot-i-eq0.false,
-)
 
 pub returns : goal.returns
 returns c =
-    record { name = until_end _ _ c.loop-i.invariant.1 c.loop-i-test.false; within = search rules }
+    let f = first_place (λ x. x ≡ 0) (λ x. x ≡ 0 → ⊥) _ _
+    (IsFirst-from_position _ _ c.position.result (λ x. x ≡ 0) (λ x. x ≡ 0 → ⊥) c.position.ensures.ran
+    (YieldsList-from_slice c.args.slot.now cc) (λ x q k. search (rules, tests)) (λ x q k. search (rules, tests))) in
+    rw c.unwrap_or.ensures (record { name = until_first _ _ f.within f.before f.there; within = f.within })

@@ -10,6 +10,3 @@ pub record Copied (codes places nodes : List ℕ) (len i : ℕ) (cs ps : List �
 
 abbrev pub invariant-loop-i : goal.invariant-loop-i
 invariant-loop-i l = Copied l.codes l.places l.nodes l.len l.i l.cs l.ps
-
-abbrev pub decreases-loop-i : goal.decreases-loop-i
-decreases-loop-i l = l.len - l.i

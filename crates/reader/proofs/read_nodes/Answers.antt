@@ -35,7 +35,6 @@ unfolding sorted_for
 returns c =
     record {
       given = λ e f q.
-          rw c.refusal_of.ensures
-          (answer_read _ _ _ (pass_tree e f q c.sort_nodes-s.ensures) c.if-not-s.false
-          (sym c.has_sort.ensures ∙ c.if-not-has_sort.false));
+          answer_read _ _ _ (pass_tree e f q c.sort_nodes-s.ensures) c.if-not-s.false
+          (sym c.has_sort.ensures ∙ c.if-not-has_sort.false);
     }

@@ -1,56 +1,38 @@
 -- `read_tokens` reads a text into its tokens, or refuses it as document 01 says.
 use native.Mathlib.Omega.{arith}
-use mathlib.Core.Bool.{true, false}
+use Rattle.std.proofs.lemmas.Result.{err_from_is_err_and}
 use Rattle.tokens.proofs.ReadingLaws.{read_long}
-use Rattle.tokens.proofs.Handing.{stopped_reading, whole_of, counting, found_inside, deep_reading}
+use Rattle.tokens.proofs.Handing.{stopped_reading, whole_of, counting, deep_reading}
 use Rattle.tokens.proofs.Handing.{many_reading, whole_reading}
 use Rattle.tokens.proofs.read_tokens.Goals as goal
 
 pub returns-then-text-gt4096 : goal.returns-then-text-gt4096
-returns-then-text-gt4096 c = rw c.refuse_text.ensures (read_long _ c.if-text-gt4096.true)
+returns-then-text-gt4096 c = rw c.refusal_of.ensures (read_long _ c.if-text-gt4096.true)
 
-pub returns-then-refused : goal.returns-then-refused
-returns-then-refused c = stopped_reading c.if-text-gt4096.false c.scan-tokens.ensures c.if-refused.true
+pub returns-in_err-tokens : goal.returns-in_err-tokens
+returns-in_err-tokens c =
+    let p = err_from_is_err_and c.from_residual.result c.from_residual.ensures.1 in
+    rw (p.1, p.2) (stopped_reading c.if-text-gt4096.false c.in_err-tokens.ensures)
 
-pub first_over-deep-requires : goal.first_over-deep-requires
-first_over-deep-requires c =
-    counting c.if-text-gt4096.false (whole_of c.scan-tokens.ensures c.if-refused.false) 32 (omega arith)
+pub first_over-requires : goal.first_over-requires
+first_over-requires c =
+    counting c.if-text-gt4096.false (whole_of c.in_ok-tokens.ensures) 32 (omega arith)
 
-pub offset_bounds-places-deep : goal.offset_bounds-places-deep
-offset_bounds-places-deep c =
-    let inside = found_inside c.if-text-gt4096.false (whole_of c.scan-tokens.ensures c.if-refused.false) true 32 c.first_over-deep.ensures c.if-deep-count.true in
-    omega arith
+pub returns-in-Some : goal.returns-in-Some
+returns-in-Some c =
+    deep_reading c.if-text-gt4096.false (whole_of c.in_ok-tokens.ensures) c.in-Some.ensures
+    c.refusal_of-in-Some.ensures
 
-pub bounds-places-deep : goal.bounds-places-deep
-bounds-places-deep c =
-    found_inside c.if-text-gt4096.false (whole_of c.scan-tokens.ensures c.if-refused.false) true 32 c.first_over-deep.ensures c.if-deep-count.true
+pub first_over-requires-2 : goal.first_over-requires-2
+first_over-requires-2 c =
+    counting c.if-text-gt4096.false (whole_of c.in_ok-tokens.ensures) 256 (omega arith)
 
-pub returns-then-deep-count : goal.returns-then-deep-count
-returns-then-deep-count c =
-    deep_reading c.if-text-gt4096.false (whole_of c.scan-tokens.ensures c.if-refused.false) c.first_over-deep.ensures c.if-deep-count.true
-    c.refuse_text-then-deep-count.ensures
-
-pub first_over-many-requires : goal.first_over-many-requires
-first_over-many-requires c =
-    counting c.if-text-gt4096.false (whole_of c.scan-tokens.ensures c.if-refused.false) 256 (omega arith)
-
-pub offset_bounds-places-many : goal.offset_bounds-places-many
-offset_bounds-places-many c =
-    let inside = found_inside c.if-text-gt4096.false (whole_of c.scan-tokens.ensures c.if-refused.false) false 256 c.first_over-many.ensures c.if-many-count.true in
-    omega arith
-
-pub bounds-places-many : goal.bounds-places-many
-bounds-places-many c =
-    found_inside c.if-text-gt4096.false (whole_of c.scan-tokens.ensures c.if-refused.false) false 256 c.first_over-many.ensures c.if-many-count.true
-
-pub returns-then-many-count : goal.returns-then-many-count
-returns-then-many-count c =
-    many_reading c.if-text-gt4096.false (whole_of c.scan-tokens.ensures c.if-refused.false) c.first_over-deep.ensures
-    c.if-deep-count.false
-    c.first_over-many.ensures c.if-many-count.true c.refuse_text-then-many-count.ensures
+pub returns-in-Some-first_over : goal.returns-in-Some-first_over
+returns-in-Some-first_over c =
+    many_reading c.if-text-gt4096.false (whole_of c.in_ok-tokens.ensures) c.in_default.ensures
+    c.in-Some-first_over.ensures c.refusal_of-in-Some-first_over.ensures
 
 pub returns : goal.returns
 returns c =
-    whole_reading c.if-text-gt4096.false (whole_of c.scan-tokens.ensures c.if-refused.false) c.first_over-deep.ensures
-    c.if-deep-count.false
-    c.first_over-many.ensures c.if-many-count.false
+    whole_reading c.if-text-gt4096.false (whole_of c.in_ok-tokens.ensures)
+    c.in_default.ensures c.in_default-first_over.ensures

@@ -2,11 +2,7 @@
 use mathlib.Core.Path.{ap, ◌∙◌}
 use Prim.Native.Nat.{ℕ}
 use Rattle.basics.specs.Refusing.{refusal_over_lem}
-use Rattle.tokens.specs.Tokenizing.{refused_by}
 use Rattle.tokens.proofs.refuse_bytes.Goals as goal
 
 pub returns : goal.returns
-returns c =
-    c.hand_on.ensures ∙ ap refused_by c.refusal_over.ensures
-    ∙ ap (λ (k : ℕ). refused_by (refusal_over_lem 2 c.args.place k))
-    c.to_blank.ensures
+returns c = c.refusal_over.ensures ∙ ap (λ (k : ℕ). refusal_over_lem 2 c.args.place k) c.to_blank.ensures

@@ -5,6 +5,3 @@ use Rattle.traces_runs.proofs.read_cut.Given as goal
 
 abbrev pub invariant-loop-n : goal.invariant-loop-n
 invariant-loop-n l = l.n ≤ length l.file
-
-abbrev pub decreases-loop-n : goal.decreases-loop-n
-decreases-loop-n l = length l.file - l.n

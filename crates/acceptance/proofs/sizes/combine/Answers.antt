@@ -16,4 +16,4 @@ returns-in-RightFirst c =
     rw c.in-RightFirst.is (right_first c.cap-tests.ensures c.cap-in-RightFirst.ensures)
 
 pub returns-in-Together : goal.returns-in-Together
-returns-in-Together c = rw c.in-Together.is (together c.cap-tests.ensures c.larger.ensures)
+returns-in-Together c = rw c.in-Together.is (together c.cap-tests.ensures c.max.ensures)

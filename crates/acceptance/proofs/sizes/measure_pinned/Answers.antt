@@ -24,7 +24,7 @@ loop-t-preserved c =
     let here =
     shaping_at c.requires.0 c.count_at-n.ensures c.if-n-gt64.false c.loop-t-test.true in
     let m = next_at c.loop-t.invariant.1 here c.shape_of-x.ensures in
-    (omega arith, rw (c.larger-steps.ensures, c.larger-tests.ensures) m)
+    (omega arith, rw (c.max-steps.ensures, c.max-tests.ensures) m)
 
 pub returns-then-steps-gt16 : goal.returns-then-steps-gt16
 returns-then-steps-gt16 c =

@@ -1,4 +1,5 @@
 -- `tell_part` meets its contract.
+use Rattle.std.proofs.lemmas.Result.{err_from_is_err_and}
 use native.Mathlib.Omega.{arith}
 use Rattle.trace_writer.proofs.TraceChecks.{some_rows}
 use Rattle.activity.specs.Activity.{PartOf}
@@ -18,18 +19,22 @@ returns-then-n-to c = no_part (λ p. omega (arith, p.within, c.if-n-to.true)) c.
 pub check_rows-requires : goal.check_rows-requires
 check_rows-requires c = some_rows c.requires _ _ (omega (arith, c.if-to-from.false, c.if-n-to.false))
 
-pub overflow_sub-to-in-Done : goal.overflow_sub-to-in-Done
-overflow_sub-to-in-Done c = omega (arith, c.if-to-from.false)
+pub overflow_sub-many : goal.overflow_sub-many
+overflow_sub-many c = omega (arith, c.if-to-from.false)
 
 pub write_part-requires : goal.write_part-requires
 write_part-requires c =
-    checked_good c.requires (inside (goal.at.write_part-requires c).Else-n-to) c.check_rows.ensures c.in-Done.is
+    checked_good c.requires (inside (goal.at.write_part-requires c).Else-n-to) c.check_rows.ensures
+    c.in_ok-check_rows.was
 
-pub returns-in-Refused : goal.returns-in-Refused
-returns-in-Refused c =
-    rows_refused (inside (goal.at.returns-in-Refused c).Else-n-to) _ c.check_rows.ensures c.in-Refused.is
+pub returns-in_err-check_rows : goal.returns-in_err-check_rows
+returns-in_err-check_rows c =
+    let p = err_from_is_err_and c.from_residual.result c.from_residual.ensures.1 in
+    rw (p.1, p.2)
+    (rows_refused (inside (goal.at.returns-in_err-check_rows c).Else-n-to) _ c.check_rows.ensures
+    c.in_err-check_rows.was)
 
-pub returns-in-Done : goal.returns-in-Done
-returns-in-Done c =
-    part_delivered (inside (goal.at.returns-in-Done c).Else-n-to) c.check_rows.ensures c.in-Done.is
+pub returns : goal.returns
+returns c =
+    part_delivered (inside (goal.at.returns c).Else-n-to) c.check_rows.ensures c.in_ok-check_rows.was
     c.write_part.ensures

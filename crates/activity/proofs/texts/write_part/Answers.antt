@@ -15,7 +15,7 @@ use Rattle.activity.proofs.texts.write_part.Goals.{After-rows_size}
 
 abbrev text : After-rows_size → List ℕ
 text c =
-    part_text c.args.names.now c.args.k c.args.times.now c.args.states.now
+    part_text c.args.lists.now.names.now c.args.lists.now.k c.args.lists.now.times.now c.args.lists.now.states.now
     c.args.first c.args.many
 
 abbrev size : After-rows_size → ℕ
@@ -26,11 +26,11 @@ measured c = part_size _ _ _ _ _ _ c.opening_size.ensures c.rows_size.ensures
 
 abbrev rows : After-rows_size → List ℕ
 rows c =
-    row_lines c.args.names.now c.args.k c.args.times.now c.args.states.now
+    row_lines c.args.lists.now.names.now c.args.lists.now.k c.args.lists.now.times.now c.args.lists.now.states.now
     c.args.first c.args.many
 
 abbrev headed : After-rows_size → List ℕ
-headed c = opening c.args.names.now c.args.k c.args.first
+headed c = opening c.args.lists.now.names.now c.args.lists.now.k c.args.first
 
 begun : (c : After-rows_size) → size c ≤ length c.args.out.now
     → Going c.args.out.now 0 (text c) (headed c ∷ rows c ∷ []) c.args.out.now 0

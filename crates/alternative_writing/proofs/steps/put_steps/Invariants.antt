@@ -7,6 +7,3 @@ use Rattle.alternative_writing.proofs.steps.put_steps.Given as goal
 abbrev pub invariant-loop-j : goal.invariant-loop-j
 invariant-loop-j l =
     AlternativeSoFar l.names l.tests (all_tests l.names l.tree l.edges l.operands) l.s l.n l.t l.initial.out l.at l.u l.j l.out l.p
-
-abbrev pub decreases-loop-j : goal.decreases-loop-j
-decreases-loop-j l = l.n - l.j

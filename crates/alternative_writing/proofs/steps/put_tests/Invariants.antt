@@ -7,6 +7,3 @@ use Rattle.alternative_writing.proofs.steps.put_tests.Given as goal
 abbrev pub invariant-loop-i : goal.invariant-loop-i
 invariant-loop-i l =
     StepSoFar l.names (all_tests l.names l.tree l.edges l.operands) l.t l.n l.initial.out l.at l.i l.out l.p
-
-abbrev pub decreases-loop-i : goal.decreases-loop-i
-decreases-loop-i l = l.n - l.i

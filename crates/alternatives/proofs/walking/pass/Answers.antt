@@ -1,32 +1,28 @@
-use mathlib.Core.Path.{refl, ap}
-use Prim.Native.Nat.{◌+◌}
+use Prim.Native.Nat.{◌+◌, ◌-◌}
+use mathlib.Core.Path.{ap, ◌∙◌}
 use native.Mathlib.Omega.{arith}
-use lib.ListN.{drop}
+use lib.ListN.{take, drop, drop_of_length-le}
 use Rattle.alternatives.specs.InMemory.{sum}
-use Rattle.alternatives.proofs.Cuts.{part_first, part_last, sum_part, sum_take, sum_nil}
+use Rattle.alternatives.proofs.Cuts.{sum_next, sum_take, sum_nil}
 use Rattle.alternatives.proofs.walking.pass.Goals as goal
 
-pub loop-i-init : goal.loop-i-init
-loop-i-init c = (omega arith, rw part_first refl)
-
-pub overflow_cast-at : goal.overflow_cast-at
-overflow_cast-at c = omega (arith, c.type_inv.tests (c.args.s + c.loop-i.i))
-
-pub overflow_add-at-in-loop-i : goal.overflow_add-at-in-loop-i
-overflow_add-at-in-loop-i c =
+pub overflow_add-at : goal.overflow_add-at
+overflow_add-at c =
     let a = c.args in
-    let e = sum_part a.tests.now a.s a.n c.loop-i.i (omega arith) (omega arith) in
+    let e = sum_next (take (a.s + a.n - a.s) (drop a.s a.tests.now)) c.loop-many.many-index c.loop-many-test.true in
     let f = sum_take (drop a.s a.tests.now) a.n in
     omega arith
 
-pub loop-i-preserved : goal.loop-i-preserved
-loop-i-preserved c =
+pub loop-many-preserved : goal.loop-many-preserved
+loop-many-preserved c =
     let a = c.args in
-    let e = sum_part a.tests.now a.s a.n c.loop-i.i (omega arith) (omega arith) in
+    let e = sum_next (take (a.s + a.n - a.s) (drop a.s a.tests.now)) c.loop-many.many-index c.loop-many-test.true in
     omega arith
 
 pub returns : goal.returns
 returns c =
     let a = c.args in
-    let e = ap sum (part_last a.tests.now a.s a.n c.loop-i.i c.loop-i-test.false) in
-    omega (arith, sum_nil)
+    let e =
+    ap sum (drop_of_length-le (take (a.s + a.n - a.s) (drop a.s a.tests.now)) c.loop-many-test.false)
+    ∙ sum_nil in
+    omega arith

@@ -1,5 +1,5 @@
 -- `columns::column` meets its contract. The loop's invariant: the states at the rows passed are in the list.
-use Prim.Native.Nat.{◌+◌, ◌-◌, ◌≤◌}
+use Prim.Native.Nat.{◌+◌, ◌≤◌}
 use Rattle.evaluator.specs.Rows.{state_of}
 use Rattle.answer_table.proofs.Cells.{States}
 use Rattle.answer_table.proofs.columns.column.Given as goal
@@ -7,6 +7,3 @@ use Rattle.answer_table.proofs.columns.column.Given as goal
 abbrev pub invariant-loop-i : goal.invariant-loop-i
 invariant-loop-i l =
     (l.i ≤ l.size + 1) × States (λ j. state_of l.rules l.tree l.names l.states l.end (l.first + j)) l.i l.list
-
-abbrev pub decreases-loop-i : goal.decreases-loop-i
-decreases-loop-i l = l.size + 1 - l.i

@@ -10,25 +10,13 @@ pub loop-i-init : goal.loop-i-init
 unfolding greatest
 loop-i-init c = (omega arith, refl)
 
-pub lesser-u-requires : goal.lesser-u-requires
-lesser-u-requires c = tt
-
-pub lesser-v-requires : goal.lesser-v-requires
-lesser-v-requires c = tt
-
-pub greater-requires : goal.greater-requires
-greater-requires c = tt
-
-pub greater-best-requires : goal.greater-best-requires
-greater-best-requires c = tt
-
 pub loop-i-preserved : goal.loop-i-preserved
 loop-i-preserved c =
     let one = shared_entry (stored c.args.table.now c.args.p) (stored c.args.table.now c.args.q)
     c.args.a c.args.b c.loop-i.i c.read-x.ensures c.read-y.ensures
-    c.read.ensures c.read-in-loop-i.ensures c.lesser-u.ensures
-    c.lesser-v.ensures c.greater.ensures in
-    (omega arith, greatest_step _ c.loop-i.invariant.1 one c.greater-best.ensures)
+    c.read.ensures c.read-in-loop-i.ensures c.min-u.ensures
+    c.min-v.ensures c.max.ensures in
+    (omega arith, greatest_step _ c.loop-i.invariant.1 one c.max-best.ensures)
 
 pub returns : goal.returns
 returns c =

@@ -10,16 +10,10 @@ pub loop-i-init : goal.loop-i-init
 unfolding greatest
 loop-i-init c = (omega arith, refl)
 
-pub lesser-requires : goal.lesser-requires
-lesser-requires c = tt
-
-pub greater-best-requires : goal.greater-best-requires
-greater-best-requires c = tt
-
 pub loop-i-preserved : goal.loop-i-preserved
 loop-i-preserved c =
-    let one = min_of c.lesser.ensures c.read-x.ensures c.read-y.ensures in
-    (omega arith, greatest_step _ c.loop-i.invariant.1 one c.greater-best.ensures)
+    let one = min_of c.min.ensures c.read-x.ensures c.read-y.ensures in
+    (omega arith, greatest_step _ c.loop-i.invariant.1 one c.max-best.ensures)
 
 pub returns : goal.returns
 unfolding followed_by

@@ -1,5 +1,5 @@
 -- `cuts::sequence` meets its contract. The loop's invariant: `best` is the greatest over the rows passed.
-use Prim.Native.Nat.{◌-◌, ◌≤◌}
+use Prim.Native.Nat.{◌≤◌}
 use mathlib.Core.Path.{◌≡◌}
 use Rattle.basics.specs.Words.{greatest}
 use Rattle.answer_table.specs.Tables.{stored}
@@ -8,6 +8,3 @@ use Rattle.answer_table.proofs.cuts.sequence.Given as goal
 
 abbrev pub invariant-loop-i : goal.invariant-loop-i
 invariant-loop-i l = (l.i ≤ l.n) × (l.best ≡ greatest l.i (split (stored l.table l.p) (stored l.table l.q) l.a l.b))
-
-abbrev pub decreases-loop-i : goal.decreases-loop-i
-decreases-loop-i l = l.n - l.i

@@ -14,9 +14,6 @@ loop-j-init c =
     let s = c.requires in
     (omega arith, omega (arith, s.from), row_first s.part.long, far_first c.held_next-x.ensures)
 
-pub overflow_add-j : goal.overflow_add-j
-overflow_add-j c = let s = c.requires.part in omega (arith, s.most)
-
 pub leaf_over-x-requires : goal.leaf_over-x-requires
 leaf_over-x-requires c =
     let s = c.requires.part in record {

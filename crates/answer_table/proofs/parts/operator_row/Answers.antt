@@ -22,9 +22,6 @@ asked c =
 pub loop-j-init : goal.loop-j-init
 loop-j-init c = (omega arith, omega (arith, c.requires.from), row_first c.requires.part.long)
 
-pub overflow_add-j : goal.overflow_add-j
-overflow_add-j c = let s = c.requires.part in omega (arith, s.most)
-
 pub operate-x-requires : goal.operate-x-requires
 operate-x-requires c =
     let l = c.loop-j.invariant in

@@ -2,8 +2,8 @@
 use Rattle.began_lines.proofs.ThirdColumn.{at_size, nowhere_size}
 use Rattle.began_lines.proofs.lines.began_size.Goals as goal
 
-pub returns-in-At : goal.returns-in-At
-returns-in-At c = at_size c.in-At.is c.width_of.ensures
+pub returns-in-Some : goal.returns-in-Some
+returns-in-Some c = at_size c.in-Some.is c.width_of.ensures
 
-pub returns-in-Nowhere : goal.returns-in-Nowhere
-returns-in-Nowhere c = nowhere_size c.in-Nowhere.is
+pub returns-in-None : goal.returns-in-None
+returns-in-None c = nowhere_size c.in-None.is

@@ -1,5 +1,4 @@
 -- `list_rows` meets its contract: heading, lines and totals are written, and their length is the one measured.
-use borrow.Author.Rules.{rules}
 use Prim.Native.Nat.{ℕ, ◌+◌, ◌≤◌}
 use mathlib.Core.Path.{◌≡◌}
 use mathlib.Core.List.{List, [], ◌∷◌}
@@ -8,9 +7,8 @@ use Rattle.basics.proofs.PartByPart.{Going, going_room, going_on, going_end}
 use Rattle.basics.specs.Text.{bytes}
 use Rattle.basics.specs.Memory.{Put}
 use Rattle.alf.specs.Expressions.{Boolean}
-use Rattle.alf.specs.Values.{state_at}
 use Rattle.alf.specs.Alternatives.{Alternative}
-use Rattle.alternatives.specs.InMemory.{alternatives_of_lem}
+use Rattle.matcher.specs.Scenes.{state_on, alternatives_on}
 use Rattle.figures.proofs.Delivering.{short, delivered}
 use Rattle.began_listings.specs.Inner.{rows_text, listing_by}
 use Rattle.began_listings.proofs.WholeText.{last_of, whole_size, whole_start}
@@ -18,15 +16,13 @@ use Rattle.began_listings.proofs.listings.list_rows.Goals as goal
 use Rattle.began_listings.proofs.listings.list_rows.Goals.{After-last_size}
 
 abbrev st : After-last_size → Boolean → ℕ → ℕ
-st c = state_at c.args.rules c.args.names c.args.states.now
+st c = state_on c.args.scene.now
 
 abbrev times : After-last_size → List ℕ
 times c = c.args.times.now
 
 abbrev xs : After-last_size → List Alternative
-xs c =
-    alternatives_of_lem c.args.tree.now c.args.names c.args.steps.now c.args.tests.now
-    c.args.edges.now c.args.operands.now
+xs c = alternatives_on c.args.scene.now c.args.lists.now
 
 abbrev rows : After-last_size → List ℕ
 rows c = rows_text (st c) (times c) (xs c)

@@ -9,12 +9,6 @@ pub measure_row-m-requires : goal.measure_row-m-requires
 measure_row-m-requires c =
     record { rows = c.requires; there = c.loop-i-test.true; measured = c.loop-i.invariant.1 }
 
-pub overflow_add-i : goal.overflow_add-i
-overflow_add-i c = omega (arith, c.loop-i-test.true, c.requires.asked.rows.few)
-
-pub loop-i-smaller : goal.loop-i-smaller
-loop-i-smaller c = omega (arith, c.loop-i-test.true)
-
 pub loop-i-preserved : goal.loop-i-preserved
 loop-i-preserved c = (omega (arith, c.loop-i-test.true), c.measure_row-m.ensures)
 

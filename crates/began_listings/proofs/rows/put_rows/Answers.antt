@@ -1,4 +1,3 @@
-use native.Mathlib.Omega.{arith}
 use Rattle.row_lines.proofs.InTurn.{written_first, written_room, written_next, written_end, written_length}
 use Rattle.began_lines.specs.BeganListing.{began_lines}
 use Rattle.began_listings.proofs.rows.put_rows.Goals as goal
@@ -14,12 +13,6 @@ put_row-p-requires c =
       there = c.loop-i-test.true;
       room = written_room c.loop-i.invariant c.loop-i-test.true;
     }
-
-pub overflow_add-i : goal.overflow_add-i
-overflow_add-i c = omega (arith, c.loop-i-test.true, c.requires.rows.asked.rows.few)
-
-pub loop-i-smaller : goal.loop-i-smaller
-loop-i-smaller c = omega (arith, c.loop-i-test.true)
 
 pub loop-i-preserved : goal.loop-i-preserved
 loop-i-preserved c = written_next c.loop-i.invariant c.loop-i-test.true c.put_row-p.ensures

@@ -8,14 +8,14 @@ pub enum_told-1 : goal.enum_told-1
 unfolding is_given
 enum_told-1 c = search rules
 
-pub enum_told-in-Nowhere : goal.enum_told-in-Nowhere
+pub enum_told-in-None : goal.enum_told-in-None
 unfolding is_given
-enum_told-in-Nowhere c = search rules
+enum_told-in-None c = search rules
 
-pub returns-in-At : goal.returns-in-At
+pub returns-in-Some : goal.returns-in-Some
 unfolding is_given
-returns-in-At c = ap is_given (sym c.in-At.is)
+returns-in-Some c = ap is_given (sym c.in-Some.is)
 
-pub returns-in-Nowhere : goal.returns-in-Nowhere
+pub returns-in-None : goal.returns-in-None
 unfolding is_given
-returns-in-Nowhere c = ap is_given (sym c.in-Nowhere.is)
+returns-in-None c = ap is_given (sym c.in-None.is)

@@ -29,9 +29,6 @@ pub bounds-began-r : goal.bounds-began-r
 bounds-began-r c =
     omega (arith, began_length c.loop-r.invariant, c.requires.began_room, c.loop-r-test.true)
 
-pub overflow_add-r : goal.overflow_add-r
-overflow_add-r c = omega (arith, c.requires.few, c.loop-r-test.true)
-
 pub loop-r-preserved : goal.loop-r-preserved
 loop-r-preserved c =
     marking_next c.loop-r.invariant c.loop-r-test.true c.began_at-b.ensures

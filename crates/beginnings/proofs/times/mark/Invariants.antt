@@ -6,6 +6,3 @@ use Rattle.beginnings.proofs.times.mark.Given as goal
 abbrev pub invariant-loop-r : goal.invariant-loop-r
 invariant-loop-r l =
     Marking l.times l.steps l.n l.answers l.tried l.initial.given l.initial.began l.given l.began l.r
-
-abbrev pub decreases-loop-r : goal.decreases-loop-r
-decreases-loop-r l = l.n - l.r

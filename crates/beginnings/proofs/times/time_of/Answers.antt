@@ -3,10 +3,10 @@ use Rattle.std.proofs.Common.{ap, sym}
 use Rattle.alf.specs.Beginnings.{time_of_lem}
 use Rattle.beginnings.proofs.times.time_of.Goals as goal
 
-pub returns-in-At : goal.returns-in-At
+pub returns-in-Some : goal.returns-in-Some
 unfolding time_of_lem
-returns-in-At c = ap time_of_lem (sym c.in-At.is)
+returns-in-Some c = ap time_of_lem (sym c.in-Some.is)
 
-pub returns-in-Nowhere : goal.returns-in-Nowhere
+pub returns-in-None : goal.returns-in-None
 unfolding time_of_lem
-returns-in-Nowhere c = ap time_of_lem (sym c.in-Nowhere.is)
+returns-in-None c = ap time_of_lem (sym c.in-None.is)

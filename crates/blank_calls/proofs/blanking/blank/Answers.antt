@@ -1,4 +1,5 @@
 -- `blanking::blank` meets its contract.
+use Rattle.std.proofs.lemmas.Result.{err_from_is_err_and}
 use mathlib.Core.Path.{ap}
 use mathlib.Core.Bool.{not}
 use Rattle.basics.proofs.Deciding.{decided_no, decided_yes}
@@ -14,12 +15,14 @@ pub blank_rows-requires : goal.blank_rows-requires
 blank_rows-requires c =
     rows_asked (lists_good _ _ _ _ (decided_yes _ c.lists_fit-fits.ensures (ap not c.if-not-fits.false)))
 
-pub returns-in-Refused : goal.returns-in-Refused
-returns-in-Refused c =
-    blank_15 (lists_good _ _ _ _ (decided_yes _ c.lists_fit-fits.ensures (ap not c.if-not-fits.false)))
-    c.judge_codes-v.ensures c.in-Refused.is
+pub returns-in_err-judge_codes : goal.returns-in_err-judge_codes
+returns-in_err-judge_codes c =
+    let p = err_from_is_err_and c.from_residual.result c.from_residual.ensures.1 in
+    rw (p.1, p.2)
+    (blank_15 (lists_good _ _ _ _ (decided_yes _ c.lists_fit-fits.ensures (ap not c.if-not-fits.false)))
+    c.judge_codes.ensures c.in_err-judge_codes.was)
 
-pub returns-in-Good : goal.returns-in-Good
-returns-in-Good c =
+pub returns : goal.returns
+returns c =
     blank_done (lists_good _ _ _ _ (decided_yes _ c.lists_fit-fits.ensures (ap not c.if-not-fits.false)))
-    c.judge_codes-v.ensures c.in-Good.is c.blank_rows.ensures
+    c.judge_codes.ensures c.in_ok-judge_codes.was c.blank_rows.ensures

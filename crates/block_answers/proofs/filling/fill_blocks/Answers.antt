@@ -13,20 +13,20 @@ loop-from-init c = filling_first c.requires.fill_asked c.requires.blocks_asked _
 pub fill_block-requires : goal.fill_block-requires
 fill_block-requires c =
     cut_asked c.requires.fill_asked c.requires.blocks_asked c.loop-from.invariant c.loop-from-test.true
-    c.next_block-m.ensures (answers_long c.requires.fill_asked c.requires.blocks_asked c.match_all.ensures) (tried_long
+    c.min-m.ensures (answers_long c.requires.fill_asked c.requires.blocks_asked c.match_all.ensures) (tried_long
     c.requires.fill_asked c.requires.blocks_asked c.match_all.ensures)
 
 pub overflow_add-from : goal.overflow_add-from
 overflow_add-from c =
-    omega (arith, c.next_block-m.ensures, c.loop-from-test.true, c.requires.fill_asked.asked.rows.few)
+    omega (arith, c.min-m.ensures, c.loop-from-test.true, c.requires.fill_asked.asked.rows.few)
 
 pub loop-from-smaller : goal.loop-from-smaller
-loop-from-smaller c = omega (arith, c.next_block-m.ensures)
+loop-from-smaller c = omega (arith, c.min-m.ensures)
 
 pub loop-from-preserved : goal.loop-from-preserved
 loop-from-preserved c =
     filling_next _ c.requires.fill_asked c.requires.blocks_asked c.loop-from.invariant c.loop-from-test.true
-    c.next_block-m.ensures c.match_all.ensures c.fill_block.ensures.cols_len_unchanged
+    c.min-m.ensures c.match_all.ensures c.fill_block.ensures.cols_len_unchanged
     c.fill_block.ensures.block_filled
 
 pub returns : goal.returns

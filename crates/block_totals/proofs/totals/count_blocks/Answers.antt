@@ -13,36 +13,36 @@ loop-from-init c = counting_first _ c.requires.rows_asked c.requires.blocks_aske
 pub count_block-part-requires : goal.count_block-part-requires
 count_block-part-requires c =
     count_asked _ c.requires.rows_asked c.requires.blocks_asked c.loop-from.invariant c.loop-from-test.true
-    c.next_block-m.ensures
+    c.min-m.ensures
 
 pub overflow_add-yes : goal.overflow_add-yes
 overflow_add-yes c =
     let s = sums_small c.loop-from.invariant (counts_of _ c.requires.rows_asked c.requires.blocks_asked
     c.count_block-part.ensures.block_counted) in
-    omega (arith, s.0, c.next_block-m.ensures, c.loop-from-test.true, c.requires.rows_asked.rows.few)
+    omega (arith, s.0, c.min-m.ensures, c.loop-from-test.true, c.requires.rows_asked.rows.few)
 
 pub overflow_add-no : goal.overflow_add-no
 overflow_add-no c =
     let s = sums_small c.loop-from.invariant (counts_of _ c.requires.rows_asked c.requires.blocks_asked
     c.count_block-part.ensures.block_counted) in
-    omega (arith, s.1, c.next_block-m.ensures, c.loop-from-test.true, c.requires.rows_asked.rows.few)
+    omega (arith, s.1, c.min-m.ensures, c.loop-from-test.true, c.requires.rows_asked.rows.few)
 
 pub overflow_add-unknown : goal.overflow_add-unknown
 overflow_add-unknown c =
     let s = sums_small c.loop-from.invariant (counts_of _ c.requires.rows_asked c.requires.blocks_asked
     c.count_block-part.ensures.block_counted) in
-    omega (arith, s.2, c.next_block-m.ensures, c.loop-from-test.true, c.requires.rows_asked.rows.few)
+    omega (arith, s.2, c.min-m.ensures, c.loop-from-test.true, c.requires.rows_asked.rows.few)
 
 pub overflow_add-from : goal.overflow_add-from
 overflow_add-from c =
-    omega (arith, c.next_block-m.ensures, c.loop-from-test.true, c.requires.rows_asked.rows.few)
+    omega (arith, c.min-m.ensures, c.loop-from-test.true, c.requires.rows_asked.rows.few)
 
 pub loop-from-smaller : goal.loop-from-smaller
-loop-from-smaller c = omega (arith, c.next_block-m.ensures)
+loop-from-smaller c = omega (arith, c.min-m.ensures)
 
 pub loop-from-preserved : goal.loop-from-preserved
 loop-from-preserved c =
-    counting_next c.loop-from.invariant c.loop-from-test.true c.next_block-m.ensures
+    counting_next c.loop-from.invariant c.loop-from-test.true c.min-m.ensures
     c.count_block-part.ensures.cols_len_unchanged (counts_of _ c.requires.rows_asked c.requires.blocks_asked
     c.count_block-part.ensures.block_counted)
 

@@ -6,9 +6,6 @@ use Rattle.blocks.proofs.meeting.match_block.Goals as goal
 pub loop-k-init : goal.loop-k-init
 loop-k-init c = walking_first c.requires
 
-pub overflow_cast-n : goal.overflow_cast-n
-overflow_cast-n c = omega (arith, c.type_inv.steps c.loop-k.k)
-
 pub meet_steps-requires : goal.meet_steps-requires
 meet_steps-requires c = alternative_asked c.requires c.loop-k.invariant c.loop-k-test.true
 
@@ -26,9 +23,6 @@ overflow_add-s c =
           c.loop-k-test.true).there,
       c.well_formed,
     )
-
-pub overflow_add-k : goal.overflow_add-k
-overflow_add-k c = omega (arith, c.requires.few)
 
 pub loop-k-preserved : goal.loop-k-preserved
 loop-k-preserved c =

@@ -35,9 +35,6 @@ overflow_add-slot-in-loop-i c =
 pub meet-requires : goal.meet-requires
 meet-requires c = pass_asked c.requires c.loop-i.invariant c.loop-i-test.true
 
-pub overflow_add-i : goal.overflow_add-i
-overflow_add-i c = omega (arith, c.requires.there, c.well_formed)
-
 pub loop-i-preserved : goal.loop-i-preserved
 loop-i-preserved c =
     asking_next c.requires c.loop-i.invariant c.loop-i-test.true

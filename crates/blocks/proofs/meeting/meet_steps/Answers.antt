@@ -36,9 +36,6 @@ overflow_add-at c =
       c.well_formed,
     )
 
-pub overflow_add-j : goal.overflow_add-j
-overflow_add-j c = omega (arith, c.requires.short)
-
 pub loop-j-preserved : goal.loop-j-preserved
 loop-j-preserved c =
     stepping_next c.requires c.loop-j.invariant c.loop-j-test.true

@@ -22,8 +22,5 @@ returns-then-same_operand c =
     found_here _ _ _ _ _ _ _ c.loop-c-test.true c.if-kinds-c.true c.same_operand.ensures
     c.if-same_operand.true
 
-pub overflow_add-c : goal.overflow_add-c
-overflow_add-c c = omega (arith, c.requires.few)
-
 pub returns : goal.returns
 returns c = found_none _ _ _ _ _ _

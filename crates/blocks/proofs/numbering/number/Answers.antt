@@ -6,14 +6,11 @@ use Rattle.blocks.proofs.numbering.number.Goals as goal
 pub loop-t-init : goal.loop-t-init
 loop-t-init c = numbering_first c.requires
 
-pub offset_bounds-operands-t : goal.offset_bounds-operands-t
-offset_bounds-operands-t c = omega (arith, c.requires.enough, c.well_formed)
+pub offset_bounds-lists-t : goal.offset_bounds-lists-t
+offset_bounds-lists-t c = omega (arith, c.requires.enough, c.well_formed)
 
-pub bounds-operands-t : goal.bounds-operands-t
-bounds-operands-t c = omega (arith, c.requires.enough)
-
-pub overflow_cast-end : goal.overflow_cast-end
-overflow_cast-end c = omega (arith, c.type_inv.operands c.loop-t.t)
+pub bounds-lists-t-in-loop-t : goal.bounds-lists-t-in-loop-t
+bounds-lists-t-in-loop-t c = omega (arith, c.requires.enough)
 
 pub find-c-requires : goal.find-c-requires
 find-c-requires c = find_asked c.requires c.loop-t.invariant c.loop-t-test.true
@@ -40,9 +37,6 @@ overflow_cast-slots c = omega (arith, c.find-c.ensures.within, c.loop-t.invarian
 
 pub bounds-slots-t : goal.bounds-slots-t
 bounds-slots-t c = slot_room c.requires c.loop-t.invariant c.loop-t-test.true
-
-pub overflow_add-t : goal.overflow_add-t
-overflow_add-t c = omega (arith, c.requires.room)
 
 pub loop-t-preserved : goal.loop-t-preserved
 loop-t-preserved c =

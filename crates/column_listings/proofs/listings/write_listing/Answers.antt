@@ -45,9 +45,6 @@ headed : (c : After-last_size)
     → Left c (lines Answers c.args.times.now c.args.answers.now ∷ last c ∷ []) out p
 headed c fits h = going_on (begun c fits) h
 
-pub count_answers-tally-requires : goal.count_answers-tally-requires
-count_answers-tally-requires c = omega (arith, c.requires.lists.same, c.requires.lists.rows.1)
-
 pub lines_size-requires : goal.lines_size-requires
 unfolding highest
 lines_size-requires c = c.requires

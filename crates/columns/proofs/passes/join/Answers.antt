@@ -17,7 +17,7 @@ bounds-best-i-in-loop-i c = omega (arith, writing_length c.loop-i.invariant)
 pub loop-i-preserved : goal.loop-i-preserved
 loop-i-preserved c =
     ruling_next_front _ c.loop-i.invariant c.loop-i-test.true
-    (c.greater.ensures ∙ rw (front_ahead c.loop-i.invariant) refl)
+    (c.max.ensures ∙ rw (front_ahead c.loop-i.invariant) refl)
 
 pub shape_of-best : goal.shape_of-best
 shape_of-best c = writing_length c.loop-i.invariant

@@ -17,7 +17,7 @@ bounds-acc-i-in-loop-i c = omega (arith, writing_length c.loop-i.invariant)
 pub loop-i-preserved : goal.loop-i-preserved
 loop-i-preserved c =
     ruling_next_front _ c.loop-i.invariant c.loop-i-test.true
-    (c.lesser.ensures ∙ rw (front_ahead c.loop-i.invariant) refl)
+    (c.min.ensures ∙ rw (front_ahead c.loop-i.invariant) refl)
 
 pub shape_of-acc : goal.shape_of-acc
 shape_of-acc c = writing_length c.loop-i.invariant

@@ -18,9 +18,6 @@ overflow_add-answers c = omega (arith, c.requires.other, c.well_formed)
 pub bounds-answers-at : goal.bounds-answers-at
 bounds-answers-at c = omega (arith, writing_length c.loop-i.invariant, c.requires.other)
 
-pub overflow_add-i : goal.overflow_add-i
-overflow_add-i c = omega (arith, c.requires.few)
-
 pub loop-i-preserved : goal.loop-i-preserved
 loop-i-preserved c =
     ruling_next 0 _ c.loop-i.invariant c.loop-i-test.true

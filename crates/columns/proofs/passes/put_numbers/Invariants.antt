@@ -1,5 +1,4 @@
 -- `passes::put_numbers` meets its contract. The loop's invariant: the entries so far are written.
-use Prim.Native.Nat.{◌-◌}
 use lib.ListN.{get_or}
 use Rattle.alf.specs.Windows.{numbered}
 use Rattle.basics.specs.Words.{listed}
@@ -8,6 +7,3 @@ use Rattle.columns.proofs.passes.put_numbers.Given as goal
 
 abbrev pub invariant-loop-i : goal.invariant-loop-i
 invariant-loop-i l = Writing l.initial.answers l.at (listed 0 l.n (λ j. numbered (get_or l.best j 0))) l.answers l.i
-
-abbrev pub decreases-loop-i : goal.decreases-loop-i
-decreases-loop-i l = l.n - l.i

@@ -1,5 +1,4 @@
 -- `passes::put_tries` meets its contract. The loop's invariant: the entries so far are written.
-use Prim.Native.Nat.{◌-◌}
 use lib.ListN.{get_or}
 use Rattle.basics.specs.Words.{listed}
 use Rattle.basics.proofs.Stores.{Writing}
@@ -7,6 +6,3 @@ use Rattle.columns.proofs.passes.put_tries.Given as goal
 
 abbrev pub invariant-loop-i : goal.invariant-loop-i
 invariant-loop-i l = Writing l.initial.tried l.at (listed 0 l.n (λ j. get_or l.tries j 0)) l.tried l.i
-
-abbrev pub decreases-loop-i : goal.decreases-loop-i
-decreases-loop-i l = l.n - l.i

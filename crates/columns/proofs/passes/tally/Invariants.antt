@@ -1,12 +1,7 @@
--- `passes::tally` meets its contract. The loop's invariant: the parts so far are counted.
-use Prim.Native.Nat.{◌-◌}
-use lib.Dec.{eqb}
-use lib.ListN.{get_or}
+-- `passes::tally` meets its contract. The loop's invariant: with what is left, `c` comes to the number.
+use mathlib.Core.Path.{◌≡◌}
 use Rattle.columns.proofs.Tallies.{Tallying}
 use Rattle.columns.proofs.passes.tally.Given as goal
 
-abbrev pub invariant-loop-i : goal.invariant-loop-i
-invariant-loop-i l = Tallying (λ j. eqb (get_or l.a j 0) l.v) l.n l.c l.i
-
-abbrev pub decreases-loop-i : goal.decreases-loop-i
-decreases-loop-i l = l.n - l.i
+abbrev pub invariant-loop-part : goal.invariant-loop-part
+invariant-loop-part l = (l.part-iterator.size ≡ 128) × Tallying l.v l.n l.c l.a l.part-iterator.rest.now

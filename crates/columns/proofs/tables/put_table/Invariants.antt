@@ -1,5 +1,4 @@
 -- `tables::put_table` meets its contract. The loop's invariant: the entries so far are written.
-use Prim.Native.Nat.{◌-◌}
 use Rattle.basics.specs.Words.{listed}
 use Rattle.basics.proofs.Stores.{Writing}
 use Rattle.columns.specs.Columns.{table_at}
@@ -7,6 +6,3 @@ use Rattle.columns.proofs.tables.put_table.Given as goal
 
 abbrev pub invariant-loop-q : goal.invariant-loop-q
 invariant-loop-q l = Writing l.initial.tables l.base (listed 0 64 (table_at l.k)) l.tables l.q
-
-abbrev pub decreases-loop-q : goal.decreases-loop-q
-decreases-loop-q l = 64 - l.q

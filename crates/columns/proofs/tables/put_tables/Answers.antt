@@ -14,9 +14,6 @@ overflow_mul-c c = omega (arith, c.requires.few)
 pub put_table-requires : goal.put_table-requires
 put_table-requires c = omega (arith, c.loop-c.invariant.long, c.requires.room)
 
-pub overflow_add-c : goal.overflow_add-c
-overflow_add-c c = omega (arith, c.requires.few)
-
 pub loop-c-preserved : goal.loop-c-preserved
 loop-c-preserved c =
     tabling_next c.loop-c.invariant c.requires c.loop-c-test.true

@@ -66,9 +66,6 @@ overflow_add-cols-in-loop-i-2 c = omega (arith, c.requires.room, c.well_formed)
 pub bounds-cols-o : goal.bounds-cols-o
 bounds-cols-o c = omega (arith, writing_length c.loop-i.invariant.1, c.requires.room)
 
-pub overflow_add-i : goal.overflow_add-i
-overflow_add-i c = omega (arith, c.requires.room, c.well_formed)
-
 pub loop-i-preserved : goal.loop-i-preserved
 loop-i-preserved c = (
   through_next c.requires c.loop-i.invariant.0 c.loop-i-test.true,

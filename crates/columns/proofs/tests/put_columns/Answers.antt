@@ -23,9 +23,6 @@ overflow_mul-c-in-loop-c c = omega (arith, c.requires.most)
 pub put_column-requires : goal.put_column-requires
 put_column-requires c = column_asked c.loop-c.invariant c.requires c.loop-c-test.true
 
-pub overflow_add-c : goal.overflow_add-c
-overflow_add-c c = omega (arith, c.requires.most)
-
 pub loop-c-preserved : goal.loop-c-preserved
 loop-c-preserved c =
     lining_next c.loop-c.invariant c.requires c.loop-c-test.true

@@ -1,30 +1,27 @@
+-- `contradictions::possible::contradicts` meets its contract.
 use native.Mathlib.Omega.{arith}
-use mathlib.Core.Path.{◌∙◌}
-use Rattle.basics.proofs.Seeking.{seeking_first, seeking_found, seeking_next, seeking_end}
-use Rattle.contradictions.proofs.Flagging.{contradictory_is}
+use borrow.Author.Rules.{rules}
+use borrow.Author.Tests.{tests}
+use Prim.Native.Nat.{ℕ}
+use mathlib.Core.Bool.{Bool}
+use mathlib.Core.Path.{refl, ◌∙◌}
+use Rattle.std.proofs.lemmas.Iterator.{YieldsList-from_range}
+use Rattle.std.proofs.lemmas.Iterator.Search.{any_from_yields_List}
+use Rattle.alternatives.specs.InMemory.{alternative_in}
+use Rattle.alternatives.specs.Listed.{tests_listed}
+use Rattle.contradictions.specs.Possible.{impossible}
+use Rattle.contradictions.proofs.Flagging.{any_below, contradictory_is}
 use Rattle.contradictions.proofs.possible.contradicts.Goals as goal
 
-pub loop-name-init : goal.loop-name-init
-loop-name-init c = seeking_first
-
-pub name_impossible-requires : goal.name_impossible-requires
-name_impossible-requires c =
-    let h = c.requires in
-    (h.0, omega (arith, h.1, c.loop-name-test.true))
-
-pub returns-then-name_impossible : goal.returns-then-name_impossible
-returns-then-name_impossible c =
-    seeking_found c.loop-name.invariant c.loop-name-test.true c.name_impossible.ensures c.if-name_impossible.true
-    ∙ contradictory_is _ _
-
-pub overflow_add-name : goal.overflow_add-name
-overflow_add-name c =
-    let h = c.requires in
-    omega (arith, h.1, c.loop-name-test.true)
-
-pub loop-name-preserved : goal.loop-name-preserved
-loop-name-preserved c =
-    seeking_next c.loop-name.invariant c.loop-name-test.true c.name_impossible.ensures c.if-name_impossible.false
+-- whether a name is impossible
+abbrev passes : goal.After-any → ℕ → Bool
+passes c =
+    impossible
+    (alternative_in c.args.lists.now.tests.now (tests_listed c.args.tree.now c.args.names c.args.lists.now)
+    c.args.s c.args.t c.args.n)
 
 pub returns : goal.returns
-returns c = seeking_end c.loop-name.invariant c.loop-name-test.false ∙ contradictory_is _ _
+returns c =
+    any_from_yields_List (passes c) _ _ c.any.result c.any.ensures.ran
+    (YieldsList-from_range 0 c.args.names c.args.names refl (omega arith)) (λ x b q k. search (rules, tests))
+    ∙ any_below (passes c) c.args.names ∙ contradictory_is _ _

@@ -1,13 +1,11 @@
+use mathlib.Core.Path.{◌∙◌}
 use native.Mathlib.Omega.{arith}
 use Rattle.contradictions.proofs.Flagging.{flagging_first, flag_room, flags_length, flagging_rows}
-use Rattle.contradictions.proofs.Flagging.{flagging_next, flagging_end}
+use Rattle.contradictions.proofs.Flagging.{flagging_next, flagging_end, flag_from}
 use Rattle.contradictions.proofs.possible.flag_all.Goals as goal
 
 pub loop-k-init : goal.loop-k-init
 loop-k-init c = flagging_first c.requires
-
-pub overflow_cast-n : goal.overflow_cast-n
-overflow_cast-n c = omega (arith, c.type_inv.steps c.loop-k.k)
 
 pub contradicts-requires : goal.contradicts-requires
 contradicts-requires c =
@@ -31,7 +29,7 @@ pub loop-k-preserved : goal.loop-k-preserved
 loop-k-preserved c =
     rw c.pass-t.ensures
     (flagging_next c.requires c.loop-k.invariant c.loop-k-test.true c.contradicts.ensures
-    c.flag.ensures)
+    (c.from.ensures ∙ flag_from _))
 
 pub shape_of-flags : goal.shape_of-flags
 shape_of-flags c = flags_length c.requires c.loop-k.invariant

@@ -1,6 +1,5 @@
 use Rattle.std.proofs.Common.{ap}
 use Rattle.std.proofs.Math.Bool.{not}
-use Prim.Native.Nat.{◌+◌}
 use native.Mathlib.Omega.{arith}
 use Rattle.contradictions.proofs.RowsOf.{rowing_first, rowing_found, rowing_next, rowing_last}
 use Rattle.contradictions.proofs.RowsOf.{row_there, row_last}
@@ -8,11 +7,6 @@ use Rattle.contradictions.proofs.possible.name_impossible.Goals as goal
 
 pub loop-j-init : goal.loop-j-init
 loop-j-init c = rowing_first _ _ _ _ _ _
-
-pub overflow_cast-many : goal.overflow_cast-many
-overflow_cast-many c =
-    let a = c.args in
-    omega (arith, c.type_inv.tests (a.s + c.loop-j.j))
 
 pub row_possible-requires : goal.row_possible-requires
 row_possible-requires c =

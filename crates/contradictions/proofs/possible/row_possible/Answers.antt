@@ -1,25 +1,25 @@
+-- `contradictions::possible::row_possible` meets its contract.
 use native.Mathlib.Omega.{arith}
-use mathlib.Core.Path.{◌∙◌}
-use Rattle.basics.proofs.Seeking.{seeking_first, seeking_found, seeking_next, seeking_end}
-use Rattle.contradictions.proofs.Flagging.{possible_is}
+use borrow.Author.Rules.{rules}
+use borrow.Author.Tests.{tests}
+use Prim.Native.Nat.{ℕ}
+use mathlib.Core.Bool.{Bool}
+use mathlib.Core.Path.{refl, ◌∙◌}
+use Rattle.std.proofs.lemmas.Iterator.{YieldsList-from_range}
+use Rattle.std.proofs.lemmas.Iterator.Search.{any_from_yields_List}
+use Rattle.alternatives.specs.Listed.{tests_listed}
+use Rattle.contradictions.specs.Possible.{allowed, row_literals}
+use Rattle.contradictions.proofs.Flagging.{any_below, possible_is}
 use Rattle.contradictions.proofs.possible.row_possible.Goals as goal
 
-pub loop-s-init : goal.loop-s-init
-loop-s-init c = seeking_first
-
-pub row_allows-requires : goal.row_allows-requires
-row_allows-requires c = (c.requires, omega (arith, c.loop-s-test.true))
-
-pub returns-then-row_allows : goal.returns-then-row_allows
-returns-then-row_allows c =
-    seeking_found c.loop-s.invariant (omega (arith, c.loop-s-test.true)) c.row_allows.ensures
-    c.if-row_allows.true
-    ∙ possible_is _
-
-pub loop-s-preserved : goal.loop-s-preserved
-loop-s-preserved c =
-    seeking_next c.loop-s.invariant (omega (arith, c.loop-s-test.true)) c.row_allows.ensures
-    c.if-row_allows.false
+-- whether a state is allowed
+abbrev passes : goal.After-any → ℕ → Bool
+passes c =
+    allowed (row_literals (tests_listed c.args.tree.now c.args.names c.args.lists.now)
+    c.args.t c.args.b c.args.n c.args.name)
 
 pub returns : goal.returns
-returns c = seeking_end c.loop-s.invariant c.loop-s-test.false ∙ possible_is _
+returns c =
+    any_from_yields_List (passes c) _ _ c.any.result c.any.ensures.ran
+    (YieldsList-from_range 0 8 8 refl (omega arith)) (λ x b q k. search (rules, tests))
+    ∙ any_below (passes c) 8 ∙ possible_is _

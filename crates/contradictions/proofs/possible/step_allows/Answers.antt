@@ -1,18 +1,11 @@
 use Rattle.std.proofs.Common.{ap}
 use Rattle.std.proofs.Math.Bool.{not}
-use Prim.Native.Nat.{◌+◌}
-use native.Mathlib.Omega.{arith}
 use Rattle.contradictions.proofs.Allowing.{allowing_first, allowing_no, allowing_next, allowing_end}
 use Rattle.contradictions.proofs.Allowing.{test_plain}
 use Rattle.contradictions.proofs.possible.step_allows.Goals as goal
 
 pub loop-i-init : goal.loop-i-init
 loop-i-init c = allowing_first
-
-pub overflow_cast-end : goal.overflow_cast-end
-overflow_cast-end c =
-    let a = c.args in
-    omega (arith, c.type_inv.operands (a.t + c.loop-i.i))
 
 pub test_allows-requires : goal.test_allows-requires
 test_allows-requires c = test_plain c.requires c.loop-i.invariant c.loop-i-test.true

@@ -1,14 +1,10 @@
 -- `rewriting::possible::step_allows` meets its contract. The loop's invariant: the tests still to be asked allow the
 -- state exactly if all of them do.
-use Prim.Native.Nat.{◌-◌}
-use Rattle.alternatives.specs.InMemory.{tests_of}
 use Rattle.contradictions.specs.Possible.{side_of}
 use Rattle.contradictions.proofs.Allowing.{Allowing}
+use Rattle.alternatives.specs.Listed.{tests_listed}
 use Rattle.contradictions.proofs.possible.step_allows.Given as goal
 
 abbrev pub invariant-loop-i : goal.invariant-loop-i
 invariant-loop-i l =
-    Allowing (side_of l.later) (tests_of l.tree l.names l.edges l.operands) l.t l.n l.name l.s l.i
-
-abbrev pub decreases-loop-i : goal.decreases-loop-i
-decreases-loop-i l = l.n - l.i
+    Allowing (side_of l.later) (tests_listed l.tree l.names l.lists) l.t l.n l.name l.s l.i

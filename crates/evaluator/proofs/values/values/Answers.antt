@@ -13,9 +13,6 @@ value-requires c =
 pub bounds-out-i : goal.bounds-out-i
 bounds-out-i c = omega (arith, writing_length c.loop-i.invariant, c.requires.filling.room)
 
-pub overflow_add-i : goal.overflow_add-i
-overflow_add-i c = let room = bounds-out-i c in omega arith
-
 pub loop-i-preserved : goal.loop-i-preserved
 loop-i-preserved c = ruling_next_front _ c.loop-i.invariant c.loop-i-test.true c.value.ensures.is
 

@@ -7,6 +7,3 @@ use Rattle.evaluator.proofs.values.values.Given as goal
 
 abbrev pub invariant-loop-i : goal.invariant-loop-i
 invariant-loop-i l = Writing l.initial.out 0 (listed 0 l.n (value_of l.rules l.tree l.names l.states l.end)) l.out l.i
-
-abbrev pub decreases-loop-i : goal.decreases-loop-i
-decreases-loop-i l = l.n - l.i

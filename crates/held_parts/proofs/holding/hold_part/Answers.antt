@@ -1,6 +1,7 @@
 use native.Mathlib.Omega.{arith}
 use Rattle.held_parts.proofs.Pinning.{pinning_first, pinning_none, pinning_one, pinning_all}
 use Rattle.held_parts.proofs.holding.hold_part.Goals as goal
+use Rattle.held_parts.proofs.holding.hold_part.Goals.{then-place-ne0, else-place-ne0}
 
 pub overflow_sub-at : goal.overflow_sub-at
 overflow_sub-at c = c.requires.some
@@ -30,12 +31,14 @@ hold_pin-requires c =
       long = c.loop-k.invariant.1.is.long;
     }
 
-pub loop-k-preserved-then-place-ne0 : goal.loop-k-preserved-then-place-ne0
-loop-k-preserved-then-place-ne0 c =
-    (omega arith, pinning_one c.loop-k.invariant.1 c.if-place-ne0.true c.hold_pin.ensures)
-
 pub loop-k-preserved : goal.loop-k-preserved
-loop-k-preserved c = (omega arith, pinning_none c.loop-k.invariant.1 c.if-place-ne0.false)
+loop-k-preserved c = (
+  omega arith,
+  elim c.if-place-ne0.branch [
+    | then-place-ne0 w ↦ rw w.table-is (pinning_one c.loop-k.invariant.1 w.if-place-ne0.true w.hold_pin.ensures)
+    | else-place-ne0 w ↦ rw w.table-is (pinning_none c.loop-k.invariant.1 w.if-place-ne0.false)
+  ],
+)
 
 pub returns : goal.returns
 returns c = pinning_all c.loop-k.invariant.1 c.loop-k.invariant.0 c.loop-k-test.false

@@ -6,6 +6,3 @@ use Rattle.held_parts.proofs.holding.hold_part.Given as goal
 abbrev pub invariant-loop-k : goal.invariant-loop-k
 invariant-loop-k l =
     (l.k ≤ 32) × Pinning l.rules l.tree l.pins l.end l.states l.names l.first l.k ((l.end - 1) * 256) l.size l.initial.table l.table
-
-abbrev pub decreases-loop-k : goal.decreases-loop-k
-decreases-loop-k l = 32 - l.k

@@ -2,8 +2,8 @@
 use Rattle.jobs.proofs.Additions.{counted_told, refused_told}
 use Rattle.jobs.proofs.sums.add.Goals as goal
 
-pub returns-in-Counted : goal.returns-in-Counted
-returns-in-Counted c = counted_told _ c.add_total.ensures c.in-Counted.is
+pub returns-in-Ok : goal.returns-in-Ok
+returns-in-Ok c = counted_told _ c.add_total.ensures c.in-Ok.is
 
-pub returns-in-Refused : goal.returns-in-Refused
-returns-in-Refused c = refused_told c.in-Refused.is
+pub returns-in-Err : goal.returns-in-Err
+returns-in-Err c = refused_told c.in-Err.is

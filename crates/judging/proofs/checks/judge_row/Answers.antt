@@ -1,6 +1,12 @@
--- `checks::judge_row` meets its contract: its verdicts are put together, and their orders with them.
-use Rattle.judging.proofs.Checked.{judges_row}
+-- `checks::judge_row` meets its contract: the first refusal is handed on.
+use Rattle.std.proofs.lemmas.Result.{err_from_is_err_and}
+use Rattle.judging.proofs.Checked.{row_refused, row_19}
 use Rattle.judging.proofs.checks.judge_row.Goals as goal
 
+pub returns-in_err-judge : goal.returns-in_err-judge
+returns-in_err-judge c =
+    let p = err_from_is_err_and c.from_residual.result c.from_residual.ensures.1 in
+    rw (p.1, p.2) (row_refused c.judge.ensures c.in_err-judge.was)
+
 pub returns : goal.returns
-returns c = judges_row c.judge.ensures c.judge_place.ensures c.next.ensures
+returns c = row_19 c.judge.ensures c.in_ok-judge.was c.judge_place.ensures

@@ -1,11 +1,6 @@
 -- `timed::first_early` meets its contract. The loop's invariant is Looking: the rows before i are above the last.
-use Prim.Native.Nat.{◌-◌}
-use lib.ListN.{length}
 use Rattle.judging.proofs.TimedChecks.{Looking}
 use Rattle.judging.proofs.timed.first_early.Given as goal
 
 abbrev pub invariant-loop-i : goal.invariant-loop-i
 invariant-loop-i l = Looking l.times l.i
-
-abbrev pub decreases-loop-i : goal.decreases-loop-i
-decreases-loop-i l = length l.times - l.i

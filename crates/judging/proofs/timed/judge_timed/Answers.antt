@@ -1,6 +1,12 @@
--- `timed::judge_timed` meets its contract: its verdicts are put together, and their orders with them.
-use Rattle.judging.proofs.TimedChecks.{judges_timed}
+-- `timed::judge_timed` meets its contract: the first refusal is handed on.
+use Rattle.std.proofs.lemmas.Result.{err_from_is_err_and}
+use Rattle.judging.proofs.TimedChecks.{timed_refused, timed_13}
 use Rattle.judging.proofs.timed.judge_timed.Goals as goal
 
+pub returns-in_err-judge : goal.returns-in_err-judge
+returns-in_err-judge c =
+    let p = err_from_is_err_and c.from_residual.result c.from_residual.ensures.1 in
+    rw (p.1, p.2) (timed_refused c.judge.ensures c.in_err-judge.was)
+
 pub returns : goal.returns
-returns c = judges_timed c.judge.ensures c.judge_times.ensures c.next.ensures
+returns c = timed_13 c.judge.ensures c.in_ok-judge.was c.judge_times.ensures

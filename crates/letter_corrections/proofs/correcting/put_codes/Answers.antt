@@ -1,6 +1,6 @@
 use native.Mathlib.Omega.{arith}
-use mathlib.Core.Path.{refl}
-use lib.ListN.{length-map}
+use mathlib.Core.Path.{◌≡◌, refl}
+use lib.ListN.{length, length-map}
 use Rattle.basics.proofs.PartByPart.{put_length}
 use Rattle.state_letters.specs.Letters.{state_of}
 use Rattle.letter_corrections.proofs.LetterCodes.{codes_more, codes_all}
@@ -24,4 +24,6 @@ pub shape_of-out : goal.shape_of-out
 shape_of-out c = put_length c.loop-i.invariant.1
 
 pub returns : goal.returns
-returns c = codes_all c.args.letters.now c.loop-i-test.false c.loop-i.invariant.1
+returns c =
+    let e : c.loop-i.i ≡ length c.args.letters.now = omega (arith, c.loop-i-test.false) in
+    rw e at (codes_all c.args.letters.now c.loop-i-test.false c.loop-i.invariant.1)

@@ -1,11 +1,6 @@
 -- `counting::are_light` meets its contract.
-use Prim.Native.Nat.{◌-◌}
-use lib.ListN.{length}
 use Rattle.listed_acceptance.proofs.Sums.{Lighting}
 use Rattle.listed_acceptance.proofs.counting.are_light.Given as goal
 
 abbrev pub invariant-loop-i : goal.invariant-loop-i
 invariant-loop-i l = Lighting l.steps l.tests l.s l.i
-
-abbrev pub decreases-loop-i : goal.decreases-loop-i
-decreases-loop-i l = length l.steps - l.i

@@ -1,5 +1,5 @@
 -- `counting::are_stepped` meets its contract.
-use Prim.Native.Nat.{◌≤◌, ◌-◌}
+use Prim.Native.Nat.{◌≤◌}
 use lib.ListN.{length}
 use Rattle.listed_acceptance.specs.Lists.{Stepped}
 use Rattle.listed_acceptance.proofs.Each.{Upto}
@@ -7,6 +7,3 @@ use Rattle.listed_acceptance.proofs.counting.are_stepped.Given as goal
 
 abbrev pub invariant-loop-i : goal.invariant-loop-i
 invariant-loop-i l = (l.i ≤ length l.steps) × Upto Stepped l.steps l.i
-
-abbrev pub decreases-loop-i : goal.decreases-loop-i
-decreases-loop-i l = length l.steps - l.i

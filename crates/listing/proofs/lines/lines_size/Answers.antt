@@ -29,9 +29,6 @@ overflow_add-size c =
       c.requires.lists.rows.1,
     )
 
-pub loop-i-smaller : goal.loop-i-smaller
-loop-i-smaller c = omega (arith, c.loop-i-test.true)
-
 pub loop-i-preserved : goal.loop-i-preserved
 loop-i-preserved c =
     sizing_next c.requires.lists.same c.loop-i.invariant c.loop-i-test.true c.stamp_of.ensures refl

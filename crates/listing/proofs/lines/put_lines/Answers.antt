@@ -22,12 +22,6 @@ put_line-p-requires c =
     let g = rows_going _ _ _ _ c.requires.listable.lists.same c.loop-i-test.true c.loop-i.invariant.1 in
     row_asked c.requires c.loop-i-test.true c.stamp_of.ensures g
 
-pub overflow_add-i : goal.overflow_add-i
-overflow_add-i c = omega (arith, c.loop-i-test.true)
-
-pub loop-i-smaller : goal.loop-i-smaller
-loop-i-smaller c = omega (arith, c.loop-i-test.true)
-
 pub loop-i-preserved : goal.loop-i-preserved
 loop-i-preserved c =
     let g = rows_going _ _ _ _ c.requires.listable.lists.same c.loop-i-test.true c.loop-i.invariant.1 in (

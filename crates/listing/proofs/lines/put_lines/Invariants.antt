@@ -1,5 +1,5 @@
 -- `put_lines` meets its contract: the lines of the first i rows are written.
-use Prim.Native.Nat.{◌-◌, ◌≤◌}
+use Prim.Native.Nat.{◌≤◌}
 use mathlib.Core.List.{[], ◌∷◌}
 use lib.ListN.{length, drop}
 use Rattle.basics.proofs.PartByPart.{Going}
@@ -10,6 +10,3 @@ abbrev pub invariant-loop-i : goal.invariant-loop-i
 invariant-loop-i l =
     (l.i ≤ length l.codes) ×
     Going l.initial.out l.at (lines l.column l.times l.codes) (lines l.column (drop l.i l.times) (drop l.i l.codes) ∷ []) l.out l.p
-
-abbrev pub decreases-loop-i : goal.decreases-loop-i
-decreases-loop-i l = length l.codes - l.i

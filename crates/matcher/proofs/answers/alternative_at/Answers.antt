@@ -1,4 +1,3 @@
-use Prim.Native.Nat.{◌+◌}
 use mathlib.Core.Path.{refl}
 use native.Mathlib.Omega.{arith}
 use Rattle.matcher.proofs.Matching.{stepping_last}
@@ -11,9 +10,6 @@ returns-then-row-n c = longer_no c.requires _ c.if-row-n.true
 pub loop-j-init : goal.loop-j-init
 loop-j-init c = stepping_start c.requires _
 
-pub overflow_cast-many : goal.overflow_cast-many
-overflow_cast-many c = omega (arith, c.type_inv.tests (c.args.s + c.loop-j.j))
-
 pub step_at-requires : goal.step_at-requires
 step_at-requires c = step_asked c.requires _ c.loop-j.invariant c.loop-j-test.true c.if-row-n.false
 
@@ -24,7 +20,7 @@ overflow_add-at c =
 
 pub loop-j-preserved : goal.loop-j-preserved
 loop-j-preserved c =
-    rw c.lesser-least.ensures
+    rw c.min-least.ensures
     (stepping_next c.requires _ c.loop-j.invariant c.loop-j-test.true _ c.step_at.ensures)
 
 pub returns : goal.returns

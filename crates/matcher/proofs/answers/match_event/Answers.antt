@@ -1,4 +1,5 @@
-use mathlib.Core.Path.{◌∙◌, sym}
+use mathlib.Core.Path.{◌≡◌, ◌∙◌, sym}
+use lib.ListN.{length}
 use native.Mathlib.Omega.{arith}
 use Rattle.matcher.proofs.Walking.{walking_first, walking_yes, walking_next}
 use Rattle.matcher.proofs.Walking.{walking_end, alternative_asked}
@@ -6,9 +7,6 @@ use Rattle.matcher.proofs.answers.match_event.Goals as goal
 
 pub loop-k-init : goal.loop-k-init
 loop-k-init c = walking_first c.requires.asked _
-
-pub overflow_cast-n : goal.overflow_cast-n
-overflow_cast-n c = omega (arith, c.type_inv.steps c.loop-k.k)
 
 pub alternative_at-r-requires : goal.alternative_at-r-requires
 alternative_at-r-requires c = alternative_asked c.requires.asked _ c.loop-k.invariant c.loop-k-test.true
@@ -30,10 +28,12 @@ overflow_add-s c =
 
 pub loop-k-preserved : goal.loop-k-preserved
 loop-k-preserved c =
-    rw (c.pass-t.ensures, c.greater-best.ensures)
+    rw (c.pass-t.ensures, c.max-best.ensures)
     (walking_next c.requires.asked _ c.loop-k.invariant c.loop-k-test.true _
     c.alternative_at-r.ensures c.if-r-eq2.false)
 
 pub returns : goal.returns
 returns c =
-    walking_end c.requires.asked _ c.loop-k.invariant c.loop-k-test.false c.requires.event c.name_of.ensures
+    let e : c.loop-k.k ≡ length c.args.lists.now.steps.now = omega (arith, c.loop-k-test.false) in
+    rw e at
+    (walking_end c.requires.asked _ c.loop-k.invariant c.loop-k-test.false c.requires.event c.name_of.ensures)

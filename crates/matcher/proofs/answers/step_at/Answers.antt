@@ -1,4 +1,3 @@
-use Prim.Native.Nat.{◌+◌}
 use native.Mathlib.Omega.{arith}
 use Rattle.matcher.proofs.Matching.{asking_first, asking_last}
 use Rattle.matcher.proofs.Asked.{test_asked, asking_next}
@@ -7,17 +6,12 @@ use Rattle.matcher.proofs.answers.step_at.Goals as goal
 pub loop-i-init : goal.loop-i-init
 loop-i-init c = asking_first
 
-pub overflow_cast-end : goal.overflow_cast-end
-overflow_cast-end c =
-    let a = c.args in
-    omega (arith, c.type_inv.operands (a.t + c.loop-i.i))
-
 pub test_at-requires : goal.test_at-requires
 test_at-requires c = test_asked c.requires c.loop-i.i (omega arith)
 
 pub loop-i-preserved : goal.loop-i-preserved
 loop-i-preserved c =
-    rw c.lesser-least.ensures
+    rw c.min-least.ensures
     (asking_next c.requires _ c.loop-i.invariant (omega arith) _
     c.test_at.ensures)
 

@@ -17,8 +17,8 @@ slice_bounds-work-end c =
     let e : length c.lay-work.result ≡ 544 = search rules in
     omega (arith, end_fits c.requires)
 
-pub slice_bounds-match_row-end : goal.slice_bounds-match_row-end
-slice_bounds-match_row-end c =
+pub slice_bounds-scene-end : goal.slice_bounds-scene-end
+slice_bounds-scene-end c =
     let whole : length c.args.queue.states ≡ 512 = search rules in
     push_length c.requires whole c.lay-work.ensures
 

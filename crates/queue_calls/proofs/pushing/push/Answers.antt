@@ -5,14 +5,14 @@ use Rattle.queue_calls.proofs.pushing.push.Goals as goal
 pub push_tree-requires : goal.push_tree-requires
 push_tree-requires c =
     push_good c.row_fits-fits.ensures c.queue_good-good.ensures c.judge_push-v.ensures
-    c.in-Good.is
+    c.in-Ok.is
 
-pub returns-in-Refused : goal.returns-in-Refused
-returns-in-Refused c =
+pub returns-in-Err : goal.returns-in-Err
+returns-in-Err c =
     push_refused c.row_fits-fits.ensures c.queue_good-good.ensures c.judge_push-v.ensures
-    c.in-Refused.is
+    c.in-Err.is
 
-pub returns-in-Good : goal.returns-in-Good
-returns-in-Good c =
+pub returns-in-Ok : goal.returns-in-Ok
+returns-in-Ok c =
     push_told c.row_fits-fits.ensures c.queue_good-good.ensures c.judge_push-v.ensures
-    c.in-Good.is c.push_tree.ensures c.pushing_of.ensures.0 c.pushing_of.ensures.1
+    c.in-Ok.is c.push_tree.ensures c.pushing_of.ensures.0 c.pushing_of.ensures.1

@@ -7,9 +7,9 @@ use Rattle.queue_calls.proofs.pushing.steps_of.Goals as goal
 pub measure-size-requires : goal.measure-size-requires
 measure-size-requires c = accepted_tree _ _ c.requires
 
-pub returns-in-Over : goal.returns-in-Over
-returns-in-Over c = steps_over _ (accepted_limited _ _ c.requires) c.measure-size.ensures c.in-Over.is
+pub returns-in-None : goal.returns-in-None
+returns-in-None c = steps_over _ (accepted_limited _ _ c.requires) c.measure-size.ensures c.in-None.is
 
-pub returns-in-Within : goal.returns-in-Within
-returns-in-Within c =
-    steps_within _ (accepted_limited _ _ c.requires) c.measure-size.ensures c.in-Within.is
+pub returns-in-Some : goal.returns-in-Some
+returns-in-Some c =
+    steps_within _ (accepted_limited _ _ c.requires) c.measure-size.ensures c.in-Some.is

@@ -1,10 +1,6 @@
 -- `is_new` meets its contract.
-use Prim.Native.Nat.{◌-◌}
 use Rattle.record_checks.proofs.NameWalk.{Walk}
 use Rattle.record_checks.proofs.checks.is_new.Given as goal
 
 abbrev pub invariant-loop-j : goal.invariant-loop-j
 invariant-loop-j l = Walk l.file l.k l.at l.q l.j
-
-abbrev pub decreases-loop-j : goal.decreases-loop-j
-decreases-loop-j l = l.k - l.j

@@ -1,34 +1,33 @@
+-- `clear` meets its contract.
 use native.Mathlib.Omega.{arith}
-use mathlib.Core.Path.{◌≡◌, sym}
-use Prim.Native.Nat.{ℕ}
-use lib.ListN.{length, replicate, length-replicate, get_or-replicate}
-use Rattle.basics.proofs.Stores.{writing_first, writing_length, writing_next, writing_end}
+use Prim.Native.Nat.{ℕ, ◌+◌, ◌-◌, ◌≤◌}
+use mathlib.Core.Path.{◌≡◌, sym, ap, ◌∙◌}
+use mathlib.Core.List.{List, ◌++◌}
+use lib.ListN.{length, replicate, take, drop, length-drop, length-replicate}
+use lib.Seq.{sets, drop-drop, length-take-le}
+use borrow.Rule.Slice.PartMut.{put_mid}
+use Rattle.basics.specs.Memory.{placed}
+use Rattle.basics.proofs.Stores.{sets_placed}
 use Rattle.record_copies.proofs.copies.clear.Goals as goal
 
-pub loop-i-init : goal.loop-i-init
-loop-i-init c = writing_first
-
-pub bounds-out-at : goal.bounds-out-at
-bounds-out-at c = omega (arith, writing_length c.loop-i.invariant)
-
-pub loop-i-preserved : goal.loop-i-preserved
-loop-i-preserved c =
-    let n = c.args.n in
-    writing_next c.loop-i.invariant (omega (arith, length-replicate {A = ℕ} n 0))
-    (sym (get_or-replicate {A = ℕ} n _ 0 0 c.loop-i-test.true))
-
-pub overflow_add-result : goal.overflow_add-result
-overflow_add-result c = omega (arith, length-replicate {A = ℕ} c.args.n 0, c.loop-i.invariant.within)
-
-pub shape_of-out : goal.shape_of-out
-shape_of-out c = writing_length c.loop-i.invariant
+-- a part put back with other entries
+filled : (d ys zs : List ℕ) (at k : ℕ) → ys ≡ zs → length zs ≡ k → at + k ≤ length d → put_mid at k d ys ≡ sets d at zs
+unfolding placed
+filled d ys zs at k e f h =
+    rw (e, ← f)
+    (ap (λ (l : List ℕ). take at d ++ (zs ++ l)) (drop-drop (length zs) at d)
+    ∙ sym (sets_placed d at zs (omega arith)))
 
 pub returns : goal.returns
 returns c =
-    let size : length (replicate {A = ℕ} c.args.n 0) ≡ c.args.n =
-    length-replicate {A = ℕ} c.args.n 0
-    in
+    let size : length (replicate {A = ℕ} c.args.n 0) ≡ c.args.n = length-replicate {A = ℕ} c.args.n 0 in
+    let part : c.args.at + c.args.n - c.args.at ≡ c.args.n = omega arith in
+    let there : length (take (c.args.at + c.args.n - c.args.at) (drop c.args.at c.args.out.now)) ≡ c.args.n =
+    length-take-le _ _ (omega (arith, length-drop c.args.at c.args.out.now, c.requires)) ∙ part in
     record {
-      bytes = writing_end c.loop-i.invariant (omega arith);
-      next = omega (arith, c.loop-i.invariant.within);
+      bytes =
+          filled c.args.out.now c.fill.new.self (replicate {A = ℕ} c.args.n 0) c.args.at _
+          (c.fill.ensures.after (λ y h. h) ∙ ap (λ (m : ℕ). replicate {A = ℕ} m 0) there)
+          (size ∙ sym part) (omega (arith, part, c.requires));
+      next = omega arith;
     }

@@ -14,7 +14,7 @@ use Rattle.record_copies.proofs.Copying.{
   states_length,
 }
 use Rattle.record_copies.proofs.copies.copy_states.Goals as goal
-use Rattle.record_copies.proofs.copies.copy_states.Goals.{After-width_at-w}
+use Rattle.record_copies.proofs.copies.copy_states.Goals.{After-width_at-w, then-w-eq4, else-w-eq4}
 
 -- the row where the turn stands, behind the width that was read
 there : (c : After-width_at-w) →
@@ -42,15 +42,6 @@ pub overflow_add-q-then-w-eq4 : goal.overflow_add-q-then-w-eq4
 overflow_add-q-then-w-eq4 c =
     omega (arith, c.if-w-eq4.true, there (goal.at.overflow_add-q-then-w-eq4 c).After-width_at-w)
 
-pub loop-r-preserved-then-w-eq4 : goal.loop-r-preserved-then-w-eq4
-loop-r-preserved-then-w-eq4 c =
-    let width = rw c.if-w-eq4.true at c.width_at-w.ensures in (
-      search rules,
-      omega (arith, row_next _ _ _ c.requires.rows _ c.loop-r.invariant.1 width),
-      states_put _ _ _ c.requires.rows _ c.loop-r.invariant.1 width c.loop-r.invariant.2
-          c.copy_codes-to.ensures,
-    )
-
 pub copy_codes-to-requires-else-w-eq4 : goal.copy_codes-to-requires-else-w-eq4
 copy_codes-to-requires-else-w-eq4 c =
     codes_fit _ _ _ c.requires.rows _ c.loop-r.invariant.1 c.width_at-w.ensures c.loop-r.invariant.2
@@ -67,12 +58,23 @@ overflow_add-q-else-w-eq4-3 c = omega (arith, there (goal.at.overflow_add-q-else
 
 pub loop-r-preserved : goal.loop-r-preserved
 loop-r-preserved c =
-    let width = c.width_at-w.ensures in (
-      search rules,
-      row_next _ _ _ c.requires.rows _ c.loop-r.invariant.1 width,
-      states_put _ _ _ c.requires.rows _ c.loop-r.invariant.1 width c.loop-r.invariant.2
-          c.copy_codes-to-else-w-eq4.ensures,
-    )
+    elim c.if-w-eq4.branch [
+      | then-w-eq4 w ↦
+          let width = rw w.if-w-eq4.true at c.width_at-w.ensures in
+          rw (w.q-is, w.out-is, w.to-is) (
+            search rules,
+            omega (arith, row_next _ _ _ c.requires.rows _ c.loop-r.invariant.1 width),
+            states_put _ _ _ c.requires.rows _ c.loop-r.invariant.1 width c.loop-r.invariant.2 w.copy_codes-to.ensures,
+          )
+      | else-w-eq4 w ↦
+          let width = c.width_at-w.ensures in
+          rw (w.q-is, w.out-is, w.to-is) (
+            search rules,
+            row_next _ _ _ c.requires.rows _ c.loop-r.invariant.1 width,
+            states_put _ _ _ c.requires.rows _ c.loop-r.invariant.1 width c.loop-r.invariant.2
+                w.copy_codes-to-else-w-eq4.ensures,
+          )
+    ]
 
 pub shape_of-out : goal.shape_of-out
 shape_of-out c = put_length c.loop-r.invariant.2

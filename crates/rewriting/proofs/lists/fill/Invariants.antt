@@ -1,5 +1,4 @@
 -- `rewriting::lists::fill` meets its contract. The loop's invariant: the alternatives passed are written.
-use Prim.Native.Nat.{◌-◌}
 use Rattle.rewriting.specs.Lists.{alternatives_by}
 use Rattle.rewriting.proofs.Filling.{Filling}
 use Rattle.rewriting.proofs.lists.fill.Given as goal
@@ -7,7 +6,3 @@ use Rattle.rewriting.proofs.lists.fill.Given as goal
 abbrev pub invariant-loop-t : goal.invariant-loop-t
 invariant-loop-t l =
     Filling (alternatives_by l.pins l.tree l.names) l.initial.steps l.initial.tests l.initial.edges l.initial.operands l.steps l.tests l.edges l.operands l.s l.from l.t
-
-abbrev pub decreases-loop-t : goal.decreases-loop-t
-decreases-loop-t l =
-    l.count - l.t

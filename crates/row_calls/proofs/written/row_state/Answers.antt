@@ -1,17 +1,21 @@
 -- `written::row_state` meets its contract.
+use Rattle.std.proofs.lemmas.Result.{err_from_is_err_and}
 use Rattle.row_calls.proofs.AsWritten.{row_there, boolean_ends, state_refused, state_told}
 use Rattle.row_calls.proofs.written.row_state.Goals as goal
 
 pub state-s-requires : goal.state-s-requires
 state-s-requires c =
-    let k = c.check_row-v.ensures in
-    let g = c.in-Good.is in
+    let k = c.check_row.ensures in
+    let g = c.in_ok-check_row.was in
     record { ends_boolean = boolean_ends k g; within = row_there k g }
 
-pub returns-in-Refused : goal.returns-in-Refused
-returns-in-Refused c = state_refused c.check_row-v.ensures c.in-Refused.is
+pub returns-in_err-check_row : goal.returns-in_err-check_row
+returns-in_err-check_row c =
+    let p = err_from_is_err_and c.from_residual.result c.from_residual.ensures.1 in
+    rw (p.1, p.2)
+    (state_refused c.check_row.ensures c.in_err-check_row.was)
 
-pub returns-in-Good : goal.returns-in-Good
-returns-in-Good c =
-    let k = c.check_row-v.ensures in
-    state_told k c.in-Good.is c.state-s.ensures
+pub returns : goal.returns
+returns c =
+    let k = c.check_row.ensures in
+    state_told k c.in_ok-check_row.was c.state-s.ensures

@@ -14,9 +14,6 @@ pub overflow_add-size : goal.overflow_add-size
 overflow_add-size c =
     omega (arith, c.loop-i.invariant.few, c.loop-i.invariant.within, c.member_size-size.ensures.few, c.requires.few)
 
-pub loop-i-smaller : goal.loop-i-smaller
-loop-i-smaller c = omega (arith, c.loop-i-test.true)
-
 pub loop-i-preserved : goal.loop-i-preserved
 loop-i-preserved c = measured_next c.loop-i.invariant c.loop-i-test.true c.member_size-size.ensures
 

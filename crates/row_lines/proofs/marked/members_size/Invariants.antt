@@ -1,5 +1,4 @@
 -- `members_size` meets its contract: the names before the i-th are measured.
-use Prim.Native.Nat.{◌-◌}
 use Rattle.row_lines.specs.Lines.{member}
 use Rattle.row_lines.specs.Inner.{marked}
 use Rattle.row_lines.proofs.InTurn.{Measured}
@@ -7,6 +6,3 @@ use Rattle.row_lines.proofs.marked.members_size.Given as goal
 
 abbrev pub invariant-loop-i : goal.invariant-loop-i
 invariant-loop-i l = Measured (member l.names (marked l.mask)) l.k 33 l.i l.size
-
-abbrev pub decreases-loop-i : goal.decreases-loop-i
-decreases-loop-i l = l.k - l.i

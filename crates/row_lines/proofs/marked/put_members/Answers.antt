@@ -1,4 +1,3 @@
-use native.Mathlib.Omega.{arith}
 use Rattle.row_lines.specs.Lines.{members}
 use Rattle.row_lines.proofs.InTurn.{written_first, written_room, written_next, written_end}
 use Rattle.row_lines.proofs.InTurn.{written_length}
@@ -15,12 +14,6 @@ put_member-p-requires c =
       slot = slot_in c.requires.slots c.loop-i-test.true;
       room = written_room c.loop-i.invariant c.loop-i-test.true;
     }
-
-pub overflow_add-i : goal.overflow_add-i
-overflow_add-i c = omega (arith, c.loop-i-test.true)
-
-pub loop-i-smaller : goal.loop-i-smaller
-loop-i-smaller c = omega (arith, c.loop-i-test.true)
 
 pub loop-i-preserved : goal.loop-i-preserved
 loop-i-preserved c =

@@ -1,5 +1,4 @@
 -- `put_members` meets its contract: the names before the i-th are written.
-use Prim.Native.Nat.{◌-◌}
 use Rattle.row_lines.specs.Lines.{member}
 use Rattle.row_lines.specs.Inner.{marked}
 use Rattle.row_lines.proofs.InTurn.{Written}
@@ -7,6 +6,3 @@ use Rattle.row_lines.proofs.marked.put_members.Given as goal
 
 abbrev pub invariant-loop-i : goal.invariant-loop-i
 invariant-loop-i l = Written (member l.names (marked l.mask)) l.k l.initial.out l.at l.i l.out l.p
-
-abbrev pub decreases-loop-i : goal.decreases-loop-i
-decreases-loop-i l = l.k - l.i

@@ -1,5 +1,5 @@
 -- `put_letters` meets its contract: the letters before the i-th are written.
-use Prim.Native.Nat.{◌+◌, ◌-◌}
+use Prim.Native.Nat.{◌+◌}
 use mathlib.Core.List.{[], ◌∷◌}
 use lib.ListN.{get_or}
 use Rattle.listing.specs.Listing.{letter}
@@ -9,6 +9,3 @@ use Rattle.row_lines.proofs.rows.put_letters.Given as goal
 abbrev pub invariant-loop-i : goal.invariant-loop-i
 invariant-loop-i l =
     Written (λ j. 32 ∷ letter (get_or l.states (l.from + j) 0) ∷ []) l.k l.initial.out l.at l.i l.out l.p
-
-abbrev pub decreases-loop-i : goal.decreases-loop-i
-decreases-loop-i l = l.k - l.i

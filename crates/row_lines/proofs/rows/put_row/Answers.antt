@@ -15,20 +15,20 @@ use Rattle.row_lines.proofs.rows.put_row.Goals.{After-of_row-c}
 abbrev Left : After-of_row-c → List (List ℕ) → List ℕ → ℕ → Type 0
 Left c =
     Going c.args.out.now c.args.at
-    (row_line c.args.names.now c.args.k c.args.states.now c.args.time.0
+    (row_line c.args.lists.now.names.now c.args.lists.now.k c.args.lists.now.states.now c.args.time.0
     c.args.row.0)
 
 -- which names changed, how many, and the letters before them
 abbrev which : After-of_row-c → List (List ℕ)
 which c =
-    members c.args.names.now c.args.k (marked c.of_row-c.result.mask) ∷ bytes "\n" ∷ []
+    members c.args.lists.now.names.now c.args.lists.now.k (marked c.of_row-c.result.mask) ∷ bytes "\n" ∷ []
 
 abbrev many : After-of_row-c → List (List ℕ)
 many c = decimal c.of_row-c.result.many ∷ which c
 
 abbrev states : After-of_row-c → List (List ℕ)
 states c =
-    letters c.args.k (row_of c.args.k c.args.states.now c.args.row.0)
+    letters c.args.lists.now.k (row_of c.args.lists.now.k c.args.lists.now.states.now c.args.row.0)
     ∷ bytes " " ∷ many c
 
 begun : (c : After-of_row-c)

@@ -27,12 +27,6 @@ put_row-p-requires c =
       room = written_room c.loop-i.invariant c.loop-i-test.true;
     })
 
-pub overflow_add-i : goal.overflow_add-i
-overflow_add-i c = omega (arith, c.loop-i-test.true)
-
-pub loop-i-smaller : goal.loop-i-smaller
-loop-i-smaller c = omega (arith, c.loop-i-test.true)
-
 pub loop-i-preserved : goal.loop-i-preserved
 loop-i-preserved c =
     written_next c.loop-i.invariant c.loop-i-test.true

@@ -1,6 +1,6 @@
 use borrow.Author.Rules.{rules}
 use borrow.Author.Count.{below_none, below_more}
-use mathlib.Core.Path.{◌≡◌, sym, ◌∙◌}
+use mathlib.Core.Path.{sym, ◌∙◌}
 use native.Mathlib.Omega.{arith}
 use Rattle.sorting.proofs.SlotNumbers.{first_here, first_none}
 use Rattle.sorting.proofs.lookup.first_unknown.Goals as goal
@@ -30,7 +30,4 @@ loop-i-preserved c = (
 
 pub returns : goal.returns
 returns c =
-    let i = c.loop-i in
-    let e : i.i ≡ c.args.count = omega
-    (arith, c.loop-i-test.false, i.invariant.0) in
-    e ∙ first_none _ _ (λ j l. i.invariant.1 j (omega arith))
+    first_none _ _ (λ j l. c.loop-i.invariant.1 j (omega (arith, c.loop-i-test.false)))

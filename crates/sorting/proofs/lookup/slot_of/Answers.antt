@@ -1,3 +1,4 @@
+use mathlib.Core.Path.{refl}
 use borrow.Author.Rules.{rules}
 use borrow.Author.Count.{below_none, below_more}
 use native.Mathlib.Omega.{arith}
@@ -32,4 +33,4 @@ loop-k-preserved c = (
 )
 
 pub returns : goal.returns
-returns c = number_none _ _ _ (omega (arith, c.loop-k-test.false)) c.loop-k.invariant.1
+returns c = number_none _ _ _ refl (λ j l. c.loop-k.invariant.1 j (omega (arith, c.loop-k-test.false)))

@@ -1,6 +1,6 @@
 -- `sort_nodes` meets its contract: what it has at hand shows the run over the nodes passed.
 use mathlib.Core.List.{List, []}
-use Prim.Native.Nat.{ℕ, ◌≤◌, ◌-◌}
+use Prim.Native.Nat.{ℕ, ◌≤◌}
 use Rattle.grammar.specs.Answers.{handed}
 use Rattle.sorting.specs.declared.sorts.Sorting.{Sorting}
 use Rattle.sorting.specs.Lookup.{number_at}
@@ -15,6 +15,3 @@ pub record Along (names text codes places : List ℕ) (len : ℕ) (s : Sorting) 
 
 abbrev pub invariant-loop-i : goal.invariant-loop-i
 invariant-loop-i l = Along l.names l.text l.codes l.places l.len l.s l.i
-
-abbrev pub decreases-loop-i : goal.decreases-loop-i
-decreases-loop-i l = l.len - l.i

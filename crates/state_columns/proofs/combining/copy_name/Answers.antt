@@ -25,9 +25,6 @@ overflow_add-parts-in-loop-i-2 c = omega (arith, c.requires.room, c.well_formed)
 pub bounds-parts-o : goal.bounds-parts-o
 bounds-parts-o c = omega (arith, c.requires.room, stating_length c.loop-i.invariant)
 
-pub overflow_add-i : goal.overflow_add-i
-overflow_add-i c = omega (arith, c.requires.few)
-
 pub loop-i-preserved : goal.loop-i-preserved
 loop-i-preserved c =
     stating_next c.loop-i.invariant c.loop-i-test.true (record {

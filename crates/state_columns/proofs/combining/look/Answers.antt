@@ -42,9 +42,6 @@ pub bounds-parts-o-in-loop-i : goal.bounds-parts-o-in-loop-i
 bounds-parts-o-in-loop-i c =
     read_there c.loop-i.invariant c.requires.two.first c.loop-i-test.true (omega arith)
 
-pub overflow_add-i : goal.overflow_add-i
-overflow_add-i c = omega (arith, c.requires.two.first.room, c.well_formed)
-
 pub loop-i-preserved : goal.loop-i-preserved
 loop-i-preserved c =
     stating_next c.loop-i.invariant c.loop-i-test.true (looked_is c.loop-i.invariant c.requires.two

@@ -21,9 +21,6 @@ overflow_add-parts c = omega (arith, c.requires.room, c.well_formed)
 pub bounds-parts-o-in-loop-i : goal.bounds-parts-o-in-loop-i
 bounds-parts-o-in-loop-i c = omega (arith, c.requires.room, stating_length c.loop-i.invariant)
 
-pub overflow_add-i : goal.overflow_add-i
-overflow_add-i c = omega (arith, c.requires.room, c.well_formed)
-
 pub loop-i-preserved : goal.loop-i-preserved
 loop-i-preserved c =
     stating_next c.loop-i.invariant c.loop-i-test.true (negated_is c.loop-i.invariant c.requires

@@ -25,9 +25,6 @@ overflow_add-parts c = omega (arith, c.requires.room, c.requires.wide, c.well_fo
 pub bounds-parts-o : goal.bounds-parts-o
 bounds-parts-o c = omega (arith, stating_length c.loop-i.invariant, c.requires.room, c.requires.wide)
 
-pub overflow_add-i : goal.overflow_add-i
-overflow_add-i c = omega (arith, c.requires.wide)
-
 pub loop-i-preserved : goal.loop-i-preserved
 loop-i-preserved c = stating_next c.loop-i.invariant c.loop-i-test.true c.state.ensures
 

@@ -1,5 +1,5 @@
 -- `spelling::spell_rows` meets its contract. The loop's invariant: the states so far are written.
-use Prim.Native.Nat.{◌*◌, ◌-◌}
+use Prim.Native.Nat.{◌*◌}
 use Rattle.state_columns.specs.Spelt.{states_from}
 use Rattle.state_columns.proofs.Stating.{Stating}
 use Rattle.state_columns.proofs.spelling.spell_rows.Given as goal
@@ -7,6 +7,3 @@ use Rattle.state_columns.proofs.spelling.spell_rows.Given as goal
 abbrev pub invariant-loop-i : goal.invariant-loop-i
 invariant-loop-i l =
     Stating (states_from l.rules l.tree l.names l.states l.end l.lo) l.n l.initial.parts (l.d * 1041) l.parts l.i
-
-abbrev pub decreases-loop-i : goal.decreases-loop-i
-decreases-loop-i l = l.n - l.i

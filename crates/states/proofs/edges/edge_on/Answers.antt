@@ -10,7 +10,7 @@ unfolding edge_on
 returns-then-k-lt81 c =
     let first = c.ask.ensures in
     let second = c.ask-then-k-lt81.ensures in
-    rw (edge_pair _ c.if-k-lt81.true, ← first, ← second) c.lesser.ensures
+    rw (edge_pair _ c.if-k-lt81.true, ← first, ← second) (cc)
 
 pub returns-then-x-y : goal.returns-then-x-y
 unfolding edge_on

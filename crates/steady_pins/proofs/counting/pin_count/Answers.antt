@@ -1,27 +1,18 @@
+-- `counting::pin_count` meets its contract.
+use borrow.Author.Rules.{rules}
+use Prim.Native.Nat.{ℕ, ◌-◌, ◌+◌, ◌*◌}
+use mathlib.Core.Path.{◌≡◌}
+use mathlib.Core.Bool.{not}
 use native.Mathlib.Omega.{arith}
-use Rattle.steady_pins.proofs.PinCounts.{none_counted, next_counted, all_counted}
+use lib.Dec.{eqb}
+use lib.ListN.{take, drop}
+use Rattle.std.specs.List.{count_by}
+use Rattle.steady_pins.proofs.PinCounts.{pins_counted}
 use Rattle.steady_pins.proofs.counting.pin_count.Goals as goal
 
-pub overflow_sub-base : goal.overflow_sub-base
-overflow_sub-base c = omega (arith, c.requires.some)
-
-pub overflow_mul-base : goal.overflow_mul-base
-overflow_mul-base c = omega (arith, c.requires.few)
-
-pub loop-k-init : goal.loop-k-init
-loop-k-init c = none_counted
-
-pub overflow_add-base : goal.overflow_add-base
-overflow_add-base c = omega (arith, c.requires.few)
-
-pub bounds-pins-base : goal.bounds-pins-base
-bounds-pins-base c = omega (arith, c.requires.long, c.requires.few)
-
-pub loop-k-preserved : goal.loop-k-preserved
-loop-k-preserved c = next_counted c.loop-k.invariant c.loop-k-test.true c.one-n.ensures
-
-pub overflow_add-n : goal.overflow_add-n
-overflow_add-n c = omega (arith, (loop-k-preserved c).few, (loop-k-preserved c).within)
-
 pub returns : goal.returns
-returns c = all_counted c.loop-k.invariant c.loop-k-test.false
+returns c =
+    let b : ℕ = (c.args.end - 1) * 32 in
+    let e : c.count.result ≡ count_by (λ x. not (eqb x 0)) (take (b + 32 - b) (drop b c.args.pins.now)) = search rules in
+    let d : b + 32 - b ≡ 32 = omega arith in
+    pins_counted c.requires (rw d at e)

@@ -17,12 +17,6 @@ bounds-others-n c = c.loop-n-test.true
 pub bounds-r-n : goal.bounds-r-n
 bounds-r-n c = c.loop-n-test.true
 
-pub overflow_add-n : goal.overflow_add-n
-overflow_add-n c = omega (arith, c.loop-n-test.true)
-
-pub loop-n-smaller : goal.loop-n-smaller
-loop-n-smaller c = omega (arith, c.loop-n-test.true)
-
 pub loop-n-preserved : goal.loop-n-preserved
 loop-n-preserved c = (
   omega (arith, c.loop-n-test.true),

@@ -24,12 +24,6 @@ bounds-pins-r c =
     let start = c.requires in
     let l = start.fit.low _ c.loop-k-test.true in omega (arith, start.name)
 
-pub overflow_add-k : goal.overflow_add-k
-overflow_add-k c = let f = c.requires.fit.few in omega (arith, c.loop-k-test.true)
-
-pub loop-k-smaller : goal.loop-k-smaller
-loop-k-smaller c = omega (arith, c.loop-k-test.true)
-
 pub loop-k-preserved : goal.loop-k-preserved
 loop-k-preserved c =
     let start = c.requires in (

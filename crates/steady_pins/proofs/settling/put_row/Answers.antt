@@ -20,12 +20,6 @@ overflow_add-pins c = omega (arith, c.requires, c.loop-n-test.true)
 pub bounds-pins-base : goal.bounds-pins-base
 bounds-pins-base c = omega (arith, c.requires, c.loop-n-test.true)
 
-pub overflow_add-n : goal.overflow_add-n
-overflow_add-n c = omega (arith, c.loop-n-test.true)
-
-pub loop-n-smaller : goal.loop-n-smaller
-loop-n-smaller c = omega (arith, c.loop-n-test.true)
-
 pub loop-n-preserved : goal.loop-n-preserved
 loop-n-preserved c = (
   omega (arith, c.loop-n-test.true),

@@ -20,12 +20,6 @@ settle_name-requires c =
     settling_rows c.loop-n.invariant.1 c.requires
     c.loop-n-test.true
 
-pub overflow_add-n : goal.overflow_add-n
-overflow_add-n c = omega (arith, c.loop-n-test.true)
-
-pub loop-n-smaller : goal.loop-n-smaller
-loop-n-smaller c = omega (arith, c.loop-n-test.true)
-
 pub loop-n-preserved : goal.loop-n-preserved
 loop-n-preserved c = (
   omega (arith, c.loop-n-test.true),

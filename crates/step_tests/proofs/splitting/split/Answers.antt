@@ -18,5 +18,5 @@ returns-in-RightFirst c = rw c.in-RightFirst.is (split_right_first _ _ _ c.behin
 pub returns-in-Together : goal.returns-in-Together
 returns-in-Together c =
     rw c.in-Together.is
-    (split_together _ _ _ (rw c.more.ensures at c.behind-in-Together.ensures)
-    (rw c.more-in-Together.ensures at c.behind-in-Together-2.ensures))
+    (split_together _ _ _ (rw c.saturating_sub.ensures at c.behind-in-Together.ensures)
+    (rw c.saturating_sub-in-Together.ensures at c.behind-in-Together-2.ensures))

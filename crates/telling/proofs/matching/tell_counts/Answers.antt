@@ -3,10 +3,10 @@ use mathlib.Core.Path.{ap, sym}
 use Rattle.telling.specs.Matching.{told_counts}
 use Rattle.telling.proofs.matching.tell_counts.Goals as goal
 
-pub returns-in-Counted : goal.returns-in-Counted
+pub returns-in-Ok : goal.returns-in-Ok
 unfolding told_counts
-returns-in-Counted c = ap told_counts (sym c.in-Counted.is)
+returns-in-Ok c = ap told_counts (sym c.in-Ok.is)
 
-pub returns-in-Refused : goal.returns-in-Refused
+pub returns-in-Err : goal.returns-in-Err
 unfolding told_counts
-returns-in-Refused c = ap told_counts (sym c.in-Refused.is)
+returns-in-Err c = ap told_counts (sym c.in-Err.is)

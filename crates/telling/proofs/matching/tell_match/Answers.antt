@@ -16,12 +16,12 @@ pub time_of-began-requires : goal.time_of-began-requires
 unfolding told_match
 time_of-began-requires c = search rules
 
-pub returns-in-Found : goal.returns-in-Found
+pub returns-in-Ok : goal.returns-in-Ok
 unfolding told_match
-returns-in-Found c =
+returns-in-Ok c =
     rw (c.number_of-answer.ensures, c.given_of-given.ensures, c.time_of-began.ensures)
-    (ap told_match (sym c.in-Found.is))
+    (ap told_match (sym c.in-Ok.is))
 
-pub returns-in-Refused : goal.returns-in-Refused
+pub returns-in-Err : goal.returns-in-Err
 unfolding told_match
-returns-in-Refused c = ap told_match (sym c.in-Refused.is)
+returns-in-Err c = ap told_match (sym c.in-Err.is)

@@ -3,10 +3,10 @@ use mathlib.Core.Path.{ap, sym}
 use Rattle.telling.specs.Handing.{told}
 use Rattle.telling.proofs.outcomes.tell.Goals as goal
 
-pub returns-in-Done : goal.returns-in-Done
+pub returns-in-Ok : goal.returns-in-Ok
 unfolding told
-returns-in-Done c = ap told (sym c.in-Done.is)
+returns-in-Ok c = ap told (sym c.in-Ok.is)
 
-pub returns-in-Refused : goal.returns-in-Refused
+pub returns-in-Err : goal.returns-in-Err
 unfolding told
-returns-in-Refused c = ap told (sym c.in-Refused.is)
+returns-in-Err c = ap told (sym c.in-Err.is)

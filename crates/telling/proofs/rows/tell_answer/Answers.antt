@@ -8,10 +8,10 @@ pub number_of-answer-requires : goal.number_of-answer-requires
 unfolding told_answer
 number_of-answer-requires c = search rules
 
-pub returns-in-Answered : goal.returns-in-Answered
+pub returns-in-Ok : goal.returns-in-Ok
 unfolding told_answer
-returns-in-Answered c = rw c.number_of-answer.ensures (ap told_answer (sym c.in-Answered.is))
+returns-in-Ok c = rw c.number_of-answer.ensures (ap told_answer (sym c.in-Ok.is))
 
-pub returns-in-Refused : goal.returns-in-Refused
+pub returns-in-Err : goal.returns-in-Err
 unfolding told_answer
-returns-in-Refused c = ap told_answer (sym c.in-Refused.is)
+returns-in-Err c = ap told_answer (sym c.in-Err.is)

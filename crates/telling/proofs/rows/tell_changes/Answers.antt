@@ -3,10 +3,10 @@ use mathlib.Core.Path.{ap, sym}
 use Rattle.telling.specs.Handing.{told_changes}
 use Rattle.telling.proofs.rows.tell_changes.Goals as goal
 
-pub returns-in-Changed : goal.returns-in-Changed
+pub returns-in-Ok : goal.returns-in-Ok
 unfolding told_changes
-returns-in-Changed c = ap told_changes (sym c.in-Changed.is)
+returns-in-Ok c = ap told_changes (sym c.in-Ok.is)
 
-pub returns-in-Refused : goal.returns-in-Refused
+pub returns-in-Err : goal.returns-in-Err
 unfolding told_changes
-returns-in-Refused c = ap told_changes (sym c.in-Refused.is)
+returns-in-Err c = ap told_changes (sym c.in-Err.is)

@@ -3,10 +3,10 @@ use mathlib.Core.Path.{ap, sym}
 use Rattle.telling.specs.Handing.{told_trace}
 use Rattle.telling.proofs.rows.tell_trace.Goals as goal
 
-pub returns-in-Read : goal.returns-in-Read
+pub returns-in-Ok : goal.returns-in-Ok
 unfolding told_trace
-returns-in-Read c = ap told_trace (sym c.in-Read.is)
+returns-in-Ok c = ap told_trace (sym c.in-Ok.is)
 
-pub returns-in-Refused : goal.returns-in-Refused
+pub returns-in-Err : goal.returns-in-Err
 unfolding told_trace
-returns-in-Refused c = ap told_trace (sym c.in-Refused.is)
+returns-in-Err c = ap told_trace (sym c.in-Err.is)

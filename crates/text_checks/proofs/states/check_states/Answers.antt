@@ -5,9 +5,6 @@ use Rattle.text_checks.proofs.states.check_states.Goals as goal
 pub loop-i-init : goal.loop-i-init
 loop-i-init c = (omega arith, states_none _)
 
-pub overflow_add-i : goal.overflow_add-i
-overflow_add-i c = omega (arith, c.loop-i-test.true, c.requires.few)
-
 pub find_word-s-requires : goal.find_word-s-requires
 find_word-s-requires c = c.requires.within
 
@@ -27,12 +24,6 @@ pub returns-then-code_at-gt7 : goal.returns-then-code_at-gt7
 returns-then-code_at-gt7 c =
     states_bad c.loop-i-test.true c.loop-i.invariant.1 c.find_word-s.ensures c.if-end-start.false
     _ c.code_at.ensures c.if-code_at-gt7.true c.refuse-then-code_at-gt7.ensures
-
-pub overflow_add-i-in-loop-i : goal.overflow_add-i-in-loop-i
-overflow_add-i-in-loop-i c = omega (arith, c.loop-i-test.true, c.requires.few)
-
-pub loop-i-smaller : goal.loop-i-smaller
-loop-i-smaller c = omega (arith, c.loop-i-test.true)
 
 pub loop-i-preserved : goal.loop-i-preserved
 loop-i-preserved c = (

@@ -1,5 +1,5 @@
 -- `check_states` meets its contract.
-use Prim.Native.Nat.{◌-◌, ◌≤◌}
+use Prim.Native.Nat.{◌≤◌}
 use Rattle.alf.specs.Refusals.{Passed}
 use Rattle.trace_texts.specs.Texts.{states_order}
 use Rattle.trace_texts.specs.Finding.{from}
@@ -7,6 +7,3 @@ use Rattle.text_checks.proofs.states.check_states.Given as goal
 
 abbrev pub invariant-loop-i : goal.invariant-loop-i
 invariant-loop-i l = (l.i ≤ l.k) × Passed (states_order (from l.text l.p).first l.i)
-
-abbrev pub decreases-loop-i : goal.decreases-loop-i
-decreases-loop-i l = l.k - l.i

@@ -3,11 +3,11 @@ use Rattle.basics.proofs.PartByPart.{going_length}
 use Rattle.text_copies.proofs.Copying.{copied_first, slot_fits, copied_next, copied_all}
 use Rattle.text_copies.proofs.copies.copy_names.Goals as goal
 
-pub find_word-first-requires : goal.find_word-first-requires
-find_word-first-requires c = c.requires.within
+pub find_word-word-requires : goal.find_word-word-requires
+find_word-word-requires c = c.requires.within
 
 pub loop-i-init : goal.loop-i-init
-loop-i-init c = copied_first c.requires c.find_word-first.ensures
+loop-i-init c = copied_first c.requires c.find_word-word.ensures
 
 pub slice_bounds-put_slot-count : goal.slice_bounds-put_slot-count
 slice_bounds-put_slot-count c = omega (arith, c.loop-i.invariant.found.run.low)
@@ -21,21 +21,15 @@ slice_bounds-put_slot-end c = omega (arith, c.loop-i.invariant.found.run.within)
 pub put_slot-at-requires : goal.put_slot-at-requires
 put_slot-at-requires c = slot_fits c.requires c.loop-i.invariant c.loop-i-test.true
 
-pub find_word-next-requires : goal.find_word-next-requires
-find_word-next-requires c =
+pub find_word-word-requires-in-loop-i : goal.find_word-word-requires-in-loop-i
+find_word-word-requires-in-loop-i c =
     let found = c.loop-i.invariant.found in
     omega (arith, found.run.low, found.run.within)
-
-pub overflow_add-i : goal.overflow_add-i
-overflow_add-i c = omega (arith, c.loop-i-test.true)
-
-pub loop-i-smaller : goal.loop-i-smaller
-loop-i-smaller c = omega (arith, c.loop-i-test.true)
 
 pub loop-i-preserved : goal.loop-i-preserved
 loop-i-preserved c =
     copied_next c.requires c.loop-i.invariant c.loop-i-test.true
-    c.put_slot-at.ensures c.find_word-next.ensures
+    c.put_slot-at.ensures c.find_word-word-in-loop-i.ensures
 
 pub shape_of-out : goal.shape_of-out
 shape_of-out c = going_length c.loop-i.invariant.going

@@ -1,7 +1,7 @@
 use native.Mathlib.Omega.{arith}
 use Rattle.basics.proofs.PartByPart.{going_length}
 use Rattle.basics.proofs.Stores.{writing_length}
-use Rattle.text_copies.proofs.CopiedRows.{filling_first, filling_in, filling_room, filling_times}
+use Rattle.text_copies.proofs.CopiedRows.{filling_first, filling_in, filling_room, filling_times, filling_timed}
 use Rattle.text_copies.proofs.CopiedRows.{filling_next, filled_all}
 use Rattle.text_copies.proofs.copies.copy_rows.Goals as goal
 
@@ -11,8 +11,11 @@ next_line-line-requires c = c.requires.within
 pub loop-r-init : goal.loop-r-init
 loop-r-init c = filling_first c.requires c.next_line-line.ensures
 
-pub row_time-t-requires : goal.row_time-t-requires
-row_time-t-requires c = filling_in c.requires c.loop-r.invariant c.loop-r-test.true
+pub row_time-requires : goal.row_time-requires
+row_time-requires c = filling_in c.requires c.loop-r.invariant c.loop-r-test.true
+
+pub unwrap-requires : goal.unwrap-requires
+unwrap-requires c = filling_timed c.requires c.loop-r.invariant c.loop-r-test.true _ c.row_time.ensures
 
 pub offset_bounds-times-r : goal.offset_bounds-times-r
 offset_bounds-times-r c =
@@ -37,16 +40,10 @@ behind_line-behind-requires c = c.loop-r.invariant.next.within
 pub next_line-line-requires-in-loop-r : goal.next_line-line-requires-in-loop-r
 next_line-line-requires-in-loop-r c = c.behind_line-behind.ensures.within
 
-pub overflow_add-r : goal.overflow_add-r
-overflow_add-r c = omega (arith, c.loop-r-test.true)
-
-pub loop-r-smaller : goal.loop-r-smaller
-loop-r-smaller c = omega (arith, c.loop-r-test.true)
-
 pub loop-r-preserved : goal.loop-r-preserved
 loop-r-preserved c =
     filling_next c.requires c.loop-r.invariant c.loop-r-test.true
-    c.row_time-t.ensures c.put_codes-to.ensures c.behind_line-behind.ensures
+    _ c.row_time.ensures c.unwrap.ensures c.put_codes-to.ensures c.behind_line-behind.ensures
     c.next_line-line-in-loop-r.ensures
 
 pub shape_of-times : goal.shape_of-times

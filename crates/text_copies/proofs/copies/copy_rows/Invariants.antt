@@ -1,11 +1,7 @@
 -- `copy_rows` meets its contract.
-use Prim.Native.Nat.{◌-◌}
 use Rattle.text_copies.proofs.CopiedRows.{Filling}
 use Rattle.text_copies.proofs.copies.copy_rows.Given as goal
 
 abbrev pub invariant-loop-r : goal.invariant-loop-r
 invariant-loop-r l =
     Filling l.text l.p l.k l.n l.r l.line l.to l.initial.times l.times l.initial.states l.states
-
-abbrev pub decreases-loop-r : goal.decreases-loop-r
-decreases-loop-r l = l.n - l.r

@@ -4,11 +4,11 @@ use Rattle.trace_texts.proofs.OnAndOn.{finds_on}
 use Rattle.text_copies.proofs.Copying.{codes_next, codes_put}
 use Rattle.text_copies.proofs.copies.put_codes.Goals as goal
 
-pub find_word-first-requires : goal.find_word-first-requires
-find_word-first-requires c = c.requires.within
+pub find_word-word-requires : goal.find_word-word-requires
+find_word-word-requires c = c.requires.within
 
 pub loop-i-init : goal.loop-i-init
-loop-i-init c = (omega arith, c.find_word-first.ensures, writing_first)
+loop-i-init c = (omega arith, c.find_word-word.ensures, writing_first)
 
 pub code_at-requires : goal.code_at-requires
 code_at-requires c =
@@ -27,21 +27,15 @@ bounds-out-at c =
       writing_length c.loop-i.invariant.2,
     )
 
-pub find_word-next-requires : goal.find_word-next-requires
-find_word-next-requires c =
+pub find_word-word-requires-in-loop-i : goal.find_word-word-requires-in-loop-i
+find_word-word-requires-in-loop-i c =
     let run = c.loop-i.invariant.1.run in
     omega (arith, run.low, run.within)
-
-pub overflow_add-i : goal.overflow_add-i
-overflow_add-i c = omega (arith, c.loop-i-test.true)
-
-pub loop-i-smaller : goal.loop-i-smaller
-loop-i-smaller c = omega (arith, c.loop-i-test.true)
 
 pub loop-i-preserved : goal.loop-i-preserved
 loop-i-preserved c = (
   omega (arith, c.loop-i-test.true),
-  finds_on c.loop-i.invariant.1 c.find_word-next.ensures,
+  finds_on c.loop-i.invariant.1 c.find_word-word-in-loop-i.ensures,
   codes_next _ _ _ _ _ c.loop-i-test.true c.loop-i.invariant.1 c.code_at.ensures
       c.loop-i.invariant.2,
 )

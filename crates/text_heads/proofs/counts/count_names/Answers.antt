@@ -1,47 +1,44 @@
 use native.Mathlib.Omega.{arith}
+use mathlib.Core.Path.{◌∙◌}
 use Rattle.trace_texts.proofs.WordOf.{word_of}
 use Rattle.text_heads.proofs.Counting.{counting_first, counting_few, counting_next}
-use Rattle.text_heads.proofs.Counting.{counted_all, counted_some}
+use Rattle.text_heads.proofs.Counting.{counted, marked, unmarked}
 use Rattle.text_heads.proofs.counts.count_names.Goals as goal
+use Rattle.text_heads.proofs.counts.count_names.Goals.{then-is_changed, else-is_changed}
 
-pub find_word-first-requires : goal.find_word-first-requires
-find_word-first-requires c = c.requires
+pub find_word-word-requires : goal.find_word-word-requires
+find_word-word-requires c = c.requires
 
-pub loop-start-init : goal.loop-start-init
-loop-start-init c = counting_first c.find_word-first.ensures
+pub loop-word-init : goal.loop-word-init
+loop-word-init c = counting_first c.find_word-word.ensures
 
-pub slice_bounds-mark-count : goal.slice_bounds-mark-count
-slice_bounds-mark-count c = omega (arith, c.loop-start-test.true)
+pub slice_bounds-is_changed-count : goal.slice_bounds-is_changed-count
+slice_bounds-is_changed-count c = omega (arith, c.loop-word-test.true)
 
-pub slice_bounds-mark-start : goal.slice_bounds-mark-start
-slice_bounds-mark-start c = omega (arith, c.loop-start-test.true)
+pub slice_bounds-is_changed-start : goal.slice_bounds-is_changed-start
+slice_bounds-is_changed-start c = omega (arith, c.loop-word-test.true)
 
-pub slice_bounds-mark-end : goal.slice_bounds-mark-end
-slice_bounds-mark-end c = omega (arith, c.loop-start.invariant.found.run.within)
+pub slice_bounds-is_changed-end : goal.slice_bounds-is_changed-end
+slice_bounds-is_changed-end c = omega (arith, c.loop-word.invariant.found.run.within)
 
-pub mark-last-requires : goal.mark-last-requires
-mark-last-requires c = omega (arith, counting_few c.loop-start.invariant c.loop-start-test.true)
+pub find_word-word-requires-in-loop-word : goal.find_word-word-requires-in-loop-word
+find_word-word-requires-in-loop-word c =
+    omega (arith, c.loop-word-test.true, c.loop-word.invariant.found.run.within)
 
-pub find_word-next-requires : goal.find_word-next-requires
-find_word-next-requires c =
-    omega (arith, c.loop-start-test.true, c.loop-start.invariant.found.run.within)
+pub overflow_add-n : goal.overflow_add-n
+overflow_add-n c = omega (arith, counting_few c.loop-word.invariant c.loop-word-test.true)
 
-pub overflow_add-i : goal.overflow_add-i
-overflow_add-i c = omega (arith, counting_few c.loop-start.invariant c.loop-start-test.true)
+pub loop-word-smaller : goal.loop-word-smaller
+loop-word-smaller c = omega (arith, (word_of c.loop-word.invariant.found c.loop-word-test.true).0)
 
-pub loop-start-smaller : goal.loop-start-smaller
-loop-start-smaller c = omega (arith, (word_of c.loop-start.invariant.found c.loop-start-test.true).0)
-
-pub loop-start-preserved : goal.loop-start-preserved
-loop-start-preserved c =
-    counting_next c.loop-start.invariant c.loop-start-test.true c.mark-last.ensures
-    c.find_word-next.ensures
-
-pub returns-then-last-eq0 : goal.returns-then-last-eq0
-returns-then-last-eq0 c = counted_all c.loop-start.invariant c.loop-start-test.false c.if-last-eq0.true
-
-pub overflow_sub-result : goal.overflow_sub-result
-overflow_sub-result c = omega (arith, c.if-last-eq0.false)
+pub loop-word-preserved : goal.loop-word-preserved
+loop-word-preserved c =
+    counting_next c.loop-word.invariant _ c.loop-word-test.true
+    (elim c.if-is_changed.branch [
+      | then-is_changed w ↦ w.changed-is ∙ marked _ _ _ c.is_changed.ensures w.if-is_changed.true
+      | else-is_changed w ↦ w.changed-is ∙ unmarked _ _ _ c.is_changed.ensures w.if-is_changed.false
+    ])
+    c.find_word-word-in-loop-word.ensures
 
 pub returns : goal.returns
-returns c = counted_some c.loop-start.invariant c.loop-start-test.false c.if-last-eq0.false
+returns c = rw (c.unwrap_or.ensures, c.is_some.ensures) (counted c.loop-word.invariant c.loop-word-test.false)

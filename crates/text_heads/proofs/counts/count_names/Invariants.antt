@@ -5,8 +5,8 @@ use Rattle.trace_texts.specs.Finding.{from}
 use Rattle.text_heads.proofs.Counting.{Counting}
 use Rattle.text_heads.proofs.counts.count_names.Given as goal
 
-abbrev pub invariant-loop-start : goal.invariant-loop-start
-invariant-loop-start l = Counting l.text l.p l.i l.last l.start l.end
+abbrev pub invariant-loop-word : goal.invariant-loop-word
+invariant-loop-word l = Counting l.text l.p l.n l.changed l.word.start l.word.end
 
-abbrev pub decreases-loop-start : goal.decreases-loop-start
-decreases-loop-start l = length (from l.text l.p).first.words - l.i
+abbrev pub decreases-loop-word : goal.decreases-loop-word
+decreases-loop-word l = length (from l.text l.p).first.words - l.n

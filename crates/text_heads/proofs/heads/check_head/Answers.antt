@@ -1,5 +1,7 @@
 -- `check_head` meets its contract.
 use native.Mathlib.Omega.{arith}
+use Rattle.std.proofs.lemmas.Result.{err_from_is_err_and}
+use Rattle.alf.specs.Refusals.{Comes}
 use Rattle.text_heads.proofs.HeadChecks.{head_untimed, head_refused, head_empty, head_good}
 use Rattle.text_heads.proofs.heads.check_head.Goals as goal
 
@@ -23,19 +25,21 @@ returns-then-not-is_time c =
 pub check_names-requires : goal.check_names-requires
 check_names-requires c = c.requires.names
 
+pub returns-in_err-check_names : goal.returns-in_err-check_names
+returns-in_err-check_names c =
+    let p = err_from_is_err_and c.from_residual.result c.from_residual.ensures.1 in
+    rw (p.1, p.2)
+    (head_refused c.requires c.find_word-first.ensures c.is_time.ensures c.if-not-is_time.false _ _
+    c.in_err-check_names.ensures)
+
 pub returns-then-k-eq0 : goal.returns-then-k-eq0
+unfolding Comes
 returns-then-k-eq0 c =
-    head_empty c.requires c.find_word-first.ensures c.is_time.ensures
-    c.if-not-is_time.false c.check_names.ensures c.in-Done.is _
-    c.if-k-eq0.true
-    c.refuse-then-k-eq0.ensures
+    head_empty c.requires c.find_word-first.ensures c.is_time.ensures c.if-not-is_time.false
+    c.in_ok-check_names.ensures.0 _ c.if-k-eq0.true c.refuse-then-k-eq0.ensures
 
-pub returns-in-Refused : goal.returns-in-Refused
-returns-in-Refused c =
-    head_refused c.requires c.find_word-first.ensures c.is_time.ensures
-    c.if-not-is_time.false _ c.check_names.ensures c.in-Refused.is
-
-pub returns-else-k-eq0 : goal.returns-else-k-eq0
-returns-else-k-eq0 c =
-    head_good c.requires c.find_word-first.ensures c.is_time.ensures
-    c.if-not-is_time.false c.check_names.ensures c.in-Done.is c.if-k-eq0.false
+pub returns : goal.returns
+unfolding Comes
+returns c =
+    head_good c.requires c.find_word-first.ensures c.is_time.ensures c.if-not-is_time.false
+    c.in_ok-check_names.ensures.0 c.if-k-eq0.false

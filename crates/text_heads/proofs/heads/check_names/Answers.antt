@@ -4,11 +4,11 @@ use Rattle.text_heads.proofs.HeadChecks.{naming_first, names_done, word_here_lem
 use Rattle.text_heads.proofs.HeadChecks.{naming_next}
 use Rattle.text_heads.proofs.heads.check_names.Goals as goal
 
-pub find_word-first-requires : goal.find_word-first-requires
-find_word-first-requires c = c.requires.within
+pub find_word-word-requires : goal.find_word-word-requires
+find_word-word-requires c = c.requires.within
 
 pub loop-i-init : goal.loop-i-init
-loop-i-init c = naming_first c.find_word-first.ensures
+loop-i-init c = naming_first c.find_word-word.ensures
 
 pub returns-then-i-ge32 : goal.returns-then-i-ge32
 returns-then-i-ge32 c =
@@ -25,21 +25,15 @@ returns-then-not-is_new_name c =
     names_bad c.requires c.loop-i.invariant c.loop-i-test.true _ c.if-i-ge32.false
     (not_told _ c.is_new_name.ensures c.if-not-is_new_name.true) c.refuse-then-not-is_new_name.ensures
 
-pub find_word-next-requires : goal.find_word-next-requires
-find_word-next-requires c =
+pub find_word-word-requires-in-loop-i : goal.find_word-word-requires-in-loop-i
+find_word-word-requires-in-loop-i c =
     let found = c.loop-i.invariant.found in
     omega (arith, found.run.low, found.run.within)
-
-pub overflow_add-i : goal.overflow_add-i
-overflow_add-i c = omega (arith, c.loop-i-test.true)
-
-pub loop-i-smaller : goal.loop-i-smaller
-loop-i-smaller c = omega (arith, c.loop-i-test.true)
 
 pub loop-i-preserved : goal.loop-i-preserved
 loop-i-preserved c =
     naming_next c.requires c.loop-i.invariant c.loop-i-test.true c.if-i-ge32.false
-    (told _ c.is_new_name.ensures c.if-not-is_new_name.false) c.find_word-next.ensures
+    (told _ c.is_new_name.ensures c.if-not-is_new_name.false) c.find_word-word-in-loop-i.ensures
 
 pub returns : goal.returns
 returns c = names_done c.requires c.loop-i.invariant c.loop-i-test.false

@@ -14,11 +14,11 @@ slice_bounds-is_name-end c = omega (arith, c.requires.found.run.within)
 pub returns-then-not-is_name : goal.returns-then-not-is_name
 returns-then-not-is_name c = not_named c.requires c.is_name.ensures c.if-not-is_name.true
 
-pub find_word-first-requires : goal.find_word-first-requires
-find_word-first-requires c = c.requires.within
+pub find_word-earlier-requires : goal.find_word-earlier-requires
+find_word-earlier-requires c = c.requires.within
 
 pub loop-j-init : goal.loop-j-init
-loop-j-init c = λ w. newing_first w c.find_word-first.ensures
+loop-j-init c = λ w. newing_first w c.find_word-earlier.ensures
 
 pub slice_bounds-same-count : goal.slice_bounds-same-count
 slice_bounds-same-count c = omega (arith, (c.loop-j.invariant c.requires).found.run.low)
@@ -43,21 +43,15 @@ returns-then-same c =
     repeated c.requires (c.loop-j.invariant c.requires) c.loop-j-test.true c.same.ensures.0
     c.if-same.true
 
-pub find_word-next-requires : goal.find_word-next-requires
-find_word-next-requires c =
+pub find_word-earlier-requires-in-loop-j : goal.find_word-earlier-requires-in-loop-j
+find_word-earlier-requires-in-loop-j c =
     let found = (c.loop-j.invariant c.requires).found in
     omega (arith, found.run.low, found.run.within)
-
-pub overflow_add-j : goal.overflow_add-j
-overflow_add-j c = omega (arith, c.loop-j-test.true)
-
-pub loop-j-smaller : goal.loop-j-smaller
-loop-j-smaller c = omega (arith, c.loop-j-test.true)
 
 pub loop-j-preserved : goal.loop-j-preserved
 loop-j-preserved c =
     λ w. newing_next w (c.loop-j.invariant w) c.loop-j-test.true c.same.ensures.1
-    c.if-same.false c.find_word-next.ensures
+    c.if-same.false c.find_word-earlier-in-loop-j.ensures
 
 pub returns : goal.returns
 returns c =

@@ -18,15 +18,15 @@ overflow_mul-codes c =
     omega (arith, codes_bound few.1 few.0)
 
 pub returns-then-names-slots : goal.returns-then-names-slots
-returns-then-names-slots c = short_names c.requires _ _ _ c.refusal_of.ensures c.if-names-slots.true
+returns-then-names-slots c = short_names c.requires _ _ _ c.refuse.ensures c.if-names-slots.true
 
 pub returns-then-times-n : goal.returns-then-times-n
 returns-then-times-n c =
-    short_times c.requires _ _ _ c.if-names-slots.false c.refusal_of-then-times-n.ensures c.if-times-n.true
+    short_times c.requires _ _ _ c.if-names-slots.false c.refuse-then-times-n.ensures c.if-times-n.true
 
 pub returns-then-states-codes : goal.returns-then-states-codes
 returns-then-states-codes c =
-    short_states c.requires _ _ _ c.if-names-slots.false c.if-times-n.false c.refusal_of-then-states-codes.ensures
+    short_states c.requires _ _ _ c.if-names-slots.false c.if-times-n.false c.refuse-then-states-codes.ensures
     c.if-states-codes.true
 
 pub copy_names-requires : goal.copy_names-requires

@@ -1,9 +1,14 @@
 -- `make_trace` meets its contract.
-use Rattle.text_reading.proofs.Rooms.{accepted, refused}
+use Rattle.std.proofs.lemmas.Result.{err_from_is_err_and}
+use Rattle.text_reading.specs.Reading.{Checks}
+use Rattle.text_reading.proofs.Rooms.{refused}
 use Rattle.text_reading.proofs.reading.make_trace.Goals as goal
 
 pub fill-requires : goal.fill-requires
-fill-requires c = accepted c.check_text.ensures c.in-Read.is
+unfolding Checks
+fill-requires c = c.in_ok-size.ensures
 
-pub returns-in-Refused : goal.returns-in-Refused
-returns-in-Refused c = refused _ _ _ _ c.check_text.ensures c.in-Refused.is
+pub returns-in_err-size : goal.returns-in_err-size
+returns-in_err-size c =
+    let p = err_from_is_err_and c.from_residual.result c.from_residual.ensures.1 in
+    rw (p.1, p.2) (refused _ _ _ _ _ c.in_err-size.ensures)

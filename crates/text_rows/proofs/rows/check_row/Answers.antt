@@ -1,5 +1,7 @@
 -- `check_row` meets its contract.
-use Rattle.text_rows.proofs.RowChecks.{row_early, row_rest}
+use Rattle.std.proofs.lemmas.Result.{err_from_is_err_and}
+use Rattle.alf.specs.Refusals.{Comes}
+use Rattle.alf.proofs.Orders.{by_first, by_then, passed_both}
 use Rattle.text_rows.proofs.rows.check_row.Goals as goal
 
 pub check_time-requires : goal.check_time-requires
@@ -8,8 +10,18 @@ check_time-requires c = c.requires.timed
 pub check_rest-requires : goal.check_rest-requires
 check_rest-requires c = c.requires.names
 
-pub returns-in-Refused : goal.returns-in-Refused
-returns-in-Refused c = row_early _ _ _ c.check_time.ensures _ c.in-Refused.is
+pub returns-in_err-time : goal.returns-in_err-time
+unfolding Comes
+returns-in_err-time c =
+    let p = err_from_is_err_and c.from_residual.result c.from_residual.ensures.1 in
+    rw (p.1, p.2) (by_first _ _ c.in_err-time.ensures)
 
-pub returns-in-Done : goal.returns-in-Done
-returns-in-Done c = row_rest _ _ _ c.check_time.ensures _ _ c.in-Done.is c.check_rest.ensures
+pub returns-in_err-check_rest : goal.returns-in_err-check_rest
+unfolding Comes
+returns-in_err-check_rest c =
+    let p = err_from_is_err_and c.from_residual-in_err-check_rest.result c.from_residual-in_err-check_rest.ensures.1 in
+    rw (p.1, p.2) (by_then _ _ c.in_ok-time.ensures.0 c.in_err-check_rest.ensures)
+
+pub returns : goal.returns
+unfolding Comes
+returns c = (passed_both _ _ c.in_ok-time.ensures.0 c.in_ok-check_rest.ensures.0, c.in_ok-time.ensures.1)

@@ -16,4 +16,4 @@ pub slice_bounds-time_of-end : goal.slice_bounds-time_of-end
 slice_bounds-time_of-end c = omega (arith, c.find_word-s.ensures.run.within)
 
 pub returns : goal.returns
-returns c = timed c.requires c.find_word-s.ensures c.time_of-t.ensures
+returns c = timed _ c.requires c.find_word-s.ensures c.time_of.ensures

@@ -1,33 +1,10 @@
 -- `is_blank`: whether a byte is a blank, read off its class.
-use Rattle.token_steps.proofs.ByteClasses.{blank_class}
+use mathlib.Core.Path.{◌∙◌}
+use Rattle.token_steps.proofs.ByteClasses.{blank_class, not_blank}
 use Rattle.token_steps.proofs.classes.is_blank.Goals as goal
 
-pub returns-in-Letter : goal.returns-in-Letter
-returns-in-Letter c =
-    blank_class c.in-Letter.ensures
-    c.ranges.b.fits
-
-pub returns-in-Quote : goal.returns-in-Quote
-returns-in-Quote c =
-    blank_class c.in-Quote.ensures
-    c.ranges.b.fits
-
-pub returns-in-Digit : goal.returns-in-Digit
-returns-in-Digit c =
-    blank_class c.in-Digit.ensures
-    c.ranges.b.fits
-
 pub returns-in-Blank : goal.returns-in-Blank
-returns-in-Blank c =
-    blank_class c.in-Blank.ensures
-    c.ranges.b.fits
+returns-in-Blank c = blank_class c.in-Blank.ensures c.ranges.b.fits
 
-pub returns-in-Operator : goal.returns-in-Operator
-returns-in-Operator c =
-    blank_class c.in-Operator.ensures
-    c.ranges.b.fits
-
-pub returns-in-Other : goal.returns-in-Other
-returns-in-Other c =
-    blank_class c.in-Other.ensures
-    c.ranges.b.fits
+pub returns-in_default : goal.returns-in_default
+returns-in_default c = not_blank c.in_default.not-Blank ∙ blank_class c.class_of.ensures c.ranges.b.fits

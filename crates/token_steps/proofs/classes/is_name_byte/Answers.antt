@@ -1,33 +1,17 @@
 -- `is_name_byte`: whether a byte goes on a name, read off its class.
-use Rattle.token_steps.proofs.ByteClasses.{name_byte_class}
+use mathlib.Core.Path.{sym, ap, ◌∙◌}
+use mathlib.Core.Logic.{inl, inr}
+use Rattle.token_steps.proofs.ByteClasses.{name_byte, name_byte_class, not_name_byte}
 use Rattle.token_steps.proofs.classes.is_name_byte.Goals as goal
 
 pub returns-in-Letter : goal.returns-in-Letter
 returns-in-Letter c =
-    name_byte_class c.in-Letter.ensures
-    c.ranges.b.fits
+    elim c.in-Letter.is [
+      | inl e ↦ ap name_byte (sym e) ∙ name_byte_class c.class_of.ensures c.ranges.b.fits
+      | inr e ↦ ap name_byte (sym e) ∙ name_byte_class c.class_of.ensures c.ranges.b.fits
+    ]
 
-pub returns-in-Quote : goal.returns-in-Quote
-returns-in-Quote c =
-    name_byte_class c.in-Quote.ensures
-    c.ranges.b.fits
-
-pub returns-in-Digit : goal.returns-in-Digit
-returns-in-Digit c =
-    name_byte_class c.in-Digit.ensures
-    c.ranges.b.fits
-
-pub returns-in-Blank : goal.returns-in-Blank
-returns-in-Blank c =
-    name_byte_class c.in-Blank.ensures
-    c.ranges.b.fits
-
-pub returns-in-Operator : goal.returns-in-Operator
-returns-in-Operator c =
-    name_byte_class c.in-Operator.ensures
-    c.ranges.b.fits
-
-pub returns-in-Other : goal.returns-in-Other
-returns-in-Other c =
-    name_byte_class c.in-Other.ensures
-    c.ranges.b.fits
+pub returns-in_default : goal.returns-in_default
+returns-in_default c =
+    not_name_byte c.in_default.not-Letter c.in_default.not-Digit
+    ∙ name_byte_class c.class_of.ensures c.ranges.b.fits

@@ -1,4 +1,4 @@
--- `half_at_lem` gives the half at a byte, 9 where there is none: each way out by its own law.
+-- `half_at` gives the half at a byte: each way out by its own law.
 use mathlib.Core.Path.{sym, ◌∙◌}
 use Rattle.token_steps.proofs.Halves.{no_quote, no_b, name_byte_lem, half}
 use Rattle.token_steps.proofs.steps.half_at.Goals as goal

@@ -1,7 +1,7 @@
 -- `first_over` gives the first token that goes over the limit. The invariant: those passed do not, and the search in
 -- the rest is the search in all.
 use mathlib.Core.Path.{◌≡◌}
-use Prim.Native.Nat.{◌≤◌, ◌+◌, ◌-◌}
+use Prim.Native.Nat.{◌≤◌, ◌+◌}
 use lib.ListN.{take, drop}
 use Rattle.tokens.specs.Inner.{changed, over_at}
 use Rattle.tokens.proofs.limits.first_over.Given as goal
@@ -11,6 +11,3 @@ invariant-loop-i l =
     (l.i ≤ l.count) × (l.n ≤ l.limit) ×
     (l.i + over_at (changed l.brackets) l.limit l.n (drop l.i (take l.count l.codes)) ≡
     over_at (changed l.brackets) l.limit 0 (take l.count l.codes))
-
-abbrev pub decreases-loop-i : goal.decreases-loop-i
-decreases-loop-i l = l.count - l.i

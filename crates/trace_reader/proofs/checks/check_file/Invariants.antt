@@ -5,8 +5,8 @@ use Rattle.trace_format.specs.Records.{Before}
 use Rattle.record_checks.specs.Steps.{Stands}
 use Rattle.trace_reader.proofs.checks.check_file.Given as goal
 
-abbrev pub invariant-loop-r : goal.invariant-loop-r
-invariant-loop-r l = Stands l.file l.s × Before l.file l.s.names l.s.rows
+abbrev pub invariant-loop-s : goal.invariant-loop-s
+invariant-loop-s l = Stands l.file l.s × Before l.file l.s.names l.s.rows
 
-abbrev pub decreases-loop-r : goal.decreases-loop-r
-decreases-loop-r l = length l.file - l.s.place
+abbrev pub decreases-loop-s : goal.decreases-loop-s
+decreases-loop-s l = length l.file - l.s.place

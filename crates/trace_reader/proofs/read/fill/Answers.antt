@@ -13,18 +13,18 @@ overflow_mul-codes c = omega (arith, codes_few c.requires)
 
 pub returns-then-names-slots : goal.returns-then-names-slots
 returns-then-names-slots c =
-    short_names c.requires _ _ _ c.short_of.ensures
+    short_names c.requires _ _ _ c.refuse.ensures
     c.if-names-slots.true
 
 pub returns-then-times-n : goal.returns-then-times-n
 returns-then-times-n c =
     short_times c.requires _ _ _ c.if-names-slots.false
-    c.short_of-then-times-n.ensures c.if-times-n.true
+    c.refuse-then-times-n.ensures c.if-times-n.true
 
 pub returns-then-states-codes : goal.returns-then-states-codes
 returns-then-states-codes c =
     short_states c.requires _ _ _
-    c.if-names-slots.false c.if-times-n.false c.short_of-then-states-codes.ensures
+    c.if-names-slots.false c.if-times-n.false c.refuse-then-states-codes.ensures
     c.if-states-codes.true
 
 pub copy_names-at-requires : goal.copy_names-at-requires

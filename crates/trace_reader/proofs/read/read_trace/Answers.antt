@@ -1,11 +1,14 @@
 -- `read_trace` meets its contract.
-use Rattle.trace_reader.proofs.ReadOutcomes.{checked_accepted, refused}
+use Rattle.std.proofs.lemmas.Result.{err_from_is_err_and}
+use Rattle.trace_reader.specs.Checking.{Checked}
+use Rattle.trace_reader.proofs.ReadOutcomes.{refused}
 use Rattle.trace_reader.proofs.read.read_trace.Goals as goal
 
 pub fill-requires : goal.fill-requires
-fill-requires c =
-    checked_accepted _ c.check_file.ensures
-    c.in-Read.is
+unfolding Checked
+fill-requires c = c.in_ok-size.ensures
 
-pub returns-in-Refused : goal.returns-in-Refused
-returns-in-Refused c = refused _ c.check_file.ensures _ _ _ c.in-Refused.is
+pub returns-in_err-size : goal.returns-in_err-size
+returns-in_err-size c =
+    let p = err_from_is_err_and c.from_residual.result c.from_residual.ensures.1 in
+    rw (p.1, p.2) (refused _ _ _ _ _ c.in_err-size.ensures)

@@ -14,12 +14,6 @@ skip_word-behind-requires c = c.loop-i.invariant.1.within
 pub skip_blanks-at-requires-in-loop-i : goal.skip_blanks-at-requires-in-loop-i
 skip_blanks-at-requires-in-loop-i c = c.skip_word-behind.ensures.within
 
-pub overflow_add-i : goal.overflow_add-i
-overflow_add-i c = omega (arith, c.loop-i-test.true)
-
-pub loop-i-smaller : goal.loop-i-smaller
-loop-i-smaller c = omega (arith, c.loop-i-test.true)
-
 pub loop-i-preserved : goal.loop-i-preserved
 loop-i-preserved c = (
   omega (arith, c.loop-i-test.true),

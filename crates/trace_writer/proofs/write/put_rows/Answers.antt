@@ -14,7 +14,7 @@ pub overflow_add-to : goal.overflow_add-to
 overflow_add-to c =
     omega (
       arith,
-      room_for _ _ c.args.k c.loop-r-test.true,
+      room_for _ _ c.args.lists.now.k c.loop-r-test.true,
       c.loop-r.invariant.1,
       c.requires.lent.states_all,
     )
@@ -23,14 +23,14 @@ pub slice_bounds-put_row-end : goal.slice_bounds-put_row-end
 slice_bounds-put_row-end c =
     omega (
       arith,
-      room_for _ _ c.args.k c.loop-r-test.true,
+      room_for _ _ c.args.lists.now.k c.loop-r-test.true,
       c.loop-r.invariant.1,
       c.requires.lent.states_all,
     )
 
 pub put_row-q-requires : goal.put_row-q-requires
 put_row-q-requires c =
-    row_fits _ c.args.times.now c.args.states.now _ c.requires.lent.states_all _
+    row_fits _ c.args.lists.now.times.now c.args.lists.now.states.now _ c.requires.lent.states_all _
     c.loop-r.invariant.1 c.loop-r.invariant.2
     c.loop-r-test.true c.requires.room
 
@@ -38,7 +38,7 @@ pub loop-r-preserved : goal.loop-r-preserved
 loop-r-preserved c = (
   search rules,
   rw c.loop-r.invariant.1 (next_to _ _),
-  rows_put _ c.args.times.now c.args.states.now _ c.requires.lent.states_all _
+  rows_put _ c.args.lists.now.times.now c.args.lists.now.states.now _ c.requires.lent.states_all _
       c.loop-r.invariant.1 c.loop-r.invariant.2
       c.put_row-q.ensures,
 )

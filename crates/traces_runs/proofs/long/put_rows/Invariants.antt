@@ -6,6 +6,3 @@ use Rattle.traces_runs.proofs.long.put_rows.Given as goal
 
 abbrev pub invariant-loop-r : goal.invariant-loop-r
 invariant-loop-r l = (l.r ≤ l.n) × (length l.out ≡ length l.initial.out)
-
-abbrev pub decreases-loop-r : goal.decreases-loop-r
-decreases-loop-r l = l.n - l.r

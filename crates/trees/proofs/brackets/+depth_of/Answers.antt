@@ -80,7 +80,7 @@ returns-then-b-lt60 t c =
     (left_whole _ _ _ c.requires c.start_of-middle.ensures c.if-b-lt40.false c.if-b-ge64.false) c.depth_of-left.ensures
     c.bracket-x.ensures)
     (bracket_is _ (right_whole _ _ _ c.requires c.if-b-lt40.false) c.depth_of-right.ensures
-    c.bracket-then-b-lt60.ensures) c.deeper.ensures
+    c.bracket-then-b-lt60.ensures) c.max.ensures
 
 pub start_of-start-requires : goal.start_of-start-requires
 start_of-start-requires t c =
@@ -116,4 +116,4 @@ returns t c =
     three_depth _ _ _ c.requires c.start_of-middle.ensures c.start_of-start.ensures c.if-b-lt60.false c.if-b-ge64.false
     (bracket_is 5 (first_whole _ _ _ c.requires c.start_of-middle.ensures c.start_of-start.ensures c.if-b-lt60.false
     c.if-b-ge64.false) c.depth_of-first.ensures c.bracket-2.ensures)
-    c.depth_of-left.ensures c.depth_of-right.ensures (rw c.deeper-2.ensures at c.deeper-3.ensures)
+    c.depth_of-left.ensures c.depth_of-right.ensures (rw c.max-2.ensures at c.max-3.ensures)

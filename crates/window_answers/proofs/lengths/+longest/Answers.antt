@@ -64,4 +64,4 @@ returns t c =
     greater_longest _ _ _
     (join_is _ _ _ c.requires c.start_of-left.ensures c.if-b-ge64.false c.if-b-eq56.false c.if-b-eq57.false)
     c.longest-x.ensures c.longest-y.ensures
-    c.if-b-lt54.false c.larger.ensures
+    c.if-b-lt54.false c.max.ensures

@@ -9,17 +9,11 @@ pub loop-a-init : goal.loop-a-init
 unfolding greatest
 loop-a-init c = (omega arith, refl)
 
-pub greater-best-requires : goal.greater-best-requires
-greater-best-requires c = tt
-
-pub overflow_add-a : goal.overflow_add-a
-overflow_add-a c = omega (arith, c.requires.most)
-
 pub loop-a-preserved : goal.loop-a-preserved
 loop-a-preserved c = (
   omega arith,
   greatest_step _ c.loop-a.invariant.1 c.read.ensures
-      c.greater-best.ensures,
+      c.max-best.ensures,
 )
 
 pub returns : goal.returns

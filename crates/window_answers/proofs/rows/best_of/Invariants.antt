@@ -1,5 +1,5 @@
 -- `rows::best_of` meets its contract. The loop's invariant: `best` is the greatest over the windows passed.
-use Prim.Native.Nat.{◌-◌, ◌≤◌}
+use Prim.Native.Nat.{◌≤◌}
 use mathlib.Core.Path.{◌≡◌}
 use Rattle.basics.specs.Words.{greatest}
 use Rattle.answer_table.specs.Tables.{stored}
@@ -7,6 +7,3 @@ use Rattle.window_answers.proofs.rows.best_of.Given as goal
 
 abbrev pub invariant-loop-a : goal.invariant-loop-a
 invariant-loop-a l = (l.a ≤ l.n) × (l.best ≡ greatest l.a (λ i. stored l.table l.base i l.n))
-
-abbrev pub decreases-loop-a : goal.decreases-loop-a
-decreases-loop-a l = l.n - l.a

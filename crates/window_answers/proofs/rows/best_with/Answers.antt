@@ -11,7 +11,7 @@ pub fill-requires : goal.fill-requires
 fill-requires c =
     let s = c.requires in
     let e = c.longest.ensures in
-    let l = c.smaller-n.ensures in
+    let l = c.min-n.ensures in
     pattern_fillable s.pattern s.pins (omega arith) (omega arith) s.within c.blank-table.ensures
 
 pub overflow_sub-end : goal.overflow_sub-end
@@ -21,5 +21,5 @@ pub returns : goal.returns
 returns c =
     let s = c.requires in
     let e = c.longest.ensures in
-    let l = c.smaller-n.ensures in
+    let l = c.min-n.ensures in
     filled_best s.pattern c.fill.ensures (omega arith) (omega arith) c.best_of.ensures
