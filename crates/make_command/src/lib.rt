@@ -12,6 +12,7 @@ use console::output::{Console, complain, note};
 use loading::arguments::path_argument;
 use loading::files::fill;
 use std::rt::{Env, Files};
+use text_parts::lines::Lines;
 use text_parts::parts::front;
 use text_reading::reading::make_trace;
 use trace_reader::Size;
@@ -31,7 +32,8 @@ fn too_long(console: &Console, path: &[u8]) {
 // A refusal, with the line that has its place.
 fn complain_of(console: &Console, path: &[u8], text: &[u8], r: Refusal) {
     let s = spot_of(text, r.place);
-    refused_in_line(console, path, s.number, s.line, s.at, r);
+    let line = Lines(&text[s.start..]).next().unwrap_or(b"");
+    refused_in_line(console, path, s.number, line, s.at, r);
 }
 
 fn read_text(

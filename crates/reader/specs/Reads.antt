@@ -30,10 +30,10 @@ made x = record { len = length (bytes_of x); tree = padded (bytes_of x) }
 abbrev pub refused_with : ℕ → ℕ → Result Read Refusal
 refused_with n p = Err (refusal n p)
 
--- how many bytes a token has; 0 where there is none
+-- how many bytes a token has; where there is none, how far on the byte refused is
 abbrev pub size_of : Outcome → ℕ
 size_of (Ok s) = s.size
-size_of (Err k) = 0
+size_of (Err k) = k
 
 -- the bytes of the token at p as the token reader counts them, 0 at the text's end. That they are `Extent` is a law.
 abbrev pub shown_at : List ℕ → ℕ → ℕ

@@ -39,7 +39,7 @@ fn refuse_token(text: &[u8], number: u8, place: usize) -> Refusal
 {
     match take_token(text, place) {
         Ok(token) => refusal_over(number, place, token.size),
-        Err(on) => refusal_over(number, place, 0),
+        Err(on) => refusal_over(number, place, on),
     }
 }
 
@@ -78,22 +78,20 @@ fn read_tokened(
     rules: Rules,
     names: &[u8],
     text: &[u8],
-    t: Tokens,
+    t: &Tokens,
     sort: Sort,
 ) -> Result<Read, Refusal>
-    requires { Tokened names.now text.now t }
+    requires { Tokened names.now text.now t.now }
     ensures { Unlimited rules names.now text.now sort result }
 {
     let count = t.count;
-    let codes = t.codes;
-    let places = t.places;
-    let parsed = parse(&codes, &places, count, text.len());
+    let parsed = parse(&t.codes, &t.places, count, text.len());
     if !parsed.ok {
         return Err(refuse_token(text, 5, parsed.place));
     }
-    let u = first_unknown(names, text, &codes, &places, count);
+    let u = first_unknown(names, text, &t.codes, &t.places, count);
     if u < count {
-        return Err(refuse_token(text, 6, places[u] as usize));
+        return Err(refuse_token(text, 6, t.places[u] as usize));
     }
     read_nodes(names, text, parsed, sort)
 }
@@ -103,8 +101,11 @@ fn read_text(rules: Rules, names: &[u8], text: &[u8], sort: Sort) -> Result<Read
     requires { Passed (names_order names.now) }
     ensures { Unlimited rules names.now text.now sort result }
 {
-    let t = read_tokens(text)?;
-    read_tokened(rules, names, text, t, sort)
+    // The tokens are lent where they are: `?` would copy their 12 KB.
+    match &read_tokens(text) {
+        Ok(t) => read_tokened(rules, names, text, t, sort),
+        Err(r) => Err(*r),
+    }
 }
 
 // Whether the vector expression that ends at `end`, as the rules read it, is over limit 8.

@@ -1,6 +1,7 @@
 -- What a good record is, in facts: each `Good` and its facts are one and the same.
 --   good_name, good_row, good_end     the facts of a good record
 --   name_good, row_good, end_good     a record with the facts is good
+--   name_first, other_bad             a good name stands before the rows; a mark that is none is of no good record
 use mathlib.Core.Path.{◌≡◌, refl, sym, subst}
 use mathlib.Core.List.{List}
 use Prim.Native.Nat.{ℕ, ◌+◌, ◌-◌, ◌<◌, ◌≤◌}
@@ -10,7 +11,7 @@ use Rattle.alf.specs.Names.{is_name}
 use Rattle.alf.specs.Refusals.{Passed}
 use Rattle.alf.proofs.Orders.{none_first}
 use Rattle.trace_format.specs.declared.Mark.{Mark}
-use Rattle.trace_format.specs.declared.Mark.TheVariants.{Name, Row, End}
+use Rattle.trace_format.specs.declared.Mark.TheVariants.{Name, Row, End, Other}
 use Rattle.trace_format.specs.Records.{place, time_in, name_in, number_at, mark_here, width_in, Due, size_of, contents}
 use Rattle.trace_format.specs.Records.{record_order, marked_order, GoodName, BadCode, Good, GoodRow}
 use Rattle.record_checks.specs.Steps.{Above}
@@ -76,6 +77,10 @@ module _ (file : List ℕ) (k r : ℕ) (m : Mark) where
 pub name_first : (file : List ℕ) (k r : ℕ) → Good Name file k r → r ≡ 0
 unfolding Due
 name_first file k r g = eq_stable r 0 (λ n. due file k r Name (rw g.mark at g.passed) (λ d. n d.0))
+
+pub other_bad : (file : List ℕ) (k r : ℕ) → Good Other file k r → ⊥
+unfolding Due
+other_bad file k r g = due file k r Other (rw g.mark at g.passed) (λ d. d)
 
 module _ (file : List ℕ) (k : ℕ) (g : Good Name file k 0) where
   name_passed : Passed (marked_order file k 0 Name)

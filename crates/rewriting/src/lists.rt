@@ -171,27 +171,24 @@ pub fn alternatives_of(rules: Rules, tree: &[u8], names: usize) -> Alternatives
     let pins = find(rules, tree, tree.len(), names);
     let notes = notes::note(tree, &pins, tree.len(), names);
     let lengths = lengths_of(tree, &pins, &notes, names);
-    let mut steps = [0u8; 64];
-    let mut tests = [0u8; 1024];
-    let mut edges = [0u8; 4096];
-    let mut operands = [0u16; 4096];
+    let mut lists = Alternatives {
+        count: lengths.alternatives,
+        step_count: lengths.steps,
+        test_count: lengths.tests,
+        steps: [0u8; 64],
+        tests: [0u8; 1024],
+        edges: [0u8; 4096],
+        operands: [0u16; 4096],
+    };
     fill_arrays(
         tree,
         &pins,
         &notes,
         names,
-        &mut steps,
-        &mut tests,
-        &mut edges,
-        &mut operands,
+        &mut lists.steps,
+        &mut lists.tests,
+        &mut lists.edges,
+        &mut lists.operands,
     );
-    Alternatives {
-        count: lengths.alternatives,
-        step_count: lengths.steps,
-        test_count: lengths.tests,
-        steps,
-        tests,
-        edges,
-        operands,
-    }
+    lists
 }

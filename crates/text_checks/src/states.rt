@@ -21,21 +21,20 @@ pub fn code_at(text: &[u8], start: usize, end: usize) -> u8
     code_of(text[start])
 }
 
-// The states of the first k names, on the line at p; done, k.
+// The states of the first k names, on the line at p; done, k. Each word is found from where the last one starts.
 pub fn check_states(text: &[u8], p: usize, k: usize) -> Result<usize, Refusal>
     requires { LineIn text.now p k }
     ensures { Comes (states_order (from text.now p).first k) (λ m. m ≡ k) result }
 {
+    let mut word = find_word(text, p, 1);
     for i in 0..k {
-        let s = find_word(text, p, i + 1);
-        let start = s.start;
-        let end = s.end;
-        if end <= start {
-            return refuse(14, start);
+        if word.end <= word.start {
+            return refuse(14, word.start);
         }
-        if 7 < code_at(text, start, end) {
-            return refuse(15, start);
+        if 7 < code_at(text, word.start, word.end) {
+            return refuse(15, word.start);
         }
+        word = find_word(text, word.start, 1);
     }
     Ok(k)
 }

@@ -87,27 +87,18 @@ was_written {names} {tree} {sort} {k = k} w =
       short = rw front (not_long (length (text_at names tree)) p.1.1.1.0);
     }
 
--- what is read is a tree: these bytes, and zeros behind them
-pub record ReadAs (tree : List ℕ) (r : Read) : Type 0 where
+-- a reading is no refusal, and what is read is a tree: these bytes, and zeros behind them
+pub record ReadAs (tree : List ℕ) (r : Result Read Refusal) : Type 0 where
   pub it : Expression
-  pub is_it : r ≡ made it
+  pub is_it : r ≡ Ok (made it)
   pub bytes : bytes_of it ≡ tree
-  pub size : r.len ≡ length tree
-  pub all : r.tree ≡ padded tree
+  pub size : (made it).len ≡ length tree
+  pub all : (made it).tree ≡ padded tree
 
-made_as : {tree : List ℕ} {r : Read} (x : Expression) → r ≡ made x → bytes_of x ≡ tree → ReadAs tree r
+made_as : {tree : List ℕ} {r : Result Read Refusal} (x : Expression) → r ≡ Ok (made x) → bytes_of x ≡ tree
+    → ReadAs tree r
 unfolding made
-made_as x e b =
-    record {
-      it = x;
-      is_it = e;
-      bytes = b;
-      size = ap (λ (s : Read). s.len) e ∙ ap length b;
-      all = ap (λ (s : Read). s.tree) e ∙ ap padded b;
-    }
-
-made_is : {r s : Read} → ◌≡◌ {A = Result Read Refusal} (Ok r) (Ok s) → r ≡ s
-made_is e = cc
+made_as x e b = record { it = x; is_it = e; bytes = b; size = ap length b; all = ap padded b }
 
 pub written_read : {ρ : Rules} {names tree : List ℕ} {sort : Sort} {out out' : List ℕ} {k : ℕ}
     → Accepted ρ (names_in names) sort tree → Writes names tree sort out out' (Ok k)
@@ -116,24 +107,24 @@ written_read a w =
     let g = was_written w in
     rw g.is (gives_read g.named.passed (rw g.is at g.short) (written_gives g.named a))
 
-pub read_write : {ρ : Rules} {names tree : List ℕ} {sort : Sort} {out out' : List ℕ} {k : ℕ} {r : Read}
+pub read_write : {ρ : Rules} {names tree : List ℕ} {sort : Sort} {out out' : List ℕ} {k : ℕ}
+    {r : Result Read Refusal}
     → Accepted ρ (names_in names) sort tree → Writes names tree sort out out' (Ok k)
-    → ReadsText ρ names (take k out') sort (Ok r) → ReadAs tree r
+    → ReadsText ρ names (take k out') sort r → ReadAs tree r
 read_write {names = names} {tree = tree} a w v =
-    made_as (expression_at tree (names_in names) (length tree)) (made_is (read_unique v (written_read a w)))
-    (accepted_bytes a)
+    made_as (expression_at tree (names_in names) (length tree)) (read_unique v (written_read a w)) (accepted_bytes a)
 
-pub read_write_plain : {names tree : List ℕ} {sort : Sort} {out out' : List ℕ} {k : ℕ} {r : Read}
-    → Writes names tree sort out out' (Ok k) → ReadsText old_rules_lem names (take k out') sort (Ok r) → ReadAs tree r
+pub read_write_plain : {names tree : List ℕ} {sort : Sort} {out out' : List ℕ} {k : ℕ} {r : Result Read Refusal}
+    → Writes names tree sort out out' (Ok k) → ReadsText old_rules_lem names (take k out') sort r → ReadAs tree r
 read_write_plain w v = read_write (was_written w).accepted w v
 
 pub read_back : {ρ : Rules} {names tree : List ℕ} {sort : Sort} {out out' : List ℕ} {k : ℕ} {r : Read}
     → Writes names tree sort out out' (Ok k) → ReadsText ρ names (take k out') sort (Ok r)
-    → ReadAs tree r
+    → ReadAs tree (Ok r)
 read_back w v =
     let g = was_written w in
     let s = read_sound v in
-    made_as s.it s.is_it
+    made_as s.it (ap Ok s.is_it)
     (ap bytes_of (gives_unique (gives_written s.gives) (rw g.is (written_gives g.named g.accepted)))
     ∙ accepted_bytes g.accepted)
 
@@ -150,16 +141,17 @@ tree_of_lem : (x : Expression) → take (made x).len (made x).tree ≡ bytes_of 
 unfolding made
 tree_of_lem x = front_take (replicate 256 0) (bytes_of x) (length (bytes_of x)) refl
 
-pub read_again : {ρ : Rules} {names bytes : List ℕ} {sort : Sort} {q r : Read} {out out' : List ℕ} {k : ℕ}
+pub read_again : {ρ : Rules} {names bytes : List ℕ} {sort : Sort} {q : Read} {r : Result Read Refusal}
+    {out out' : List ℕ} {k : ℕ}
     → ReadsText ρ names bytes sort (Ok q)
-    → Writes names (take q.len q.tree) sort out out' (Ok k) → ReadsText ρ names (take k out') sort (Ok r)
-    → r ≡ q
+    → Writes names (take q.len q.tree) sort out out' (Ok k) → ReadsText ρ names (take k out') sort r
+    → r ≡ Ok q
 read_again {q = q} u w v =
     let s = read_sound u in
     let front = ap (λ (z : Read). take z.len z.tree) s.is_it ∙ tree_of_lem s.it in
     let a = read_write (rw front (gives_accepted s.good s.gives)) w v in
     let b = a.bytes ∙ front in
-    a.is_it ∙ made_same a.it s.it b ∙ sym s.is_it
+    a.is_it ∙ ap Ok (made_same a.it s.it b ∙ sym s.is_it)
 
 -- within the limit of 4,096 bytes, and past it
 module _ {ρ : Rules} {names tree : List ℕ} {sort : Sort} {out out' : List ℕ} {r : Outcome} (h : Named names)

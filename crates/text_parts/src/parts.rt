@@ -17,11 +17,18 @@ pub fn part(text: &[u8], k: usize, byte: u8) -> &[u8] {
     text.split(|b| *b == byte).nth(k).unwrap_or(b"")
 }
 
+// Where part k starts, counted from 0; the length where there is none.
+pub fn start_of(text: &[u8], k: usize, byte: u8) -> usize
+    ensures { result ≤ length text.now }
+{
+    let rest = text.splitn(k.saturating_add(1), |b| *b == byte).nth(k);
+    text.len()
+        .saturating_sub(rest.map_or(0, |parts| parts.len()))
+}
+
 // The text from part k on; no bytes where there is none.
 pub fn parts_from(text: &[u8], k: usize, byte: u8) -> &[u8] {
-    text.splitn(k.saturating_add(1), |b| *b == byte)
-        .nth(k)
-        .unwrap_or(b"")
+    &text[start_of(text, k, byte)..]
 }
 
 // The first n entries, or all: a list that is too short is refused by what takes it.

@@ -52,14 +52,9 @@ pub fn half_of(b: u8) -> Option<u8>
 }
 
 // Which of `? 0 1`, two of which make an edge as they stand; `None` where it is none of them.
-#[tactic(auto, unfolding(crate::specs::Classes::plain_found, crate::specs::Classes::half_of, alf::specs::States::among))]
+#[tactic(auto, unfolding(crate::specs::Classes::plain_found, crate::specs::Classes::half_found))]
 pub fn plain_half(b: u8) -> Option<u8>
     ensures { result ≡ plain_found b }
 {
-    match b {
-        b'?' => Some(0),
-        b'0' => Some(1),
-        b'1' => Some(2),
-        _ => None,
-    }
+    half_of(b).filter(|half| *half < 3)
 }

@@ -83,12 +83,15 @@ pub fn read_tokens(text: &[u8]) -> Result<Tokens, Refusal>
     if 4096 < text.len() {
         return Err(refusal_of(1, 4096));
     }
-    let tokens = scan(text)?;
-    if let Some(deep) = first_over(&tokens.codes, tokens.count, true, 32) {
-        return Err(refusal_of(3, tokens.places[deep] as usize));
+    let scanned = scan(text);
+    // The tokens are looked at where they are: `?` would copy their 12 KB.
+    if let Ok(tokens) = &scanned {
+        if let Some(deep) = first_over(&tokens.codes, tokens.count, true, 32) {
+            return Err(refusal_of(3, tokens.places[deep] as usize));
+        }
+        if let Some(many) = first_over(&tokens.codes, tokens.count, false, 256) {
+            return Err(refusal_of(4, tokens.places[many] as usize));
+        }
     }
-    if let Some(many) = first_over(&tokens.codes, tokens.count, false, 256) {
-        return Err(refusal_of(4, tokens.places[many] as usize));
-    }
-    Ok(tokens)
+    scanned
 }

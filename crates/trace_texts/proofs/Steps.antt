@@ -2,6 +2,8 @@
 --   step                                       the lines from a byte on, by the lines behind it
 --   blank_step, end-step                       a blank, LF
 --   FirstFrom, first_from                      the first byte from a place on that passes, found from that place on
+--   Yet, yet_first, yet_next                   no byte from a place on passes yet
+--   found_here, found_nowhere                  so the next one is the first, or none is
 --   skips, runs                                blanks are passed, bytes of a word are passed
 use Prim.Native.Nat.{ℕ, zero, suc, ◌+◌, ◌-◌, ◌<◌, ◌≤◌}
 use native.Mathlib.Omega.{arith}
@@ -9,11 +11,12 @@ use native.Mathlib.Numerals.{add-one}
 use mathlib.Core.Path.{◌≡◌, refl, sym, ap, subst, ◌∙◌}
 use mathlib.Core.Bool.{true, false}
 use mathlib.Core.List.{List}
+use mathlib.Core.Logic.{◌⊎◌, inl, inr}
 use lib.Dec.{eqb}
 use lib.ListN.{length, get_or, drop, length-drop}
 use lib.Seq.{drop-cons, get_or-drop}
 use borrow.Author.Tests.{ne_eqb}
-use Rattle.basics.proofs.Bools.{never}
+use Rattle.basics.proofs.Bools.{never, below?}
 use Rattle.basics.proofs.Walked.{FirstPlace}
 use Rattle.trace_texts.specs.Words.{is_blank_lem, before, lines_from}
 use Rattle.trace_texts.specs.Finding.{is_solid_lem, from, Skips, Runs}
@@ -51,6 +54,36 @@ first_from Yes No text p r h f =
           (subst No (get_or-drop p text (j - p) 0) (f.before (j - p) (omega arith)));
       there = λ l. subst Yes (get_or-drop p text r 0) (f.there (omega (arith, l, length-drop p text)));
     }
+
+-- from p on no byte before i passes
+pub record Yet (No : ℕ → Type 0) (text : List ℕ) (p i : ℕ) : Type 0 where
+  pub low : p ≤ i
+  pub within : i ≤ length text
+  pub before : (j : ℕ) → p ≤ j → j < i → No (get_or text j 0)
+
+pub yet_first : {No : ℕ → Type 0} {text : List ℕ} {p : ℕ} → p ≤ length text → Yet No text p p
+yet_first h = record { low = omega arith; within = h; before = λ j l m. absurd (omega arith) }
+
+module _ {No : ℕ → Type 0} {text : List ℕ} {p i : ℕ} (g : Yet No text p i) where
+  pub yet_next : i < length text → No (get_or text i 0) → Yet No text p (i + 1)
+  yet_next h n =
+      record { low = omega (arith, g.low); within = omega arith; before = λ j l m. go j l m (below? j i) }
+    where
+      go : (j : ℕ) → p ≤ j → j < i + 1 → (j < i) ⊎ (i ≤ j) → No (get_or text j 0)
+      go j l m (inl k) = g.before j l k
+      go j l m (inr k) = let q : i ≡ j = omega arith in subst (λ (k : ℕ). No (get_or text k 0)) q n
+
+  pub found_here : (Yes : ℕ → Type 0) → Yes (get_or text i 0) → FirstFrom Yes No text p i
+  found_here Yes y = record { low = g.low; within = g.within; before = g.before; there = λ l. y }
+
+  pub found_nowhere : (Yes : ℕ → Type 0) → length text ≤ i → FirstFrom Yes No text p (length text)
+  found_nowhere Yes h =
+      record {
+        low = omega (arith, g.low, g.within);
+        within = omega arith;
+        before = λ j l m. g.before j l (omega arith);
+        there = λ l. absurd (omega arith);
+      }
 
 -- blanks are passed
 pub skips : (text : List ℕ) (p r : ℕ)

@@ -9,10 +9,12 @@ pub fn behind_line(text: &[u8], p: usize) -> usize
     requires { p ≤ length text.now }
     ensures { Passes text.now p result }
 {
-    match text[p..].iter().position(|b| *b == b'\n') {
-        Some(n) => p + n + 1,
-        None => text.len(),
+    for i in p..text.len() {
+        if text[i] == b'\n' {
+            return i + 1;
+        }
     }
+    text.len()
 }
 
 // Whether a line whose first byte behind blanks this is says something.

@@ -24,10 +24,12 @@ pub fn skip_blanks(text: &[u8], p: usize) -> usize
     requires { p ≤ length text.now }
     ensures { Skips text.now p result }
 {
-    p + text[p..]
-        .iter()
-        .position(|b| !is_blank(*b))
-        .unwrap_or(text.len() - p)
+    for i in p..text.len() {
+        if !is_blank(text[i]) {
+            return i;
+        }
+    }
+    text.len()
 }
 
 // The first place from p on where no byte of a word stands.
@@ -35,10 +37,12 @@ pub fn skip_word(text: &[u8], p: usize) -> usize
     requires { p ≤ length text.now }
     ensures { Runs text.now p result }
 {
-    p + text[p..]
-        .iter()
-        .position(|b| !is_solid(*b))
-        .unwrap_or(text.len() - p)
+    for i in p..text.len() {
+        if !is_solid(text[i]) {
+            return i;
+        }
+    }
+    text.len()
 }
 
 // A word: where it starts, and where it ends.

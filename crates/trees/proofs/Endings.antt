@@ -1,6 +1,6 @@
 -- The kind of what a byte makes, from its operands' kinds, and where it starts.
 -- Main names: none, leaf_found, one_found, pair_found, three_found; no_right, no_left, no_first, where an operand is
--- missing; ending_is, ending_from, ending_none.
+-- missing; ending_is, ending_from, ending_none; ending_unique.
 use Rattle.std.specs.Prelude.{Option, Some, None, if◌then◌else◌}
 use Prim.Native.Nat.{ℕ, ◌-◌, ◌<◌, ◌≤◌}
 use native.Mathlib.Omega.{arith}
@@ -22,7 +22,7 @@ use Rattle.trees.specs.declared.sorts.Part.{Part}
 use Rattle.trees.specs.Sorts.{kind_of, boolean_sort, vector_sort, given, leaf_kind, one_kind, pair_kind}
 use Rattle.trees.specs.Sorts.{three_kind, Ending, nothing, part}
 use Rattle.trees.proofs.Operands.{arity_some, arity_more}
-use Rattle.trees.proofs.Starts.{Going, going_first, going_on, going_part, going_done, whole_at}
+use Rattle.trees.proofs.Starts.{Going, going_first, going_on, going_part, going_done, whole_at, start_unique}
 
 -- the sort of what is on top, as the decoder's tests have it
 boolean_top : (s : Stack) (k : Sort) → Some k ≡ kind_of s → is_boolean s ≡ boolean_sort k
@@ -135,6 +135,21 @@ ending_from (part k s) = s
 
 pub ending_none : {t : List ℕ} {names end : ℕ} → Ending t names end None → kind_of (stack_at t names end) ≡ None
 ending_none (nothing k) = k
+
+never_some : {k : Sort} → Some k ≡ None → ⊥
+never_some e = cc
+
+same_part : {k k' : Sort} {m m' : ℕ} → Some k ≡ Some k' → m ≡ m'
+    → ◌≡◌ {A = Option Part} (Some (record { sort = k; start = m })) (Some (record { sort = k'; start = m' }))
+same_part e d = cc
+
+-- what the bytes before a place end with is one part, or none
+pub ending_unique : {t : List ℕ} {names end : ℕ} {p q : Option Part} → Ending t names end p → Ending t names end q
+    → p ≡ q
+ending_unique (nothing e) (nothing d) = refl
+ending_unique (nothing e) (part d s) = absurd (never_some (d ∙ e))
+ending_unique (part e s) (nothing d) = absurd (never_some (e ∙ d))
+ending_unique (part e s) (part d u) = same_part (e ∙ sym d) (start_unique s u)
 
 -- an expression that a byte takes has a kind
 deep_at : (k n : ℕ) (s : Stack) → k < n → deep n s → kind_of (unders k s) ≡ None → ⊥

@@ -21,17 +21,13 @@ pub first_unknown-u-requires : goal.first_unknown-u-requires
 first_unknown-u-requires c = names_asked c.requires
 
 -- the number of an unknown name, and its place
-pub bounds-places-u : goal.bounds-places-u
-bounds-places-u c =
+pub bounds-t-u : goal.bounds-t-u
+bounds-t-u c =
     omega (arith, count_small c.requires, c.if-u-count.true)
 
-pub offset_bounds-places-u : goal.offset_bounds-places-u
-offset_bounds-places-u c = let small = bounds-places-u c in omega arith
-
-pub overflow_cast-places : goal.overflow_cast-places
-overflow_cast-places c =
-    let k = c.requires in
-    omega (arith, (names_asked k).inside c.first_unknown-u.result c.if-u-count.true, short k)
+pub offset_bounds-t-u : goal.offset_bounds-t-u
+offset_bounds-t-u c =
+    omega (arith, count_small c.requires, c.if-u-count.true)
 
 pub refuse_token-requires-then-u-count : goal.refuse_token-requires-then-u-count
 refuse_token-requires-then-u-count c =
