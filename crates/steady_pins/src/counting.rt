@@ -7,8 +7,11 @@ pub fn pin_count(pins: &[u8; 8192], end: usize) -> usize
     ensures { PinNumber pins.now end result }
 {
     let base = (end - 1) * 32;
-    pins[base..base + 32]
-        .iter()
-        .filter(|pin| **pin != 0)
-        .count()
+    let mut n: usize = 0;
+    for pin in &pins[base..base + 32] {
+        if *pin != 0 {
+            n += 1;
+        }
+    }
+    n
 }

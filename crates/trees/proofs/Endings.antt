@@ -1,5 +1,5 @@
 -- The kind of what a byte makes, from its operands' kinds, and where it starts.
--- Main names: none, leaf_found, one_found, pair_found, three_found; no_right, no_left, no_first, where an operand is
+-- Main names: none, leaf_found, one_found, pair_found, three_found; one_made, pair_made, three_made; no_right, no_left, no_first, where an operand is
 -- missing; ending_is, ending_from, ending_none; ending_unique.
 use Rattle.std.specs.Prelude.{Option, Some, None, if◌then◌else◌}
 use Prim.Native.Nat.{ℕ, ◌-◌, ◌<◌, ◌≤◌}
@@ -20,7 +20,8 @@ use Rattle.alf.specs.declared.Sort.{Sort}
 use Rattle.alf.specs.declared.Sort.TheVariants as sort
 use Rattle.trees.specs.declared.sorts.Part.{Part}
 use Rattle.trees.specs.Sorts.{kind_of, boolean_sort, vector_sort, given, leaf_kind, one_kind, pair_kind}
-use Rattle.trees.specs.Sorts.{three_kind, Ending, nothing, part}
+use Rattle.trees.specs.Sorts.{three_kind, made, Ending, nothing, part}
+use Rattle.trees.proofs.MadeSorts.{one_sort, pair_sort, three_sort}
 use Rattle.trees.proofs.Operands.{arity_some, arity_more}
 use Rattle.trees.proofs.Starts.{Going, going_first, going_on, going_part, going_done, whole_at, start_unique}
 
@@ -193,6 +194,10 @@ module _ (t : List ℕ) (names end : ℕ) (p : 0 < end) (u : end ≤ length t) w
         ended v r.start (rw (last t names end p, one_class names _ k, one_kind_lem _ _ r.sort (ending_is a)) e)
         (λ g. going_done (going_part t names end _ 0 r.start (rw (arity_one _ k) at g) (ending_from a)) (omega arith))
 
+    pub one_made : {k : Sort} → 64 ≤ get_or t (end - 1) 0 → Some k ≡ one_kind (get_or t (end - 1) 0) r.sort
+        → Ending t names end (made (get_or t (end - 1) 0) (Some r.start))
+    one_made {k} h e = rw (one_sort _ r.sort h e) at (one_found h e)
+
     pub no_left : Ending t names r.start None → 40 ≤ get_or t (end - 1) 0 → get_or t (end - 1) 0 < 64
         → Ending t names end None
     unfolding unders
@@ -211,6 +216,11 @@ module _ (t : List ℕ) (names end : ℕ) (p : 0 < end) (u : end ≤ length t) w
           (λ g.
           let h = going_part t names end _ 1 r.start (rw (arity_two _ k j) at g) (ending_from a) in
           going_done (going_part t names end r.start 0 l.start h (ending_from c)) (omega arith))
+
+      pub pair_made : {k : Sort} → 40 ≤ get_or t (end - 1) 0 → get_or t (end - 1) 0 < 60
+          → Some k ≡ pair_kind (get_or t (end - 1) 0) l.sort r.sort
+          → Ending t names end (made (get_or t (end - 1) 0) (Some l.start))
+      pair_made {k} h j e = rw (pair_sort _ l.sort r.sort e) at (pair_found h j e)
 
       second_is : kind_of (under (under (stack_at t names (end - 1)))) ≡ kind_of (stack_at t names l.start)
       second_is = ap kind_of (sym ((ending_from c).left ∙ ap under (ending_from a).left))
@@ -237,3 +247,9 @@ module _ (t : List ℕ) (names end : ℕ) (p : 0 < end) (u : end ≤ length t) w
           let h = going_part t names end _ 2 r.start (rw (arity_three _ k j) at g) (ending_from a) in
           let i = going_part t names end r.start 1 l.start h (ending_from c) in
           going_done (going_part t names end l.start 0 f.start i (ending_from y)) (omega arith))
+
+      pub three_made : {f : Part} {k : Sort} → Ending t names l.start (Some f)
+          → 60 ≤ get_or t (end - 1) 0 → get_or t (end - 1) 0 < 64
+          → Some k ≡ three_kind (get_or t (end - 1) 0) f.sort l.sort r.sort
+          → Ending t names end (made (get_or t (end - 1) 0) (Some f.start))
+      three_made {f} {k} y h j e = rw (three_sort _ f.sort l.sort r.sort e) at (three_found y h j e)

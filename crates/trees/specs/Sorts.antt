@@ -3,9 +3,11 @@
 --   kind_of, whole_kind, tree_kind          the kind of what is on top of a stack, of a whole stack, of a tree
 --   boolean_sort, vector_sort, given        tests of a sort; a kind by a test
 --   leaf_kind, one_kind, pair_kind, three_kind   the kind that a byte makes of its operands' sorts
+--   made_sort, made, Operator             what an operator makes
 --   Ending                                what the bytes before a place end with, and where that starts
 --   Holds                                which expressions something holds of, by the kind
-use Rattle.std.specs.Prelude.{ℕ, ◌≡◌, Bool, true, false, ◌&&◌, Option, Some, None, List, eqb, ltb, length, if◌then◌else◌}
+use Rattle.std.specs.Prelude.{ℕ, ◌-◌, ◌≡◌, ◌<◌, ◌≤◌, Bool, true, false, ◌&&◌, Option, Some, None, List, eqb, ltb, length}
+use Rattle.std.specs.Prelude.{get_or, if◌then◌else◌}
 use Rattle.alf.specs.declared.Sort.{Sort}
 use Rattle.alf.specs.declared.Sort.TheVariants as sort
 use Rattle.alf.specs.Expressions.{Expression, boolean, vector}
@@ -55,6 +57,23 @@ pair_kind b left right =
 unfoldable pub three_kind : ℕ → Sort → Sort → Sort → Option Sort
 three_kind b first left right =
     if eqb b 60 then given (boolean_sort right && (boolean_sort left && boolean_sort first)) sort.Boolean else None
+
+-- an operator makes one sort, whatever its operands are: joins and edges make vectors
+unfoldable pub made_sort : ℕ → Sort
+made_sort b =
+    if ltb b 50 then sort.Boolean
+    else if eqb b 60 then sort.Boolean else if eqb b 147 then sort.Boolean else sort.Vector
+
+-- what an operator makes, from where it starts
+abbrev pub made : ℕ → Option ℕ → Option Part
+made b None = None
+made b (Some start) = Some (record { sort = made_sort b; start = start })
+
+-- the last byte before `end` is an operator
+pub record Operator (tree : List ℕ) (end : ℕ) : Type 0 where
+  pub some : 0 < end
+  pub within : end ≤ length tree
+  pub takes : 40 ≤ get_or tree (end - 1) 0
 
 -- what the bytes before `end` end with, and where it starts
 pub data Ending (tree : List ℕ) (names end : ℕ) : Option Part → Type 0 where

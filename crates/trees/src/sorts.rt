@@ -1,6 +1,7 @@
 // What a tree is: a boolean expression, a vector expression, or neither.
-ghost use Rattle.std.specs.Prelude.{◌≡◌, ◌≤◌, length};
-ghost use Rattle.trees.specs.Sorts.{leaf_kind, one_kind, pair_kind, three_kind, Ending, tree_kind};
+ghost use Rattle.std.specs.Prelude.{◌≡◌, ◌-◌, ◌≤◌, length, get_or};
+ghost use Rattle.trees.specs.Sorts.{leaf_kind, one_kind, pair_kind, three_kind, made_sort, made};
+ghost use Rattle.trees.specs.Sorts.{Operator, Ending, tree_kind};
 
 use alf::Sort;
 
@@ -55,7 +56,21 @@ fn three_kind(b: u8, first: Sort, left: Sort, right: Sort) -> Option<Sort>
     }
 }
 
-// What the bytes before `end` end with; nothing where that is no expression.
+// The sort of an expression with an operator as its last byte.
+#[tactic(auto, unfolding(crate::specs::Sorts::made_sort))]
+fn made_sort(b: u8) -> Sort
+    ensures { result ≡ made_sort b }
+{
+    if b < 50 || b == 60 || b == 147 {
+        return Sort::Boolean;
+    }
+    Sort::Vector
+}
+
+// What the bytes before `end` end with; nothing where that is no expression. A leaf is looked at without a call, and
+// where an expression starts fits a register, which a part does not.
+#[cycle(part)]
+#[inline(always)]
 pub fn part_of(tree: &[u8], end: usize, names: usize) -> Option<Part>
     requires { end ≤ length tree.now }
     ensures { Ending tree.now names end result }
@@ -69,28 +84,34 @@ pub fn part_of(tree: &[u8], end: usize, names: usize) -> Option<Part>
         let sort = leaf_kind(b, names)?;
         return Some(Part { sort, start: at });
     }
+    let start = start_of_made(tree, end, names)?;
+    Some(Part {
+        sort: made_sort(b),
+        start,
+    })
+}
+
+// Where the expression starts that the bytes before `end` end with; the last of them is an operator.
+#[cycle(part)]
+fn start_of_made(tree: &[u8], end: usize, names: usize) -> Option<usize>
+    requires { Operator tree.now end }
+    ensures { Ending tree.now names end (made (get_or tree.now (end - 1) 0) result) }
+{
+    let at = end - 1;
+    let b = tree[at];
     let right = part_of(tree, at, names)?;
     if 64 <= b {
-        let sort = one_kind(b, right.sort)?;
-        return Some(Part {
-            sort,
-            start: right.start,
-        });
+        one_kind(b, right.sort)?;
+        return Some(right.start);
     }
     let left = part_of(tree, right.start, names)?;
     if b < 60 {
-        let sort = pair_kind(b, left.sort, right.sort)?;
-        return Some(Part {
-            sort,
-            start: left.start,
-        });
+        pair_kind(b, left.sort, right.sort)?;
+        return Some(left.start);
     }
     let first = part_of(tree, left.start, names)?;
-    let sort = three_kind(b, first.sort, left.sort, right.sort)?;
-    Some(Part {
-        sort,
-        start: first.start,
-    })
+    three_kind(b, first.sort, left.sort, right.sort)?;
+    Some(first.start)
 }
 
 // What a tree is over a number of names; none where it is neither.
