@@ -11,7 +11,7 @@
    until 1.0 times were 32 bits wide, so a program that lends lists of times has to be changed and compiled again.
 
    A call takes less than 256 KB of stack. The proofs say nothing of that: tests/stack measures each call on the inputs
-   that recurse deepest (145,904 bytes at most, for a listing, which holds an answer for each row) and reckons from the
+   that recurse deepest (145,888 bytes at most, for a listing, which holds an answer for each row) and reckons from the
    object code how much any input can take (184,896 bytes at most). Nothing is allocated and nothing is kept. */
 #ifndef DACHSMOND_H
 #define DACHSMOND_H
